@@ -1,5 +1,5 @@
 -- How many events are owed, before and after each step.
-use Rattle.std.proofs.Common.{◌≡◌, ◌≤◌, ◌+◌, [], ◌∷◌, ℕ, suc, Bool, false, List, Some, None, length, drop, slice_get, ap, arith, length-append, if◌then◌else◌}
+use Rattle.std.proofs.Common.{◌≡◌, ◌≤◌, ◌+◌, [], ◌∷◌, suc, false, List, Some, None, length, drop, slice_get, arith, length-append}
 use Rattle.resil_rule.specs.RuleView.{RuleView, owed, with_submission, with_pick, with_take, with_finish, with_close, with_idle_end, MayEndIdle}
 use Rattle.resil_rule.specs.declared.event.Id.{Id}
 use Rattle.resil_rule.specs.declared.event.Reply.{Reply}
@@ -21,30 +21,16 @@ submission-owes v id work r = omega arith
 
 module _ {W : Type 0} (v after : RuleView W) where
   pub pick-owes : (slot : Slot) (work : W) → slice_get v.out slot.place ≡ Some None → slice_get v.unpicked 0 ≡ Some (slot.id, work) → after ≡ with_pick v slot → owed after ≡ owed v
-  pick-owes slot work free front same =
-      let e : owed after ≡ owed (with_pick v slot) = ap owed same in
-      let more = put-length slot.id v.out slot.place free in
-      let fewer = dropped v.unpicked (slot.id, work) front in
-      omega (arith, e, more, fewer)
+  pick-owes slot work free front same = rw same (omega (arith, put-length slot.id v.out slot.place free, dropped v.unpicked (slot.id, work) front))
 
   pub take-owes : (slot : Slot) (work : W) → slice_get v.out slot.place ≡ Some None → slice_get v.waiting 0 ≡ Some (slot.id, work) → after ≡ with_take v slot → suc (owed after) ≡ owed v
-  take-owes slot work free front same =
-      let e : owed after ≡ owed (with_take v slot) = ap owed same in
-      let more = put-length slot.id v.out slot.place free in
-      let fewer = dropped v.waiting (slot.id, work) front in
-      omega (arith, e, more, fewer)
+  take-owes slot work free front same = rw same (omega (arith, put-length slot.id v.out slot.place free, dropped v.waiting (slot.id, work) front))
 
   pub finish-owes : (slot : Slot) → slice_get v.out slot.place ≡ Some (Some slot.id) → after ≡ with_finish v slot → suc (owed after) ≡ owed v
-  finish-owes slot there same =
-      let e : owed after ≡ owed (with_finish v slot) = ap owed same in
-      let fewer = clear-length slot.id v.out slot.place there in
-      omega (arith, e, fewer)
+  finish-owes slot there same = rw same (omega (arith, clear-length slot.id v.out slot.place there))
 
   pub idle-owes : MayEndIdle v → after ≡ with_idle_end v → suc (owed after) ≡ owed v
-  idle-owes may same = let e : owed after ≡ owed (with_idle_end v) = ap owed same in let some = may.1 in omega (arith, e, some)
+  idle-owes may same = rw same (omega (arith, may.1))
 
   pub close-owes : v.closed ≡ false → after ≡ with_close v → suc (owed after) ≡ owed v
-  close-owes still same =
-      let e : owed after ≡ owed (with_close v) = ap owed same in
-      let one : ◌≡◌ {A = ℕ} (if v.closed then 0 else 1) 1 = ap {B = ℕ} (λ (b : Bool). if b then 0 else 1) still in
-      omega (arith, e, one)
+  close-owes still same = rw (same, still) (omega arith)

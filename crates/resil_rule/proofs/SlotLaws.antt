@@ -1,14 +1,12 @@
 -- A job gets a place, and leaves it.
-use Rattle.std.proofs.Common.{◌≡◌, ◌<◌, ◌≤◌, ◌+◌, ◌∷◌, [], ◌++◌, ◌∙◌, ◌==◌, ℕ, zero, suc, Bool, true, false, cond, List, Option, Some, None, length, position, replicate, get_or, slice_get, slice_set, refl, sym, ap, arith, length-append}
-use Rattle.std.proofs.lemmas.Grind.{common_steps}
-use Rattle.std.specs.List.{list_any, position_from}
+use Rattle.std.proofs.Common.{◌≡◌, ◌≢◌, ◌<◌, ◌≤◌, ◌+◌, ◌∷◌, [], ◌++◌, ◌∙◌, ℕ, zero, suc, Bool, true, false, cond, List, Option, Some, None, length, position, replicate, get_or, slice_get, slice_set, refl, sym, ap, arith, length-append}
+use Rattle.std.specs.List.{position_from}
 use Rattle.std.proofs.lemmas.List.Quantifiers.{position-Some}
 use Rattle.std.proofs.lemmas.List.{length-replicate, get_or-replicate}
-use Rattle.std.proofs.lemmas.List.Folds.{list_any-append}
 use Rattle.std.proofs.lemmas.Option.{slice_get-get_or}
 use Rattle.std.proofs.lemmas.Iterator.Adapters.{position_from-zero}
 use Rattle.resil_rule.specs.History.{is_same_id, is_among, times}
-use Rattle.resil_rule.specs.Slots.{ids_out, is_of, places_to, AreFree}
+use Rattle.resil_rule.specs.Slots.{ids_out, is_of, places_to, IsNoneOf, AreFree}
 use Rattle.resil_rule.specs.declared.event.Id.{Id}
 use Rattle.resil_rule.proofs.IdLaws.{same_id-equal, same_id-self}
 use Rattle.resil_rule.proofs.TimesLaws.{times-last, times-append}
@@ -75,53 +73,31 @@ pub nowhere-out : (id : Id) (places : List (Option Id)) → position (is_of id) 
 nowhere-out id places h = nowhere-from id places 0 (sym (position_from-zero (is_of id) places) ∙ h)
 
 -- each other place than one that was written
-set-other : (places : List (Option Id)) (i j : ℕ) (o : Option Id) → (j == i) ≡ false → slice_get (slice_set places i o) j ≡ slice_get places j
+set-other : (places : List (Option Id)) (i j : ℕ) (o : Option Id) → j ≢ i → slice_get (slice_set places i o) j ≡ slice_get places j
 set-other [] i j o other = refl
-set-other (x ∷ places) zero zero o other = absurd (cc other)
+set-other (x ∷ places) zero zero o other = absurd (other refl)
 set-other (x ∷ places) zero (suc j) o other = refl
 set-other (x ∷ places) (suc i) zero o other = refl
-set-other (x ∷ places) (suc i) (suc j) o other = set-other places i j o (grind (arith, common_steps, other))
-
--- the numbers of two places, either way round
-turned : (i j : ℕ) → (i == j) ≡ false → (j == i) ≡ false
-turned i j other = grind (arith, common_steps, other)
+set-other (x ∷ places) (suc i) (suc j) o other = set-other places i j o (λ same. other (ap suc same))
 
 -- places that are free stay free while another one changes
-pub kept-free : (free : List ℕ) (places : List (Option Id)) (i : ℕ) (o : Option Id) → list_any (λ other. i == other) free ≡ false → AreFree free places → AreFree free (slice_set places i o)
+pub kept-free : (free : List ℕ) (places : List (Option Id)) (i : ℕ) (o : Option Id) → IsNoneOf i free → AreFree free places → AreFree free (slice_set places i o)
 kept-free [] places i o none all = tt
-kept-free (j ∷ free) places i o none all = go (λ rest. kept-free free places i o rest all.2) (i == j) refl
-  where
-    go : (list_any (λ other. i == other) free ≡ false → AreFree free (slice_set places i o)) → (b : Bool) → (i == j) ≡ b → AreFree (j ∷ free) (slice_set places i o)
-    go later true same = absurd (cc (rw same at none))
-    go later false other =
-        let rest : list_any (λ other. i == other) free ≡ false = rw other at none in
-        (set-other places i j o (turned i j other) ∙ all.0, all.1, later rest)
+kept-free (j ∷ free) places i o none all = (set-other places i j o none.0 ∙ all.0, all.1, kept-free free places i o none.1 all.2)
 
 -- a place with a job is none of those that are free
-taken-none : (free : List ℕ) (places : List (Option Id)) (i : ℕ) (id : Id) → slice_get places i ≡ Some (Some id) → AreFree free places → list_any (λ other. i == other) free ≡ false
-taken-none [] places i id there all = refl
-taken-none (j ∷ free) places i id there all = go (taken-none free places i id there all.2) (i == j) refl
-  where
-    equal : (i == j) ≡ true → i ≡ j
-    equal h = grind (arith, common_steps, h)
-
-    go : list_any (λ other. i == other) free ≡ false → (b : Bool) → (i == j) ≡ b → list_any (λ other. i == other) (j ∷ free) ≡ false
-    go rest true same =
-        let moved : slice_get places i ≡ slice_get places j = ap (slice_get places) (equal same) in
-        absurd (cc (sym there ∙ moved ∙ all.0))
-    go rest false other = rw (other, rest) refl
+taken-none : (free : List ℕ) (places : List (Option Id)) (i : ℕ) (id : Id) → slice_get places i ≡ Some (Some id) → AreFree free places → IsNoneOf i free
+taken-none [] places i id there all = tt
+taken-none (j ∷ free) places i id there all = ((λ same. let moved = ap (slice_get places) same in cc (there, moved, all.0)), taken-none free places i id there all.2)
 
 -- one more place at the end
-any-last : (p : ℕ → Bool) (free : List ℕ) (i : ℕ) → list_any p free ≡ false → p i ≡ false → list_any p (free ++ i ∷ []) ≡ false
-any-last p free i none other = list_any-append p free (i ∷ []) ∙ rw (none, other) refl
+none_of-last : (free : List ℕ) (i j : ℕ) → IsNoneOf j free → i ≢ j → IsNoneOf j (free ++ i ∷ [])
+none_of-last [] i j none other = (other, tt)
+none_of-last (k ∷ free) i j none other = (none.0, none_of-last free i j none.1 other)
 
-free-last : (free : List ℕ) (places : List (Option Id)) (i : ℕ) → AreFree free places → slice_get places i ≡ Some None → list_any (λ other. i == other) free ≡ false → AreFree (free ++ i ∷ []) places
-free-last [] places i all is new = (is, refl, tt)
-free-last (j ∷ free) places i all is new = go (λ rest. free-last free places i all.2 is rest) (i == j) refl
-  where
-    go : (list_any (λ other. i == other) free ≡ false → AreFree (free ++ i ∷ []) places) → (b : Bool) → (i == j) ≡ b → AreFree (j ∷ free ++ i ∷ []) places
-    go later true same = absurd (cc (rw same at new))
-    go later false other = (all.0, any-last (λ k. j == k) free i all.1 (turned i j other), later (rw other at new))
+free-last : (free : List ℕ) (places : List (Option Id)) (i : ℕ) → AreFree free places → slice_get places i ≡ Some None → IsNoneOf i free → AreFree (free ++ i ∷ []) places
+free-last [] places i all is new = (is, tt, tt)
+free-last (j ∷ free) places i all is new = (all.0, none_of-last free i j all.1 (λ same. new.0 (sym same)), free-last free places i all.2 is new.1)
 
 -- a place is free again
 pub free-clear : (free : List ℕ) (places : List (Option Id)) (i : ℕ) (id : Id) → AreFree free places → slice_get places i ≡ Some (Some id) → AreFree (free ++ i ∷ []) (slice_set places i None)
@@ -130,12 +106,9 @@ free-clear free places i id all there =
     free-last free (slice_set places i None) i (kept-free free places i None new all) (cleared None places i (Some id) there).0 new
 
 -- at first all places are free
-all-below : (n i : ℕ) → n ≤ i → list_any (λ other. i == other) (places_to n) ≡ false
-all-below zero i above = refl
-all-below (suc n) i above = any-last (λ other. i == other) (places_to n) n (all-below n i (omega (arith, above))) (differ (omega (arith, above)))
-  where
-    differ : n < i → (i == n) ≡ false
-    differ less = grind (arith, common_steps, less)
+all-below : (n i : ℕ) → n ≤ i → IsNoneOf i (places_to n)
+all-below zero i above = tt
+all-below (suc n) i above = none_of-last (places_to n) n i (all-below n i (omega (arith, above))) (λ same. omega (arith, same, above))
 
 none-at : (count i : ℕ) → i < count → ◌≡◌ {A = Option (Option Id)} (slice_get (replicate count None) i) (Some None)
 none-at count i few = slice_get-get_or (replicate count None) i None (rw length-replicate few) ∙ ap Some (get_or-replicate count i None None few)

@@ -1,15 +1,16 @@
 -- The workers of a legal history, and the greatest size of the opening.
 use Rattle.std.specs.Prelude.{nat_lt, if◌then◌else◌}
-use Rattle.std.proofs.Common.{◌≡◌, ◌<◌, ◌≤◌, ◌+◌, ◌∷◌, [], ◌++◌, ◌∙◌, Bool, true, false, List, None, length, filter, refl, sym, ap, arith, length-append}
+use Rattle.std.proofs.Common.{◌≡◌, ◌≤◌, ◌+◌, ◌∷◌, [], ◌++◌, Bool, true, false, List, None, length, refl, arith}
 use Rattle.std.proofs.lemmas.Grind.{common_steps}
-use Rattle.std.proofs.lemmas.List.Elements.{filter_map-append, filter-append}
 use Rattle.resil_rule.specs.Limits.{Sizes}
+use Rattle.resil_rule.specs.declared.event.Id.{Id}
 use Rattle.resil_rule.specs.declared.event.Reply.{Reply}
 use Rattle.resil_rule.specs.declared.event.Reply.TheVariants.{Core, Queued, Extra, Full, Closed}
 use Rattle.resil_rule.specs.declared.event.Event.{Event}
 use Rattle.resil_rule.specs.declared.event.Event.TheVariants.{Submit, Resized}
-use Rattle.resil_rule.specs.History.{workers, waiting, started, started_id, is_idle_end, is_closed, new_core, new_max, core_size, max_size}
+use Rattle.resil_rule.specs.History.{workers, waiting, started, started_id, is_closed, new_core, new_max, core_size, max_size}
 use Rattle.resil_rule.specs.Admission.{IsAllowed, WorkersWithinOpening, reply_after}
+use Rattle.resil_rule.proofs.EventLaws.{count-more, ends-more}
 use Rattle.resil_rule.proofs.FreshLaws.{holds-legal}
 use Rattle.resil_rule.proofs.SizeLaws.{sizes-quiet, sizes-resized}
 
@@ -20,40 +21,25 @@ record AreWithin (limits : Sizes) (h : List Event) : Type 0 where
   max_small : max_size limits h ≤ limits.max
 
 -- one event changes the workers by one at most
-module _ (h : List Event) (e : Event) where
-  starts-push : length (started (h ++ e ∷ [])) ≡ length (started h) + length (started (e ∷ []))
-  starts-push = ap length (filter_map-append started_id h (e ∷ [])) ∙ length-append (started h) (started (e ∷ []))
+workers-push : (h : List Event) (e : Event) → workers (h ++ e ∷ []) ≤ workers h + length (started (e ∷ []))
+workers-push h e = let s = count-more started_id h e in let i = ends-more h e in omega (arith, s, i)
 
-  ends-push : length (filter is_idle_end (h ++ e ∷ [])) ≡ length (filter is_idle_end h) + length (filter is_idle_end (e ∷ []))
-  ends-push = ap length (filter-append is_idle_end h (e ∷ [])) ∙ length-append (filter is_idle_end h) (filter is_idle_end (e ∷ []))
-
-  workers-push : workers (h ++ e ∷ []) ≤ workers h + length (started (e ∷ []))
-  workers-push = let s = starts-push in let i = ends-push in omega (arith, s, i)
-
--- a submission gets a worker only where there are fewer workers than a size
 module _ (limits : Sizes) (h : List Event) where
-  below-core : reply_after limits h ≡ Core → workers h < core_size limits h
-  below-core is = go (is_closed h) (nat_lt (workers h) (core_size limits h)) (nat_lt (length (waiting h)) limits.queue) (nat_lt (workers h) (max_size limits h)) refl is
-    where
-      go : (closed core room max : Bool) → nat_lt (workers h) (core_size limits h) ≡ core
-          → (if closed then Closed else if core then Core else if room then Queued else if max then Extra else Full) ≡ Core → workers h < core_size limits h
-      go false true room max t is = grind (arith, common_steps, t)
-      go false false false true t is = absurd (cc is)
-      go closed core room max t is = absurd (cc is)
-
-  below-max : reply_after limits h ≡ Extra → workers h < max_size limits h
-  below-max is = go (is_closed h) (nat_lt (workers h) (core_size limits h)) (nat_lt (length (waiting h)) limits.queue) (nat_lt (workers h) (max_size limits h)) refl is
-    where
-      go : (closed core room max : Bool) → nat_lt (workers h) (max_size limits h) ≡ max
-          → (if closed then Closed else if core then Core else if room then Queued else if max then Extra else Full) ≡ Extra → workers h < max_size limits h
-      go false false false true t is = grind (arith, common_steps, t)
-      go closed core room max t is = absurd (cc is)
-
   module _ (within : AreWithin limits h) where
-    few-submitted : (id : _) (reply : Reply) → reply ≡ reply_after limits h → workers (h ++ Submit id reply ∷ []) ≤ limits.max
-    few-submitted id Core is = let one = workers-push h (Submit id Core) in let low = below-core (sym is) in omega (arith, one, low, within.core_small)
-    few-submitted id Extra is = let one = workers-push h (Submit id Extra) in let low = below-max (sym is) in omega (arith, one, low, within.max_small)
-    few-submitted id reply is = let one = workers-push h (Submit id reply) in omega (arith, one, within.workers_few)
+    -- a submission gets a worker only where there are fewer workers than a size
+    few-submitted : (id : Id) (reply : Reply) → reply ≡ reply_after limits h → workers (h ++ Submit id reply ∷ []) ≤ limits.max
+    few-submitted id reply is =
+        let one = workers-push h (Submit id reply) in
+        let few : workers h + length (started (Submit id reply ∷ [])) ≤ limits.max = rw is (go (is_closed h) (nat_lt (workers h) (core_size limits h)) (nat_lt (length (waiting h)) limits.queue) (nat_lt (workers h) (max_size limits h)) refl refl) in
+        omega (arith, one, few)
+      where
+        go : (closed core room max : Bool) → nat_lt (workers h) (core_size limits h) ≡ core → nat_lt (workers h) (max_size limits h) ≡ max
+            → workers h + length (started (Submit id (if closed then Closed else if core then Core else if room then Queued else if max then Extra else Full) ∷ [])) ≤ limits.max
+        go true core room max c m = omega (arith, within.workers_few)
+        go false true room max c m = grind (arith, common_steps, c, within.core_small)
+        go false false true max c m = omega (arith, within.workers_few)
+        go false false false true c m = grind (arith, common_steps, m, within.max_small)
+        go false false false false c m = omega (arith, within.workers_few)
 
     -- the sizes stay within the opening's where an event sets none
     same-sizes : (e : Event) → new_core e ≡ None → new_max e ≡ None → workers (h ++ e ∷ []) ≤ limits.max → AreWithin limits (h ++ e ∷ [])
