@@ -1,6 +1,7 @@
 -- In a legal history each accepted job waits, runs or is finished, and is one of these, once.
 use Rattle.std.proofs.Common.{◌≡◌, ◌≤◌, ◌+◌, ◌∷◌, [], ◌++◌, ◌∙◌, ℕ, Bool, true, false, cond, List, Option, Some, None, length, take, slice_get, refl, sym, ap, arith, length-append}
 use Rattle.std.specs.List.{cons_option}
+use Rattle.std.proofs.lemmas.Bool.{cond_both}
 use Rattle.resil_rule.specs.Limits.{Sizes}
 use Rattle.resil_rule.specs.Admission.{IsAllowed, IsLegal, IsConserved, JobsConserved}
 use Rattle.resil_rule.specs.History.{is_same_id, is_among, times, started, queued, accepted, taken, finished, unfinished, running, waiting, next_number, started_id, accepted_id, taken_id, finished_id}
@@ -19,11 +20,7 @@ times-cons x id ids = times-append x (id ∷ []) ids
 
 one-most : (x : Id) (o : Option Id) → times x (cons_option o []) ≤ 1
 one-most x None = omega arith
-one-most x (Some id) = rw times-one (most (is_same_id x id))
-  where
-    most : (b : Bool) → cond b 1 0 ≤ 1
-    most true = omega arith
-    most false = omega arith
+one-most x (Some id) = rw times-one (cond_both (is_same_id x id) 1 0 (λ (n : ℕ). n ≤ 1) (λ is. omega arith) (λ other. omega arith))
 
 -- each accepted job was started or queued
 pub accepted-parts : (h : List Event) (x : Id) → times x (accepted h) ≡ times x (started h) + times x (queued h)

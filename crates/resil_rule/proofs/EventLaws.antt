@@ -58,7 +58,3 @@ not-among x ids none = among-times x ids ∙ ap is_positive none
 pub or-of : (a b : Bool) → b ≡ true → (a || b) ≡ true
 or-of true b h = refl
 or-of false b h = h
-
-pub or-none : (a b : Bool) → b ≡ false → (a || b) ≡ a
-or-none true b h = refl
-or-none false b h = h

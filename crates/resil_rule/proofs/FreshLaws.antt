@@ -1,10 +1,12 @@
 -- The ids of a legal history: a caller's next number is new, and no more jobs were taken than were queued.
-use Rattle.std.proofs.Common.{◌≡◌, ◌≤◌, ◌⊎◌, inl, inr, ◌∷◌, [], ◌++◌, ◌∙◌, Bool, true, false, ◌||◌, List, length, refl, sym, ap, arith, append_assoc, append-nil, length-append, drop}
+use Rattle.std.proofs.Common.{◌≡◌, ◌≤◌, ◌⊎◌, inl, inr, ◌∷◌, [], ◌++◌, ◌∙◌, true, false, List, length, refl, sym, ap, arith, append_assoc, append-nil, length-append, drop}
+use Rattle.std.proofs.Math.Bool.{or-false}
+use Rattle.std.proofs.lemmas.Bool.{or_cases, false_from_ne_true}
 use Rattle.std.proofs.lemmas.Grind.{common_steps}
 use Rattle.std.proofs.lemmas.List.Elements.{filter_map-append}
 use Rattle.std.proofs.lemmas.List.Folds.{list_any-append}
 use Rattle.resil_rule.proofs.IdLaws.{same_id-equal}
-use Rattle.resil_rule.proofs.EventLaws.{front-is, waiting-more, submissions-more, or-none}
+use Rattle.resil_rule.proofs.EventLaws.{front-is, waiting-more, submissions-more}
 use Rattle.resil_rule.specs.Limits.{Sizes}
 use Rattle.resil_rule.specs.Admission.{IsAllowed, AreAllowedAfter, IsLegal}
 use Rattle.resil_rule.specs.History.{is_among, is_same_id, is_submit_of, queued_id, taken_id, queued, taken, accepted, waiting, submissions, next_number}
@@ -23,16 +25,12 @@ module _ (limits : Sizes) (P : List Event → Type 0) (step : (h : List Event) (
   pub holds-legal : (h : List Event) → P [] → IsLegal limits h → P h
   holds-legal h p legal = holds-after [] h p legal
 
-either-one : (a b : Bool) → (a || b) ≡ true → (a ≡ true) ⊎ (b ≡ true)
-either-one true b h = inl refl
-either-one false b h = inr h
-
 -- what is among two lists is among one of them
 among-either : (id : Id) (xs ys : List Id) → is_among id (xs ++ ys) ≡ true → (is_among id xs ≡ true) ⊎ (is_among id ys ≡ true)
-among-either id xs ys h = either-one _ _ (sym (list_any-append (is_same_id id) xs ys) ∙ h)
+among-either id xs ys h = or_cases _ _ (sym (list_any-append (is_same_id id) xs ys) ∙ h)
 
 only-one : (id x : Id) → is_among id (x ∷ []) ≡ true → id ≡ x
-only-one id x h = same_id-equal id x (sym (or-none (is_same_id id x) false refl) ∙ h)
+only-one id x h = same_id-equal id x (sym (or-false (is_same_id id x)) ∙ h)
 
 own-submit : (id : Id) (reply : Reply) → is_submit_of id.caller (Submit id reply) ≡ true
 own-submit id reply = grind (arith, common_steps)
@@ -57,14 +55,10 @@ counted-push limits h e counted allowed id among =
       | inr new ↦ let told = new-number limits h e id allowed new in let one = rw told.1 at push in omega (arith, one, told.0)
     ]
 
-no-test : (b : Bool) → (b ≡ true → ⊥) → b ≡ false
-no-test true h = absurd (h refl)
-no-test false h = refl
-
 -- a caller's next number is that of no accepted job
 pub next-fresh : (limits : Sizes) (h : List Event) (id : Id) → IsLegal limits h → id.number ≡ next_number h id.caller → is_among id (accepted h) ≡ false
 next-fresh limits h id legal next =
-    no-test (is_among id (accepted h))
+    false_from_ne_true (is_among id (accepted h))
     (λ among. let le = holds-legal limits AreCounted (counted-push limits) h (λ id among. absurd (cc among)) legal id among in omega (arith, le, next))
 
 -- the jobs that were queued are those that were taken, and then those that wait

@@ -1,5 +1,6 @@
 -- Ids among ids, and those of them that aren't finished.
 use Rattle.std.proofs.Common.{◌≡◌, ◌++◌, ◌∙◌, ℕ, Bool, true, false, not, ◌&&◌, ◌||◌, ◌==◌, List, refl, sym, ap, arith, filter, take, drop}
+use Rattle.std.proofs.lemmas.Bool.{and_parts}
 use Rattle.std.proofs.lemmas.Grind.{common_steps}
 use Rattle.std.proofs.lemmas.List.Folds.{list_any-append}
 use Rattle.std.proofs.lemmas.List.{take-append-drop}
@@ -10,8 +11,7 @@ use Rattle.resil_rule.specs.History.{is_among, is_same_id, started, taken, finis
 
 -- both of two tests, and one of them
 pub both : (a b : Bool) → (a && b) ≡ true → (a ≡ true) × (b ≡ true)
-both true b h = (refl, h)
-both false b h = absurd (cc h)
+both a b h = and_parts a b h
 
 -- ids that are found the same are equal
 pub same_id-equal : (a b : Id) → is_same_id a b ≡ true → a ≡ b

@@ -1,5 +1,6 @@
 -- How often an id stands among ids.
 use Rattle.std.proofs.Common.{◌≡◌, ◌≤◌, ◌+◌, ◌∷◌, [], ◌++◌, ◌∙◌, ℕ, zero, suc, Bool, true, false, not, ◌||◌, cond, List, length, filter, refl, sym, ap, arith, length-append}
+use Rattle.std.proofs.Math.Bool.{or-false}
 use Rattle.std.proofs.lemmas.List.Elements.{filter-append}
 use Rattle.std.proofs.lemmas.List.Folds.{list_any-append}
 use Rattle.resil_rule.proofs.IdLaws.{same_id-equal, same_id-self}
@@ -103,10 +104,6 @@ times-left done one other x =
 pub among-last : (x id : Id) (done : List Id) → is_among x (done ++ id ∷ []) ≡ (is_among x done || is_same_id id x)
 among-last x id done =
     list_any-append (is_same_id x) done (id ∷ []) ∙ ap (λ b. is_among x done || b) (or-false (is_same_id x id) ∙ same_id-sym x id)
-  where
-    or-false : (b : Bool) → (b || false) ≡ b
-    or-false true = refl
-    or-false false = refl
 
 fewer-here : (a s t : Bool) (id y : Id) (F G : List Id) → is_same_id id y ≡ s → s ≡ t → length G + times id F ≡ length F
     → length (cond (not (a || t)) (y ∷ G) G) + times id (cond (not a) (y ∷ F) F) ≡ length (cond (not a) (y ∷ F) F)
