@@ -4,7 +4,7 @@
 //! which no running code can read. The number of permits that it holds, and of those that it has retired, is that of
 //! its own events in the history.
 ghost use Rattle.std.specs.Prelude.{◌≡◌};
-ghost use Rattle.resil_permit.specs.Passes.{held_by, retired_by};
+ghost use Rattle.resil_permit.specs.Passes.{PassView, pass_view, IsAtRest, held_by, retired_by};
 
 use crate::protocol::View;
 use atomic_table::Seat;
@@ -25,8 +25,6 @@ pub struct Pass {
 }
 
 impl Model for Pass {
-    ghost use Rattle.resil_permit.specs.Passes.{PassView, pass_view, IsAtRest};
-
     ghost Value = { PassView };
 
     ghost view = { λ p. pass_view p.seat.table_id p.seat.me };

@@ -7,7 +7,10 @@
 //! those held. There is no lock, and none of the public calls of this file blocks.
 ghost use Rattle.std.specs.Prelude.{◌≡◌, ◌≢◌, ℕ, ◌+◌, ◌<◌, ◌≤◌, ◌↔◌, [], length, IfOk, IsErrOf};
 ghost use Rattle.resil_permit.specs.History.{holders, in_use_count, IsLegal};
-ghost use Rattle.resil_permit.specs.Passes.{held_by, retired_by};
+ghost use Rattle.resil_permit.specs.Passes.{Source, held_by, retired_by, own_events, IsSamePass, HasSeenMore, AppendsEvent};
+ghost use Rattle.resil_permit.specs.TryAcquire.{IsTry, held_after};
+ghost use Rattle.resil_permit.specs.declared.event.PermitEvent.TheVariants.{Gave, Retired, Raised};
+ghost use mathlib.Core.List.{IsPrefix};
 
 use crate::pass::Pass;
 use crate::protocol::{
@@ -83,9 +86,6 @@ pub struct Permits {
 }
 
 impl Model for Permits {
-    ghost use Rattle.std.specs.Prelude.{◌≡◌, ◌≤◌};
-    ghost use Rattle.resil_permit.specs.Passes.{Source};
-
     ghost Value = { Source };
 
     ghost view = { λ p. record { table_id = p.table.shared.table_id; max = p.max } };
@@ -135,12 +135,6 @@ impl Permits {
 }
 
 impl Permits {
-    ghost use Rattle.std.specs.Prelude.{◌∷◌};
-    ghost use Rattle.resil_permit.specs.declared.event.PermitEvent.TheVariants.{Gave, Retired, Raised};
-    ghost use Rattle.resil_permit.specs.Passes.{own_events, IsSamePass, HasSeenMore, AppendsEvent};
-    ghost use Rattle.resil_permit.specs.TryAcquire.{IsTry, held_after};
-    ghost use mathlib.Core.List.{IsPrefix};
-
     /// Tries once to take a permit: one load, and where it finds free permits one compare-exchange.
     pub fn try_once(&self, pass: &mut Pass) -> Attempt
         requires { pass.old.source ≡ self.now }

@@ -4,6 +4,9 @@
 //! pass has seen it whole. The word is the number of permits in use that nobody holds. A pass's number is the index of
 //! its seat among all seats. The laws that hold of every such log are those of `specs/Log`; this file says what is
 //! particular to permits.
+ghost use Rattle.resil_permit.specs.Rule.{Rule, first_pass_view, splitting_view, joining_pass_view, joined_view};
+ghost use Rattle.resil_permit.specs.Steps.{AfterPlainLoad, AfterAcquireLoad, AfterAcquireExchange, AfterAdd, AfterNewPass, AfterNumberSeat, AfterPassJoin};
+ghost use Rattle.resil_permit.specs.declared.event.PermitEvent.TheVariants.{Gave, Retired, Raised};
 
 use crate::event::PermitEvent;
 use atomic_table::{Join, Play, Split, TableRule};
@@ -39,8 +42,6 @@ pub struct View {
 pub(crate) struct PermitRule;
 
 impl TableRule<(), View, u32> for PermitRule {
-    ghost use Rattle.resil_permit.specs.Rule.{Rule, first_pass_view};
-
     ghost holds = { Rule };
 
     ghost first = { first_pass_view };
@@ -50,8 +51,6 @@ impl TableRule<(), View, u32> for PermitRule {
 pub(crate) struct PlainLoad;
 
 impl Play<(), View> for PlainLoad {
-    ghost use Rattle.resil_permit.specs.Steps.{AfterPlainLoad};
-
     ghost then = { AfterPlainLoad };
 }
 
@@ -59,8 +58,6 @@ impl Play<(), View> for PlainLoad {
 pub(crate) struct AcquireLoad;
 
 impl Play<(), View> for AcquireLoad {
-    ghost use Rattle.resil_permit.specs.Steps.{AfterAcquireLoad};
-
     ghost then = { AfterAcquireLoad };
 }
 
@@ -68,8 +65,6 @@ impl Play<(), View> for AcquireLoad {
 pub(crate) struct AcquireExchange;
 
 impl Play<(), View> for AcquireExchange {
-    ghost use Rattle.resil_permit.specs.Steps.{AfterAcquireExchange};
-
     ghost then = { AfterAcquireExchange };
 }
 
@@ -77,9 +72,6 @@ impl Play<(), View> for AcquireExchange {
 pub(crate) struct Add;
 
 impl Play<(), View> for Add {
-    ghost use Rattle.resil_permit.specs.Steps.{AfterAdd};
-    ghost use Rattle.resil_permit.specs.declared.event.PermitEvent.TheVariants.{Gave};
-
     ghost then = { AfterAdd Gave };
 }
 
@@ -87,9 +79,6 @@ impl Play<(), View> for Add {
 pub(crate) struct Retire;
 
 impl Play<(), View> for Retire {
-    ghost use Rattle.resil_permit.specs.Steps.{AfterAdd};
-    ghost use Rattle.resil_permit.specs.declared.event.PermitEvent.TheVariants.{Retired};
-
     ghost then = { AfterAdd Retired };
 }
 
@@ -97,9 +86,6 @@ impl Play<(), View> for Retire {
 pub(crate) struct Raise;
 
 impl Play<(), View> for Raise {
-    ghost use Rattle.resil_permit.specs.Steps.{AfterAdd};
-    ghost use Rattle.resil_permit.specs.declared.event.PermitEvent.TheVariants.{Raised};
-
     ghost then = { AfterAdd Raised };
 }
 
@@ -107,8 +93,6 @@ impl Play<(), View> for Raise {
 pub(crate) struct NewPass;
 
 impl Play<(), View> for NewPass {
-    ghost use Rattle.resil_permit.specs.Steps.{AfterNewPass};
-
     ghost then = { AfterNewPass };
 }
 
@@ -116,8 +100,6 @@ impl Play<(), View> for NewPass {
 pub(crate) struct NumberSeat;
 
 impl Play<(), View> for NumberSeat {
-    ghost use Rattle.resil_permit.specs.Steps.{AfterNumberSeat};
-
     ghost then = { AfterNumberSeat };
 }
 
@@ -125,8 +107,6 @@ impl Play<(), View> for NumberSeat {
 pub(crate) struct FinishJoin;
 
 impl Play<(), View> for FinishJoin {
-    ghost use Rattle.resil_permit.specs.Steps.{AfterPassJoin};
-
     ghost then = { AfterPassJoin };
 }
 
@@ -134,8 +114,6 @@ impl Play<(), View> for FinishJoin {
 pub(crate) struct Copied;
 
 impl Split<View> for Copied {
-    ghost use Rattle.resil_permit.specs.Rule.{splitting_view};
-
     ghost left = { λ v. v };
 
     ghost right = { splitting_view };
@@ -145,8 +123,6 @@ impl Split<View> for Copied {
 pub(crate) struct Merged;
 
 impl Join<View> for Merged {
-    ghost use Rattle.resil_permit.specs.Rule.{joining_pass_view, joined_view};
-
     ghost both = { joining_pass_view };
 
     ghost spent = { joined_view };

@@ -144,12 +144,19 @@ module _ {W : Type 0} (v : RuleView W) (h : List Event) (state : IsStateOf h v) 
         answered Queued allowed = by Queued v.workers v.unpicked (v.waiting ++ (id, work) ∷ []) allowed refl (still v.unpicked) (map-append (λ job. job.0) v.waiting ((id, work) ∷ []))
         answered reply allowed = by reply v.workers v.unpicked v.waiting allowed refl (still v.unpicked) (still v.waiting)
 
+module _ {W : Type 0} where
+  pub submit-follows : (v : RuleView W) (id : Id) (work : W) (reply : Reply) → id.number ≡ suc (made_by v id.caller) → id.caller < length v.made → reply ≡ next_reply v
+      → Follows v (Submit id reply) (with_submission v id work reply)
+  submit-follows v id work reply next known is h state =
+      let allowed : IsAllowed v.limits h (Submit id reply) = (next-is v h state id next known, is ∙ reply-is v h state) in
+      (allowed, submits v h state id next known work reply allowed)
+
   -- a pick of a job with a worker of its own
-  pub picks : (slot : Slot) (work : W) → slice_get v.out slot.place ≡ Some None → slice_get v.unpicked 0 ≡ Some (slot.id, work) → IsStateOf h (with_pick v slot)
-  picks slot work free front =
+  pub pick-stays : (v : RuleView W) (slot : Slot) (work : W) → slice_get v.out slot.place ≡ Some None → slice_get v.unpicked 0 ≡ Some (slot.id, work) → StaysAt v (with_pick v slot)
+  pick-stays v slot work free front h state =
       let split = front-is v.unpicked (slot.id, work) front in
       let long : length v.unpicked ≡ length (drop 1 v.unpicked) + 1 = ap length split ∙ omega arith in
-      let from : length (started h) - length (drop 1 v.unpicked) ≡ length (started h) - length v.unpicked + 1 = omega (arith, long, few-unpicked) in
+      let from : length (started h) - length (drop 1 v.unpicked) ≡ length (started h) - length v.unpicked + 1 = omega (arith, long, few-unpicked v h state) in
       let runs : (x : Id) → times x (running h) ≡ times x (ids_of (drop 1 v.unpicked)) + times x (ids_out (with_pick v slot).out) = λ x.
       let old = state.runs x in
       let first = ap (λ (jobs : List (Id × W)). times x (ids_of jobs)) split ∙ times-append x (slot.id ∷ []) (ids_of (drop 1 v.unpicked)) in
@@ -165,16 +172,6 @@ module _ {W : Type 0} (v : RuleView W) (h : List Event) (state : IsStateOf h v) 
         runs = runs;
         made_are = state.made_are;
       }
-
-module _ {W : Type 0} where
-  pub submit-follows : (v : RuleView W) (id : Id) (work : W) (reply : Reply) → id.number ≡ suc (made_by v id.caller) → id.caller < length v.made → reply ≡ next_reply v
-      → Follows v (Submit id reply) (with_submission v id work reply)
-  submit-follows v id work reply next known is h state =
-      let allowed : IsAllowed v.limits h (Submit id reply) = (next-is v h state id next known, is ∙ reply-is v h state) in
-      (allowed, submits v h state id next known work reply allowed)
-
-  pub pick-stays : (v : RuleView W) (slot : Slot) (work : W) → slice_get v.out slot.place ≡ Some None → slice_get v.unpicked 0 ≡ Some (slot.id, work) → StaysAt v (with_pick v slot)
-  pick-stays v slot work free front h state = picks v h state slot work free front
 
   pub take-follows : (v : RuleView W) (slot : Slot) (work : W) → slice_get v.out slot.place ≡ Some None → slice_get v.waiting 0 ≡ Some (slot.id, work) → busy v < v.workers → Follows v (Take slot.id) (with_take v slot)
   take-follows v slot work free front idle h state =

@@ -80,14 +80,10 @@ module _ {W : Type 0} where
     unpicked = v.unpicked ++ (id, work) ∷ [];
   }
 
-  -- a job is queued
-  abbrev pub with_waiting : RuleView W → Id → W → RuleView W
-  with_waiting v id work = record v { made = slice_set v.made id.caller id.number; waiting = v.waiting ++ (id, work) ∷ [] }
-
   -- a submission with its answer
   abbrev pub with_submission : RuleView W → Id → W → Reply → RuleView W
   with_submission v id work Core = with_start v id work
-  with_submission v id work Queued = with_waiting v id work
+  with_submission v id work Queued = record v { made = slice_set v.made id.caller id.number; waiting = v.waiting ++ (id, work) ∷ [] }
   with_submission v id work Extra = with_start v id work
   with_submission v id work _ = counted v id
 

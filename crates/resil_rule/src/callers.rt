@@ -2,7 +2,7 @@
 //!
 //! The table has the callers from 0 on, as many as it was made for. It grows by a call of its own alone.
 
-ghost use Rattle.std.specs.Prelude.{◌≡◌, ◌↔◌, ◌<◌, ◌≤◌, ℕ, length, max, suc, replicate, slice_set, slice_index_or, IsTrue, IsOk, IfOk, OnOk};
+ghost use Rattle.std.specs.Prelude.{◌≡◌, ◌↔◌, ◌<◌, ◌≤◌, List, ℕ, length, max, suc, replicate, slice_set, slice_index_or, IsTrue, IsOk, IfOk, OnOk};
 
 use super::Id;
 use std::alloc::{AllocError, Global};
@@ -15,8 +15,6 @@ pub(crate) struct Callers {
 }
 
 impl Model for Callers {
-    ghost use Rattle.std.specs.Prelude.{List, ℕ};
-
     ghost Value = { List ℕ };
 
     ghost view = { λ c. c.made.items };

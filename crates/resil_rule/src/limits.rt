@@ -1,7 +1,7 @@
 //! The sizes that a pool is opened with. A resize leaves them: they tell how far it may go.
 
 ghost use Rattle.std.specs.Prelude.{◌≡◌, IfOk, IfErr};
-ghost use Rattle.resil_rule.specs.Limits.{AreLimits, IsSizeRefusal};
+ghost use Rattle.resil_rule.specs.Limits.{Sizes, AreLimits, IsSizeRefusal};
 
 use super::AdmitError;
 use std::marker::Model;
@@ -21,8 +21,6 @@ pub struct Limits {
 }
 
 impl Model for Limits {
-    ghost use Rattle.resil_rule.specs.Limits.{Sizes, AreLimits};
-
     ghost Value = { Sizes };
 
     ghost view = { λ l. record { core = l.core; max = l.max; queue = l.queue } };

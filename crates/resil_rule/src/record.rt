@@ -4,8 +4,8 @@
 //! `NoRecord` keeps nothing, and `LastEvents` the last events, in memory of its own. `AllEvents` keeps all of
 //! them, and allocates before the rule's call: where memory runs out there, nothing was changed.
 
-ghost use Rattle.std.specs.Prelude.{◌≡◌, ◌≤◌, ◌++◌, ◌∷◌, [], ℕ, List, Option, suc, length, slice_get, IsOk, IfOk, OnOk};
-ghost use Rattle.resil_rule.specs.Record.{IsLastOf};
+ghost use Rattle.std.specs.Prelude.{◌≡◌, ◌-◌, ◌≤◌, ◌++◌, ◌∷◌, [], ℕ, List, Option, suc, length, vec_len, vec_capacity, slice_get, IsOk, IfOk, OnOk};
+ghost use Rattle.resil_rule.specs.Record.{AllView, LastView, IsLastOf};
 
 use super::Event;
 use circular_buffer::HeapCircularBuffer;
@@ -96,9 +96,6 @@ pub struct AllEvents {
 }
 
 impl Model for AllEvents {
-    ghost use Rattle.std.specs.Prelude.{◌-◌, vec_len, vec_capacity};
-    ghost use Rattle.resil_rule.specs.Record.{AllView};
-
     ghost Value = { AllView };
 
     ghost view = { λ all. record { events = all.events.items; room = vec_capacity all.events - vec_len all.events } };
@@ -174,8 +171,6 @@ pub struct LastEvents {
 }
 
 impl Model for LastEvents {
-    ghost use Rattle.resil_rule.specs.Record.{LastView};
-
     ghost Value = { LastView };
 
     ghost view = { λ l. record { events = l.last.items; capacity = l.last.capacity; lost = l.lost } };

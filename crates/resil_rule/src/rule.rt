@@ -13,7 +13,8 @@ ghost use Rattle.std.specs.Bool.{OnTrue, OnFalse};
 ghost use Rattle.resil_rule.specs.History.{is_among};
 ghost use Rattle.resil_rule.specs.Slots.{ids_out};
 ghost use Rattle.resil_rule.specs.Limits.{AreSizesWithin, IsResizeRefusal};
-ghost use Rattle.resil_rule.specs.RuleView.{opened, busy, owed, next_reply, made_by, is_acceptance, with_submission, with_finish, with_close, with_idle_end, with_sizes, MayEndIdle, HasOneToPick};
+ghost use Rattle.resil_rule.specs.RuleInvariant.{RuleInvariant};
+ghost use Rattle.resil_rule.specs.RuleView.{RuleView, opened, busy, owed, next_reply, made_by, is_acceptance, with_submission, with_finish, with_close, with_idle_end, with_sizes, MayEndIdle, HasOneToPick};
 ghost use Rattle.resil_rule.specs.RuleState.{IsStateOf, Follows, StaysAt, IsPicked, HasNoneToPick, IsSubmitRefusal};
 
 use super::callers::Callers;
@@ -80,9 +81,6 @@ pub struct Rule<W: Drop> {
 }
 
 impl<W: Drop> Model for Rule<W> {
-    ghost use Rattle.resil_rule.specs.RuleView.{RuleView};
-    ghost use Rattle.resil_rule.specs.RuleInvariant.{RuleInvariant};
-
     ghost Value = { RuleView W };
 
     ghost view = { λ c. record { limits = c.limits; core = c.core; max = c.max; closed = c.closed; workers = c.workers; unpicked = c.unpicked.items; waiting = c.waiting.items; out = c.out; made = c.made } };

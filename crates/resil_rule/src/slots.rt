@@ -3,10 +3,12 @@
 //! A place is given by `put` and free again once it is cleared, so a job is found by its place at once.
 //! All places are there from the making on.
 
-ghost use Rattle.std.specs.Prelude.{◌≡◌, ◌↔◌, ◌<◌, None as nothing, Some, false, length, position, replicate, slice_get, slice_set, IsTrue, IfOk, IfSome, IfNone};
+ghost use Rattle.std.specs.Prelude.{◌≡◌, ◌↔◌, ◌<◌, List, Option, None as nothing, Some, false, length, position, replicate, slice_get, slice_set, IsTrue, IfOk, IfSome, IfNone};
 ghost use Rattle.std.specs.Bool.{OnTrue, OnFalse};
 ghost use Rattle.resil_rule.specs.History.{is_among};
 ghost use Rattle.resil_rule.specs.Slots.{ids_out, is_of, places_to};
+ghost use Rattle.resil_rule.specs.SlotsInvariant.{SlotsInvariant};
+ghost use Rattle.resil_rule.specs.declared.event.Id.{Id as IdOf};
 
 use super::Id;
 use circular_buffer::HeapCircularBuffer;
@@ -32,10 +34,6 @@ pub(crate) struct Slots {
 }
 
 impl Model for Slots {
-    ghost use Rattle.std.specs.Prelude.{List, Option};
-    ghost use Rattle.resil_rule.specs.declared.event.Id.{Id as IdOf};
-    ghost use Rattle.resil_rule.specs.SlotsInvariant.{SlotsInvariant};
-
     ghost Value = { List (Option IdOf) };
 
     ghost view = { λ s. s.jobs.items };
