@@ -1,73 +1,38 @@
 -- The rule that the table keeps gives what holds of a lock between any two steps.
-use Rattle.std.proofs.Common.{◌≡◌, ◌<◌, ◌↔◌, ℕ, Bool, true, false, List, [], ◌∷◌, length, slice_index, refl, sym, ap, ◌∙◌, subst, ⊎_elim, arith, Option, Some}
+use Rattle.std.proofs.Common.{◌≡◌, ◌<◌, ◌↔◌, ℕ, zero, suc, Bool, List, [], ◌∷◌, length, slice_index, refl, sym, ap, ◌∙◌, subst, ⊎_elim, arith, Option, Some}
 use mathlib.Core.Option as m
-use mathlib.Core.List.{IsPrefix}
 use lib.ListN.{get_elem?}
 use Rattle.resil_permit.proofs.Log.Places.{place_within}
 use Rattle.resil_lock.specs.declared.protocol.View.{View}
-use Rattle.resil_lock.specs.declared.protocol.Phase.{Phase}
-use Rattle.resil_lock.specs.declared.protocol.Phase.TheVariants.{Idle, Holding, Joining, Joined}
 use Rattle.resil_lock.specs.declared.protocol.Rank.{Rank}
-use Rattle.resil_lock.specs.declared.protocol.Rank.TheVariants.{Opener, Member}
-use Rattle.resil_lock.specs.Lock.{holds_lock, is_there, IsLive, IsHolder, FitsPhase, LockInvariant}
+use Rattle.resil_lock.specs.Lock.{IsSeat, LockInvariant}
 use Rattle.resil_lock.specs.BetweenSteps.{IsSeatAt, HasOneHolder, HasNoHolder, HasOpener, IsInSlot, HasState, IsSlotOut, HoldsBetweenSteps}
-use Rattle.resil_lock.proofs.LockSteps.{holder-of, state_or}
+use Rattle.resil_lock.proofs.LockSteps.{state_or}
 
-module _ {K E : Type 0} (MayWrite : Rank → List E → Type 0) (is_own : ℕ → E → Bool) (key : K) (word : ℕ) (log : List E) (v : View K E) where
-  -- a seat that is there
-  live-of : (p : Phase E) → FitsPhase MayWrite is_own key word log v p → is_there p ≡ true → IsLive MayWrite is_own key log v
-  live-of Idle k there = k
-  live-of Holding k there = k.live
-  live-of (Joining number other) k there = k.holder.live
-  live-of Joined k there = let no : false ≡ true = there in cc
-
-  -- what any seat has seen is a prefix of the log
-  seen-begins : (p : Phase E) → FitsPhase MayWrite is_own key word log v p → IsPrefix v.seen log
-  seen-begins Idle k = k.begins
-  seen-begins Holding k = k.live.begins
-  seen-begins (Joining number other) k = k.holder.live.begins
-  seen-begins Joined k = subst (λ (xs : List E). IsPrefix xs log) (sym k.seen) (log, refl)
-
-  -- what was joined away has left nothing
-  spent-own : (p : Phase E) → FitsPhase MayWrite is_own key word log v p → is_there p ≡ false → v.own ≡ []
-  spent-own Idle k away = let no : true ≡ false = away in absurd (cc)
-  spent-own Holding k away = let no : true ≡ false = away in absurd (cc)
-  spent-own (Joining number other) k away = let no : true ≡ false = away in absurd (cc)
-  spent-own Joined k away = k.own
-
-  -- the opener's seat isn't joined away
-  opener-there : (p : Phase E) → FitsPhase MayWrite is_own key word log v p → v.rank ≡ Opener → is_there p ≡ true
-  opener-there Idle k opens = refl
-  opener-there Holding k opens = refl
-  opener-there (Joining number other) k opens = refl
-  opener-there Joined k opens = let no : Opener ≡ Member = sym opens ∙ k.rank in absurd (cc)
-
-first-of : {A : Type 0} (l : List A) → 0 < length l → (a : A) × (get_elem? l 0 ≡ m.some a)
-first-of [] some = absurd (omega arith)
-first-of (x ∷ xs) some = (x, refl)
+item-at : {A : Type 0} (l : List A) (i : ℕ) → i < length l → (a : A) × (get_elem? l i ≡ m.some a)
+item-at [] i some = absurd (omega (arith, some))
+item-at (x ∷ xs) zero some = (x, refl)
+item-at (x ∷ xs) (suc i) some = item-at xs i (omega (arith, some))
 
 module _ {K E S : Type 0} (StandsFor : K → List E → S → Type 0) (MayWrite : Rank → List E → Type 0) (is_own : ℕ → E → Bool) (key : K) (words : List ℕ) (homes : List (m.Option (Option S))) (views : List (View K E)) (k : LockInvariant StandsFor MayWrite is_own key words homes views) where
-  holding : (index : ℕ) (v : View K E) → IsSeatAt views index v → holds_lock v.phase ≡ true → IsHolder MayWrite is_own key (slice_index words 0) k.log v
-  holding index v at holds = holder-of MayWrite is_own key (slice_index words 0) k.log v v.phase holds (k.each index v at)
-
-  live : (index : ℕ) (v : View K E) → IsSeatAt views index v → is_there v.phase ≡ true → IsLive MayWrite is_own key k.log v
-  live index v at there = live-of MayWrite is_own key (slice_index words 0) k.log v v.phase (k.each index v at) there
+  seat : (index : ℕ) (v : View K E) → IsSeatAt views index v → IsSeat MayWrite is_own key (slice_index words 0) k.holder k.log index v
+  seat index v at = (k.seats.each index v at).seat
 
   one-holder : slice_index words 0 ≡ 1 → HasOneHolder views
-  one-holder one = let h = k.held one in record {
-    index = h.place;
-    seat = h.seat;
-    there = h.there;
-    holds = h.holds;
-    only = λ other v at holds. k.one_holder other h.place v h.seat at h.there holds h.holds;
+  one-holder one = let h = item-at views k.holder (k.held one) in record {
+    index = k.holder;
+    seat = h.0;
+    there = h.1;
+    holds = (seat k.holder h.0 h.1).holds.1 (refl, one);
+    only = λ other v at holds. ((seat other v at).holds.0 holds).0;
   }
 
   taken : (slice_index words 0 ≡ 1) ↔ HasOneHolder views
-  taken = (one-holder, λ h. (holding h.index h.seat h.there h.holds).taken)
+  taken = (one-holder, λ h. ((seat h.index h.seat h.there).holds.0 h.holds).1)
 
   free : (slice_index words 0 ≡ 0) ↔ HasNoHolder views
   free = (
-    λ none index v at holds. let one = (holding index v at holds).taken in omega (arith, none, one),
+    λ none index v at holds. let one = ((seat index v at).holds.0 holds).1 in omega (arith, none, one),
     λ none. ⊎_elim (λ e. e) (λ one. let h = one-holder one in absurd (none h.index h.seat h.there h.holds)) k.bit,
   )
 
@@ -92,14 +57,15 @@ module _ {K E S : Type 0} (StandsFor : K → List E → S → Type 0) (MayWrite 
 
   opener : HasOpener views
   opener =
-      let inside = place_within views k.longest.index k.longest.seat k.longest.there in
-      let seat = first-of views (omega (arith, inside)) in
-      let opens = k.first seat.0 seat.1 in record {
-        seat = seat.0;
-        first = seat.1;
-        there = opener-there MayWrite is_own key (slice_index words 0) k.log seat.0 seat.0.phase (k.each 0 seat.0 seat.1) opens;
+      let long = k.seats.longest in
+      let inside = place_within views long.index long.seat long.there in
+      let first = item-at views 0 (omega (arith, inside)) in
+      let opens = (seat 0 first.0 first.1).first refl in record {
+        seat = first.0;
+        first = first.1;
+        there = ((seat 0 first.0 first.1).opener opens).1;
         opens = opens;
-        only = k.opener;
+        only = λ index v at is. ((seat index v at).opener is).0;
       }
 
   pub between-steps : HoldsBetweenSteps StandsFor MayWrite is_own key words homes views
@@ -115,19 +81,18 @@ module _ {K E S : Type 0} (StandsFor : K → List E → S → Type 0) (MayWrite 
     gone = k.gone;
     stood = k.stood;
     at_home = at-home;
-    longest = record {
-      index = k.longest.index;
-      seat = k.longest.seat;
-      there = k.longest.there;
-      whole = k.longest.whole;
-      prefixes = λ index v at. seen-begins MayWrite is_own key (slice_index words 0) k.log v v.phase (k.each index v at);
-    };
-    holder = λ index v at holds. (holding index v at holds).whole;
-    keyed = λ index v at there. (live index v at there).keyed;
-    fits = λ index v at there. (live index v at there).fits;
-    spent = λ index v at away. spent-own MayWrite is_own key (slice_index words 0) k.log v v.phase (k.each index v at) away;
+    longest = (let long = k.seats.longest in record { index = long.index; seat = long.seat; there = long.there; whole = long.whole; prefixes = λ index v at. (seat index v at).begins });
+    holder = λ index v at holds. (seat index v at).whole holds;
+    keyed = λ index v at there. (seat index v at).keyed there;
+    fits = λ index v at there. (seat index v at).fits there;
+    spent = λ index v at away. (seat index v at).spent away;
     gone_fits = k.gone_fits;
     wrote = k.wrote;
     opener = opener;
-    numbers = k.numbers;
+    numbers = λ only. record {
+      numbered = λ i v at there. ((k.seats.each i v at).numbers only).numbered there;
+      counted = λ v at. ((k.seats.each 0 v at).numbers only).counted refl ∙ (k.counted only).0;
+      all_own = λ i v at there. ((k.seats.each i v at).numbers only).all_own there;
+      no_others = (k.counted only).1;
+    };
   }

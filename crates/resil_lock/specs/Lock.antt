@@ -1,11 +1,11 @@
 -- What holds of a lock between any two steps, and what its steps tell. StandsFor says which logs a state stands for, MayWrite what a seat of a rank may have written, and is_own which entries are
 -- those of the seat with a number.
-use Rattle.std.specs.Prelude.{◌≡◌, ◌≢◌, ◌≤◌, ◌⊎◌, ◌+◌, ℕ, Bool, true, false, List, [], ◌∷◌, ◌++◌, filter, length, slice_index, Option, Some, None}
+use Rattle.std.specs.Prelude.{◌≡◌, ◌≢◌, ◌≤◌, ◌<◌, ◌⊎◌, ◌↔◌, ◌+◌, ℕ, Bool, true, false, List, [], ◌∷◌, ◌++◌, filter, length, slice_index, Option, Some}
 use mathlib.Core.Option as m
 use mathlib.Core.List.{IsPrefix}
 use lib.ListN.{get_elem?}
 use Rattle.atomic_table.specs.Table.{State, Me, Step, rest}
-use Rattle.resil_permit.specs.Log.Seats.{IsSeenWhole}
+use Rattle.resil_permit.specs.Log.Seats.{IsLogOf}
 use Rattle.resil_lock.specs.declared.protocol.View.{View}
 use Rattle.resil_lock.specs.declared.protocol.Phase.{Phase}
 use Rattle.resil_lock.specs.declared.protocol.Phase.TheVariants.{Idle, Holding, Joining, Joined}
@@ -100,36 +100,34 @@ module _ {K E : Type 0} where
   total number [] = 0
   total number (v ∷ views) = number v + total number views
 
-  module _ (MayWrite : Rank → List E → Type 0) (is_own : ℕ → E → Bool) (key : K) where
-    -- a seat knows the key, has seen a prefix of the log, and wrote what it may
-    pub record IsLive (log : List E) (v : View K E) : Type 0 where
-      pub keyed : v.key ≡ key
+  module _ (MayWrite : Rank → List E → Type 0) (is_own : ℕ → E → Bool) where
+    -- A seat at its place among all seats. It has seen a prefix of the log. The opener, and no other, has the first place, and is never joined away. A seat that is there knows the key and wrote what it may; one
+    -- that isn't has left nothing. The holder, and no other, holds the lock while the word is 1. It has seen the whole log, and all that a seat has which it joins away.
+    pub record IsSeat (key : K) (word holder : ℕ) (log : List E) (place : ℕ) (v : View K E) : Type 0 where
       pub begins : IsPrefix v.seen log
-      pub fits : MayWrite v.rank v.own
+      pub opener : v.rank ≡ rank.Opener → (place ≡ 0) × (is_there v.phase ≡ true)
+      pub first : place ≡ 0 → v.rank ≡ rank.Opener
+      pub keyed : is_there v.phase ≡ true → v.key ≡ key
+      pub fits : is_there v.phase ≡ true → MayWrite v.rank v.own
+      pub spent : is_there v.phase ≡ false → v.own ≡ []
+      pub holds : (holds_lock v.phase ≡ true) ↔ ((place ≡ holder) × (word ≡ 1))
+      pub whole : holds_lock v.phase ≡ true → v.seen ≡ log
+      pub joins : (number : ℕ) (other : List E) → v.phase ≡ Joining number other → HasAllOf MayWrite is_own number other log
 
-    -- the holder has seen the whole log
-    pub record IsHolder (word : ℕ) (log : List E) (v : View K E) : Type 0 where
-      pub live : IsLive log v
-      pub taken : word ≡ 1
-      pub whole : v.seen ≡ log
+    -- The seat's number is its place, and the first knows how many there are. It has seen all entries of the log that are its own.
+    pub record IsNumbered (count : ℕ) (log : List E) (place : ℕ) (v : View K E) : Type 0 where
+      pub numbered : is_there v.phase ≡ true → v.number ≡ place
+      pub counted : place ≡ 0 → v.made ≡ count
+      pub all_own : is_there v.phase ≡ true → filter (is_own place) v.seen ≡ filter (is_own place) log
 
-    -- the holder joins another seat away, which had seen a prefix of the log, with all entries that are its own
-    pub record IsJoining (word : ℕ) (log : List E) (v : View K E) (number : ℕ) (other : List E) : Type 0 where
-      pub holder : IsHolder word log v
-      pub other_begins : IsPrefix other log
-      pub other_own : IsNumbering MayWrite → filter (is_own number) other ≡ filter (is_own number) log
+    -- a seat at its place, and what is known of it where all seats have numbers
+    pub record FitsPlace (key : K) (word holder count : ℕ) (log : List E) (place : ℕ) (v : View K E) : Type 0 where
+      pub seat : IsSeat key word holder log place v
+      pub numbers : IsNumbering MayWrite → IsNumbered count log place v
 
-    pub record IsSpent (v : View K E) : Type 0 where
-      pub rank : v.rank ≡ rank.Member
-      pub made : v.made ≡ 0
-      pub seen : v.seen ≡ []
-      pub own : v.own ≡ []
-
-    abbrev pub FitsPhase : ℕ → List E → View K E → Phase E → Type 0
-    FitsPhase word log v Idle = IsLive log v
-    FitsPhase word log v Holding = IsHolder word log v
-    FitsPhase word log v (Joining number other) = IsJoining word log v number other
-    FitsPhase word log v Joined = IsSpent v
+    -- each seat fits its place, and some seat has seen the whole log
+    abbrev pub AreSeats : K → ℕ → ℕ → ℕ → List E → List (View K E) → Type 0
+    AreSeats key word holder count log views = IsLogOf (λ v. v.seen) (λ _. Unit {0}) (λ _ _. false) (FitsPlace key word holder count log) log views
 
   -- A seat's number is its place among all seats, and the first knows how many there are. Each seat has seen all entries of the log that are its own, and there are none of a seat that isn't there.
   pub record AreNumbered (is_own : ℕ → E → Bool) (log : List E) (views : List (View K E)) : Type 0 where
@@ -137,13 +135,6 @@ module _ {K E : Type 0} where
     pub counted : (v : View K E) → get_elem? views 0 ≡ m.some v → v.made ≡ length views
     pub all_own : (i : ℕ) (v : View K E) → get_elem? views i ≡ m.some v → is_there v.phase ≡ true → filter (is_own i) v.seen ≡ filter (is_own i) log
     pub no_others : (i : ℕ) → length views ≤ i → filter (is_own i) log ≡ []
-
-  -- some seat holds the lock
-  pub record IsHeld (views : List (View K E)) : Type 0 where
-    pub place : ℕ
-    pub seat : View K E
-    pub there : get_elem? views place ≡ m.some seat
-    pub holds : holds_lock seat.phase ≡ true
 
 module _ {S K E : Type 0} where
   abbrev pub AfterComing : Step S → Me S (View K E) → ℕ → Me S (View K E) → Type 0
@@ -156,27 +147,24 @@ module _ {K E S : Type 0} where
     pub there : get_elem? homes 0 ≡ m.some (m.some (Some state))
     pub stands : StandsFor key log state
 
-  -- There is one log. Each seat has seen a prefix of it, the holder has seen it whole, and so has some seat at any time. The word is 0 or 1. While it is 0 the state lies in the slot and stands for the
-  -- log; while it is 1 just one seat holds the lock, the slot is out with it, and the log is what the state stood for. The log is made of just what the seats wrote, with those that were joined away, and each
-  -- seat wrote what it may. The opener has the first seat.
+  -- There is one log, for which some state stands. The word is 0 or 1. While it is 0 the state lies in the slot and stands for the log; while it is 1 the slot is out, and the seat at the holder's place holds
+  -- the lock. Each seat fits its place. The log is made of just what the seats wrote, with those that were joined away and are gone. Where all seats have numbers, no entry is of a seat that isn't there.
   pub record LockInvariant (StandsFor : K → List E → S → Type 0) (MayWrite : Rank → List E → Type 0) (is_own : ℕ → E → Bool) (key : K) (words : List ℕ) (homes : List (m.Option (Option S))) (views : List (View K E)) : Type 0 where
     pub log : List E
     pub gone : List (View K E)
+    pub holder : ℕ
+    pub count : ℕ
     pub one_word : length words ≡ 1
     pub one_slot : length homes ≡ 1
     pub bit : (slice_index words 0 ≡ 0) ⊎ (slice_index words 0 ≡ 1)
     pub at_home : slice_index words 0 ≡ 0 → IsAtHome StandsFor key log homes
     pub away : slice_index words 0 ≡ 1 → get_elem? homes 0 ≡ m.some m.none
-    pub held : slice_index words 0 ≡ 1 → IsHeld views
+    pub held : slice_index words 0 ≡ 1 → holder < length views
     pub stood : (state : S) × StandsFor key log state
-    pub each : (i : ℕ) (v : View K E) → get_elem? views i ≡ m.some v → FitsPhase MayWrite is_own key (slice_index words 0) log v v.phase
-    pub one_holder : (i j : ℕ) (v u : View K E) → get_elem? views i ≡ m.some v → get_elem? views j ≡ m.some u → holds_lock v.phase ≡ true → holds_lock u.phase ≡ true → i ≡ j
-    pub opener : (i : ℕ) (v : View K E) → get_elem? views i ≡ m.some v → v.rank ≡ rank.Opener → i ≡ 0
-    pub first : (v : View K E) → get_elem? views 0 ≡ m.some v → v.rank ≡ rank.Opener
+    pub seats : AreSeats MayWrite is_own key (slice_index words 0) holder count log views
     pub wrote : (weight : E → ℕ) → total (λ v. weigh weight v.own) views + total (λ v. weigh weight v.own) gone ≡ weigh weight log
     pub gone_fits : (i : ℕ) (v : View K E) → get_elem? gone i ≡ m.some v → MayWrite v.rank v.own
-    pub longest : IsSeenWhole (λ (v : View K E). v.seen) log views
-    pub numbers : IsNumbering MayWrite → AreNumbered is_own log views
+    pub counted : IsNumbering MayWrite → (count ≡ length views) × ((i : ℕ) → length views ≤ i → filter (is_own i) log ≡ [])
 
   abbrev pub IsLocked : (K → List E → S → Type 0) → (Rank → List E → Type 0) → (ℕ → E → Bool) → K → State (Option S) (View K E) → Type 0
   IsLocked StandsFor MayWrite is_own key s = LockInvariant StandsFor MayWrite is_own key s.words s.homes s.views
