@@ -18,7 +18,8 @@ use Rattle.resil_rule.proofs.SlotLaws.{put-length, clear-length}
 use Rattle.resil_executor.specs.declared.log.Entry.{Entry}
 use Rattle.resil_executor.specs.declared.log.Note.{Note}
 use Rattle.resil_executor.specs.declared.log.Note.TheVariants as note
-use Rattle.resil_executor.specs.Log.{event_of, entries_of, events_in}
+use Rattle.resil_executor.specs.Log.{entries_of, events_in}
+use Rattle.resil_executor.proofs.LogLaws.{events-more}
 use Rattle.resil_executor.specs.Kept.{refused, refused_id, events_of, IsOwn, unfinished, KeepsUp, Keeps}
 
 -- an own submission was accepted or refused, and no other event is one
@@ -29,16 +30,6 @@ answered-once (event.Submit id reply.Extra) own = ap {B = ℕ} (λ (c : ℕ). co
 answered-once (event.Submit id reply.Full) own = ap {B = ℕ} (λ (c : ℕ). cond (c == 1) 1 0) own
 answered-once (event.Submit id reply.Closed) own = ap {B = ℕ} (λ (c : ℕ). cond (c == 1) 1 0) own
 answered-once e own = refl
-
-module _ {W : Type 0} where
-  -- the history grows by what was noted
-  events-more : (log : List (Entry W)) (after : RuleView W) (last : Option Note) → events_in (log ++ entries_of after last) ≡ events_in log ++ events_of last
-  events-more log after last = filter_map-append (λ (e : Entry W). event_of e.note) log (entries_of after last) ∙ ap (λ (h : List Event). events_in log ++ h) (same last)
-    where
-      same : (l : Option Note) → events_in (entries_of after l) ≡ events_of l
-      same None = refl
-      same (Some (note.Started id)) = refl
-      same (Some (note.Event e)) = refl
 
 count-more : (f : Event → Option Id) (h more : List Event) → length (filter_map f (h ++ more)) ≡ length (filter_map f h) + length (filter_map f more)
 count-more f h more = ap length (filter_map-append f h more) ∙ length-append (filter_map f h) (filter_map f more)

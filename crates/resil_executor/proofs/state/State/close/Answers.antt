@@ -1,7 +1,7 @@
 -- The closing.
-use Rattle.std.proofs.Common.{◌≡◌, refl, sym, subst, ◌∙◌, ap, arith}
+use Rattle.std.proofs.Common.{◌≡◌, inl, refl, sym, subst, ◌∙◌, ap, arith}
 use Rattle.std.proofs.lemmas.Bool.{OnTrue_from}
-use Rattle.resil_executor.proofs.StateLaws.{close-writes}
+use Rattle.resil_executor.proofs.StateLaws.{writes-by}
 use Rattle.resil_rule.specs.declared.event.Event.TheVariants as event
 use Rattle.resil_executor.specs.Kept.{unfinished}
 use Rattle.resil_rule.proofs.OwedLaws.{close-owes}
@@ -10,7 +10,7 @@ use Rattle.resil_executor.proofs.state.State.close.Goals as goal
 
 pub returns-then-closes-clause-closed : goal.returns-then-closes-clause-closed
 returns-then-closes-clause-closed g c =
-    OnTrue_from _ _ (λ _. close-writes _ _ _ _ c.if-closes.ensures.event c.if-closes.ensures.follows c.note.ensures.same.0 c.note.ensures.same.1)
+    OnTrue_from _ _ (λ _. writes-by _ _ _ _ _ event.Close refl refl (λ x. refl) (λ job there. inl there) (λ job there. inl there) c.if-closes.ensures.event c.if-closes.ensures.follows c.note.ensures.same.0 c.note.ensures.same.1)
 
 pub note-requires : goal.note-requires
 note-requires g c =

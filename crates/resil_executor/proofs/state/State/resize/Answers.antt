@@ -1,8 +1,8 @@
 -- The new sizes.
 use Rattle.resil_rule.specs.declared.event.Event.TheVariants as event
 use Rattle.resil_executor.specs.Turn.{Writes}
-use Rattle.resil_executor.proofs.StateLaws.{resize-writes}
-use Rattle.std.proofs.Common.{◌≡◌, subst, ◌∙◌, ap, arith}
+use Rattle.resil_executor.proofs.StateLaws.{writes-by}
+use Rattle.std.proofs.Common.{◌≡◌, inl, refl, subst, ◌∙◌, ap, arith}
 use Rattle.resil_rule.specs.RuleView.{owed}
 use Rattle.resil_executor.specs.Kept.{unfinished}
 use Rattle.resil_executor.proofs.KeptLaws.{keeps-event}
@@ -11,7 +11,7 @@ use Rattle.resil_executor.proofs.state.State.resize.Goals as goal
 pub returns-clause-resized : goal.returns-clause-resized
 returns-clause-resized g c =
     subst (λ (v : _). Writes v (event.Resized c.args.core c.args.max) c.note.new.self.rule c.note.new.self.last) c.make_room.ensures.same.0
-    (resize-writes _ _ _ _ c.args.core c.args.max c.in_ok-resize.ensures.event c.in_ok-resize.ensures.follows c.note.ensures.same.0 c.note.ensures.same.1)
+    (writes-by _ _ _ _ _ (event.Resized c.args.core c.args.max) refl refl (λ x. refl) (λ job there. inl there) (λ job there. inl there) c.in_ok-resize.ensures.event c.in_ok-resize.ensures.follows c.note.ensures.same.0 c.note.ensures.same.1)
 
 pub note-requires : goal.note-requires
 note-requires g c =

@@ -1,6 +1,6 @@
 -- The end of an idle worker.
-use Rattle.resil_executor.proofs.StateLaws.{idle-writes}
-use Rattle.std.proofs.Common.{◌≡◌, refl, sym, subst, ◌∙◌, ap, arith}
+use Rattle.resil_executor.proofs.StateLaws.{writes-by}
+use Rattle.std.proofs.Common.{◌≡◌, inl, refl, sym, subst, ◌∙◌, ap, arith}
 use Rattle.resil_rule.specs.declared.event.Event.TheVariants as event
 use Rattle.resil_executor.specs.Kept.{unfinished}
 use Rattle.resil_rule.proofs.OwedLaws.{idle-owes}
@@ -9,7 +9,7 @@ use Rattle.resil_executor.proofs.state.State.rest.Goals as goal
 
 pub returns-then-idle_end-clause-steps : goal.returns-then-idle_end-clause-steps
 returns-then-idle_end-clause-steps g c =
-    (idle-writes _ _ _ _ c.if-idle_end.ensures.event c.if-idle_end.ensures.follows c.note.ensures.same.0 c.note.ensures.same.1).steps
+    (writes-by _ _ _ _ _ event.IdleEnd refl refl (λ x. refl) (λ job there. inl there) (λ job there. inl there) c.if-idle_end.ensures.event c.if-idle_end.ensures.follows c.note.ensures.same.0 c.note.ensures.same.1).steps
 
 pub note-requires : goal.note-requires
 note-requires g c =

@@ -6,7 +6,7 @@ use Rattle.resil_rule.specs.declared.event.Event.TheVariants as event
 use Rattle.resil_executor.specs.declared.log.Note.{Note}
 use Rattle.resil_executor.specs.Kept.{unfinished}
 use Rattle.resil_executor.specs.Turn.{Writes, Accepts, IsVisit}
-use Rattle.resil_executor.proofs.StateLaws.{accept-writes, refuse-writes}
+use Rattle.resil_executor.proofs.StateLaws.{accept-writes, submit-writes}
 use Rattle.resil_executor.proofs.KeptLaws.{keeps-event, submit-jobs, accepts-one}
 use Rattle.resil_executor.proofs.state.State.submit.Goals as goal
 
@@ -21,7 +21,7 @@ returns-in-Err-Full-default-clause-refused g c =
     let why = subst (λ e. IsSubmitRefusal c.make_room.new.self.rule c.in-Some.id e c.submit.new.self) c.in-Err-Full-default.field-0-0-is c.in-Err-Full-default.ensures.refused in (
       c.in-Some.id,
       subst (λ v. Writes v (event.Submit c.in-Some.id reply.Full) c.note-in-Err-Full-default.new.self.rule c.note-in-Err-Full-default.new.self.last) c.make_room.ensures.same.0
-          (refuse-writes _ _ _ _ c.in-Some.id reply.Full why.1 why.2 c.note-in-Err-Full-default.ensures.same.0 c.note-in-Err-Full-default.ensures.same.1),
+          (submit-writes _ _ _ _ c.in-Some.id reply.Full c.args.work why.1 why.2 c.note-in-Err-Full-default.ensures.same.0 c.note-in-Err-Full-default.ensures.same.1),
     )
 
 pub returns-in-Err-Closed-default-clause-refused : goal.returns-in-Err-Closed-default-clause-refused
@@ -29,7 +29,7 @@ returns-in-Err-Closed-default-clause-refused g c =
     let why = subst (λ e. IsSubmitRefusal c.make_room.new.self.rule c.in-Some.id e c.submit.new.self) c.in-Err-Closed-default.field-0-0-is c.in-Err-Closed-default.ensures.refused in (
       c.in-Some.id,
       subst (λ v. Writes v (event.Submit c.in-Some.id reply.Closed) c.note-in-Err-Closed-default.new.self.rule c.note-in-Err-Closed-default.new.self.last) c.make_room.ensures.same.0
-          (refuse-writes _ _ _ _ c.in-Some.id reply.Closed why.1 why.2 c.note-in-Err-Closed-default.ensures.same.0 c.note-in-Err-Closed-default.ensures.same.1),
+          (submit-writes _ _ _ _ c.in-Some.id reply.Closed c.args.work why.1 why.2 c.note-in-Err-Closed-default.ensures.same.0 c.note-in-Err-Closed-default.ensures.same.1),
     )
 
 pub returns-in-Ok-submit-clause-visit : goal.returns-in-Ok-submit-clause-visit
