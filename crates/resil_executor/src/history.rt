@@ -49,13 +49,6 @@ fn last_history(alloc: Global, last: &LastEvents) -> Result<LastHistory, AllocEr
     Ok(LastHistory { events, lost })
 }
 
-// What a record of all events holds. Errors: `AllocError` where memory runs out.
-fn all_of(alloc: Global, all: &AllEvents) -> Result<Vec<Event>, AllocError>
-    ensures { IfOk result (λ events. events.items ≡ all.now.events) }
-{
-    Vec::from_slice(alloc, all.events())
-}
-
 impl<W: Drop> Pool<W, AllEvents> {
     /// The whole history, in one turn, which writes nothing: what the pool's turns wrote up to here. Others wait while it is
     /// copied.
@@ -82,7 +75,7 @@ impl<W: Drop> Pool<W, AllEvents> {
     {
         let mut state = self.lock.take(rt, &mut visitor.seat);
         state.inner.note_nothing();
-        let events = all_of(alloc, state.inner.kept());
+        let events = Vec::from_slice(alloc, state.inner.kept().events());
         self.lock.release(&mut visitor.seat, state);
         events
     }

@@ -7,25 +7,18 @@ use resil_task::by_hand::Run;
 /// A job that a worker picked, and hasn't run yet.
 #[derive(Drop)]
 pub struct PickedJob<W> {
-    slot: Slot,
-    work: W,
+    pub(crate) slot: Slot,
+    pub(crate) work: W,
 }
 
 /// A job that was run, with what its run gave. There is no other way to get one than `PickedJob::run`.
 #[derive(Drop)]
 pub struct RanJob<O> {
-    slot: Slot,
-    output: O,
+    pub(crate) slot: Slot,
+    pub(crate) output: O,
 }
 
 impl<W> PickedJob<W> {
-    // This work, picked at this place.
-    pub(crate) fn new(slot: Slot, work: W) -> PickedJob<W>
-        ensures { (result.slot ≡ slot) × (result.work ≡ work) }
-    {
-        PickedJob { slot, work }
-    }
-
     /// The name of its submission.
     pub fn id(&self) -> Id
         ensures { result ≡ self.now.slot.id }
@@ -43,15 +36,5 @@ impl<W> PickedJob<W> {
         let PickedJob { slot, work } = self;
         let output = work.run(context);
         RanJob { slot, output }
-    }
-}
-
-impl<O> RanJob<O> {
-    // Its place, and what its run gave.
-    pub(crate) fn into_parts(self) -> (Slot, O)
-        ensures { (result.0 ≡ self.slot) × (result.1 ≡ self.output) }
-    {
-        let RanJob { output, slot } = self;
-        (slot, output)
     }
 }

@@ -334,7 +334,10 @@ impl<W: Drop, H: Record> State<W, H> {
         }
         let picked = self.rule.pick()?;
         self.note_pick(picked.origin, picked.slot.id);
-        Some(PickedJob::new(picked.slot, picked.work))
+        Some(PickedJob {
+            slot: picked.slot,
+            work: picked.work,
+        })
     }
 
     // What a turn does that finds no job: an idle worker may end.

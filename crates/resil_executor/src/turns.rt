@@ -201,18 +201,6 @@ impl<W: Drop, H: Record> Pool<W, H> {
         self.numbers(rt, visitor).closed
     }
 
-    // Whether all that was accepted is finished, in one turn, which writes nothing.
-    fn is_idle<R: Wait>(&self, rt: &R, visitor: &mut Visitor<W, H>) -> bool
-        requires mine { IsOf self.now visitor.old.seat }
-        ensures mine { IsOf self.now visitor.new.seat }
-        ensures sees { SeesMore (limits_of self.now) (known_to visitor.old.seat) (known_to visitor.new.seat) }
-        ensures idle { OnTrue result (AllFinished (events_in (known_to visitor.new.seat).seen)) }
-        ensures not_idle { OnFalse result (¬ AllFinished (events_in (known_to visitor.new.seat).seen)) }
-    {
-        let numbers = self.numbers(rt, visitor);
-        numbers.running == 0 && numbers.waiting == 0
-    }
-
     /// Waits until all that was accepted is finished, and says whether it is, as its last look saw it: at most so long, or until the
     /// clock can't be read. It looks each millisecond, and once at least. It closes nothing, writes nothing, and counts works that are
     /// submitted meanwhile (ExecutorService, `awaitTermination`, of an open pool).
@@ -236,7 +224,8 @@ impl<W: Drop, H: Record> Pool<W, H> {
     {
         let start = Instant::now(rt).ok();
         for _ in rt.forever() {
-            if self.is_idle(rt, visitor) {
+            let numbers = self.numbers(rt, visitor);
+            if numbers.running == 0 && numbers.waiting == 0 {
                 return true;
             }
             if !has_time(rt, start, duration) {

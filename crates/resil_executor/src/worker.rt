@@ -56,7 +56,7 @@ impl<W: Drop, H: Record> Pool<W, H> {
         ensures ended { SeesLast (limits_of self.now) (known_to worker.old.seat) (Finish ran.slot.id) (known_to worker.new.seat) }
         ensures output { result ≡ ran.output }
     {
-        let (slot, output) = ran.into_parts();
+        let RanJob { slot, output } = ran;
         let mut state = self.lock.take(rt, &mut worker.seat);
         state.inner.finish::<C>(slot, &output);
         self.lock.release(&mut worker.seat, state);
