@@ -2,9 +2,7 @@
 use Rattle.std.proofs.Common.{◌≡◌, ◌∷◌, [], ◌++◌, ◌||◌, ◌∙◌, Bool, true, false, List, None, nat_lt, length, slice_get, refl, sym, ap, subst, if◌then◌else◌}
 use Rattle.std.specs.List.{list_any}
 use Rattle.std.proofs.lemmas.List.Folds.{list_any-append}
-use Rattle.resil_rule.specs.Limits.{Sizes}
-use Rattle.resil_rule.specs.Admission.{reply_after}
-use Rattle.resil_rule.specs.History.{is_among, is_close, is_closed, waiting, workers, core_size, max_size, started_id, queued_id, taken_id, finished_id, accepted_id}
+use Rattle.resil_rule.specs.History.{is_among, is_close, waiting, workers, core_size, max_size, started_id, queued_id, taken_id, finished_id, accepted_id}
 use Rattle.resil_rule.specs.declared.event.Id.{Id}
 use Rattle.resil_rule.specs.declared.event.Reply.{Reply}
 use Rattle.resil_rule.specs.declared.event.Reply.TheVariants as reply
@@ -15,31 +13,26 @@ use Rattle.resil_rule.proofs.UnpickedLaws.{filtered-same, waiting-same}
 use Rattle.resil_executor.specs.Log.{IsOver}
 use Rattle.resil_executor.specs.Laws.{EndStays}
 
-still-closed : (h : List Event) (e : Event) → is_closed h ≡ true → is_closed (h ++ e ∷ []) ≡ true
-still-closed h e closed = list_any-append is_close h (e ∷ []) ∙ ap (λ (b : Bool). b || list_any is_close (e ∷ [])) closed
-
 -- an event of no job that was accepted changes nothing
 quiet-stays : (h : List Event) (e : Event) → started_id e ≡ None → queued_id e ≡ None → taken_id e ≡ None → finished_id e ≡ None → accepted_id e ≡ None → IsOver h → IsOver (h ++ e ∷ [])
 quiet-stays h e no_start no_queue no_take no_end no_accept over = record {
-  closed = still-closed h e over.closed;
+  closed = list_any-append is_close h (e ∷ []) ∙ ap (λ (b : Bool). b || list_any is_close (e ∷ [])) over.closed;
   none_waits = waiting-same h e no_queue no_take ∙ over.none_waits;
   none_runs = running-quiet h e no_start no_queue no_accept no_take no_end ∙ over.none_runs;
   all_finished = λ id was.
       ap (λ (ids : List Id). is_among id ids) (filtered-same finished_id h e no_end) ∙ over.all_finished id (sym (ap (λ (ids : List Id). is_among id ids) (filtered-same accepted_id h e no_accept)) ∙ was);
 }
 
-closed-reply : (limits : Sizes) (h : List Event) → is_closed h ≡ true → reply_after limits h ≡ reply.Closed
-closed-reply limits h closed =
-    ap (λ (b : Bool). if b then reply.Closed else if nat_lt (workers h) (core_size limits h) then reply.Core else if nat_lt (length (waiting h)) limits.queue then reply.Queued else if nat_lt (workers h) (max_size limits h) then reply.Extra else reply.Full) closed
-
-pub end-stays : EndStays
-end-stays limits h (event.Submit id r) over allowed =
-    let is : r ≡ reply.Closed = allowed.1 ∙ closed-reply limits h over.closed in
+pub end_stays : EndStays
+end_stays limits h (event.Submit id r) over allowed =
+    let is : r ≡ reply.Closed =
+    allowed.1
+    ∙ ap (λ (b : Bool). if b then reply.Closed else if nat_lt (workers h) (core_size limits h) then reply.Core else if nat_lt (length (waiting h)) limits.queue then reply.Queued else if nat_lt (workers h) (max_size limits h) then reply.Extra else reply.Full) over.closed in
     subst (λ (x : Reply). IsOver (h ++ event.Submit id x ∷ [])) (sym is) (quiet-stays h (event.Submit id reply.Closed) refl refl refl refl refl over)
-end-stays limits h (event.Take id) over allowed =
+end_stays limits h (event.Take id) over allowed =
     let none : slice_get (waiting h) 0 ≡ None = ap (λ (ids : List Id). slice_get ids 0) over.none_waits in absurd (cc (none, allowed.0))
-end-stays limits h (event.Finish id) over allowed =
+end_stays limits h (event.Finish id) over allowed =
     let none : false ≡ true = sym (ap (λ (ids : List Id). is_among id ids) over.none_runs) ∙ allowed in absurd (cc none)
-end-stays limits h event.IdleEnd over allowed = quiet-stays h event.IdleEnd refl refl refl refl refl over
-end-stays limits h event.Close over allowed = quiet-stays h event.Close refl refl refl refl refl over
-end-stays limits h (event.Resized core max) over allowed = quiet-stays h (event.Resized core max) refl refl refl refl refl over
+end_stays limits h event.IdleEnd over allowed = quiet-stays h event.IdleEnd refl refl refl refl refl over
+end_stays limits h event.Close over allowed = quiet-stays h event.Close refl refl refl refl refl over
+end_stays limits h (event.Resized core max) over allowed = quiet-stays h (event.Resized core max) refl refl refl refl refl over

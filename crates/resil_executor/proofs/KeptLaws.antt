@@ -75,13 +75,6 @@ module _ {W H : Type 0} (IsRecordOf : List Event → H → Type 0) (HasRoom : �
         → unfinished after + length (finished (e ∷ [])) ≡ unfinished v + length (accepted (e ∷ [])) → IsOwn (Some (note.Event e)) → Keeps IsRecordOf HasRoom v count r after last count' r'
     keeps-event e is counts recorded room jobs own = rw is (record { recorded = recorded; room = room; counted = counts; jobs = jobs; own = own })
 
-    -- a turn that noted the pick of an own start
-    keeps-start : (id : Id) → last ≡ Some (note.Started id) → count' ≡ count → ((h : List Event) → IsRecordOf h r → IsRecordOf (h ++ events_of last) r') → HasRoom (owed after) r' → unfinished after ≡ unfinished v
-        → Keeps IsRecordOf HasRoom v count r after last count' r'
-    keeps-start id is counts recorded room jobs =
-        let kept = rw is at recorded in
-        rw is (record { recorded = kept; room = room; counted = omega (arith, counts); jobs = omega (arith, jobs); own = tt })
-
 -- what each step does to the numbers of the rule
 module _ {W : Type 0} (v after : RuleView W) where
   pub submit-jobs : (id : Id) (work : W) (r : Reply) → is_acceptance r ≡ true → after ≡ with_submission v id work r → unfinished after + length (finished (event.Submit id r ∷ [])) ≡ unfinished v + length (accepted (event.Submit id r ∷ []))
@@ -130,7 +123,10 @@ module _ {W : Type 0} (v after : RuleView W) where
     pub pick-keeps : (p : Picked W) (last : Option Note) (count count' : ℕ) (r r' : H) → IsPicked v p after → (p.origin ≡ origin.OwnStart → last ≡ Some (note.Started p.slot.id)) → (p.origin ≡ origin.Queue → last ≡ Some (note.Event (event.Take p.slot.id)))
         → count' ≡ count → ((h : List Event) → IsRecordOf h r → IsRecordOf (h ++ events_of last) r') → HasRoom (owed after) r' → Keeps IsRecordOf HasRoom v count r after last count' r'
     pick-keeps p last count count' r r' (free, inl was) own queue counts recorded room =
-        keeps-start IsRecordOf HasRoom v after count count' last r r' p.slot.id (own was.0) counts recorded room (pick-jobs p.slot p.work free was.1 was.2)
+        let is = own was.0 in
+        let jobs = pick-jobs p.slot p.work free was.1 was.2 in
+        let kept = rw is at recorded in
+        rw is (record { recorded = kept; room = room; counted = omega (arith, counts); jobs = omega (arith, jobs); own = tt })
     pick-keeps p last count count' r r' (free, inr was) own queue counts recorded room =
         let is = queue was.0 in
         keeps-event IsRecordOf HasRoom v after count count' last r r' (event.Take p.slot.id) is (omega (arith, counts)) (λ h k. subst (λ (l : Option Note). IsRecordOf (h ++ events_of l) r') is (recorded h k)) room

@@ -1,8 +1,8 @@
 -- What holds of any lock between any two steps, read for a pool: one log, made up of what the seats wrote.
-use Rattle.std.proofs.Common.{◌≡◌, ◌≤◌, ◌<◌, ◌⊎◌, ◌+◌, inl, inr, ℕ, zero, suc, Bool, true, false, List, [], ◌∷◌, Option, length, refl, sym, ap, subst, ⊎_elim, arith}
+use Rattle.std.proofs.Common.{◌≡◌, ◌≤◌, ◌⊎◌, ◌+◌, inl, inr, ℕ, zero, suc, Bool, true, false, List, [], ◌∷◌, Option, refl, sym, ap, subst, ⊎_elim, arith}
 use Rattle.std.specs.Prelude.{filter_map}
 use mathlib.Core.Option as m
-use Rattle.resil_rule.specs.Limits.{Sizes, AreLimits}
+use Rattle.resil_rule.specs.Limits.{Sizes}
 use Rattle.resil_rule.specs.Admission.{IsLegal}
 use Rattle.resil_rule.specs.RuleView.{RuleView}
 use Rattle.resil_rule.specs.History.{times, is_among, running, finished}
@@ -55,10 +55,6 @@ either-some : (a b : ℕ) → 1 ≤ a + b → (1 ≤ a) ⊎ (1 ≤ b)
 either-some zero b some = inr (omega (arith, some))
 either-some (suc a) b some = inl (omega arith)
 
-total-same : {K E : Type 0} (f g : View K E → ℕ) → ((v : View K E) → f v ≡ g v) → (views : List (View K E)) → total f views ≡ total g views
-total-same f g same [] = refl
-total-same f g same (v ∷ views) = let here = same v in let rest = total-same f g same views in omega (arith, here, rest)
-
 module _ {W : Type 0} where
   -- the ends in the log are the finishes of its history
   pub ended-is : (log : List (Entry W)) → ended_in log ≡ finished (events_in log)
@@ -66,21 +62,17 @@ module _ {W : Type 0} where
   ended-is (entry ∷ log) = here entry.note entry.work (ended-is log)
     where
       here : (noted : Note) (work : Option W) → ended_in log ≡ finished (events_in log) → ended_in (record { note = noted; work = work } ∷ log) ≡ finished (events_in (record { note = noted; work = work } ∷ log))
-      here (note.Started x) work rest = rest
-      here (note.Event (event.Submit x r)) work rest = rest
-      here (note.Event (event.Take x)) work rest = rest
       here (note.Event (event.Finish x)) work rest = ap (λ (ids : List Id). x ∷ ids) rest
-      here (note.Event event.IdleEnd) work rest = rest
-      here (note.Event event.Close) work rest = rest
-      here (note.Event (event.Resized core max)) work rest = rest
+      here noted work rest = rest
 
   -- how often the log has a job is how often the seats wrote it
   times-total : {K : Type 0} (f : Entry W → Option Id) (id : Id) (log : List (Entry W)) (views gone : List (View K (Entry W)))
       → total (λ v. weigh (count f id) v.own) views + total (λ v. weigh (count f id) v.own) gone ≡ weigh (count f id) log
       → total (λ v. times id (filter_map f v.own)) views + total (λ v. times id (filter_map f v.own)) gone ≡ times id (filter_map f log)
-  times-total f id log views gone wrote =
-      let there = total-same (λ v. weigh (count f id) v.own) (λ v. times id (filter_map f v.own)) (λ v. weigh-count f id v.own) views in
-      let away = total-same (λ v. weigh (count f id) v.own) (λ v. times id (filter_map f v.own)) (λ v. weigh-count f id v.own) gone in
+  times-total {K} f id log views gone wrote =
+      let same : (λ (v : View K (Entry W)). weigh (count f id) v.own) ≡ (λ v. times id (filter_map f v.own)) = λ i v. weigh-count f id v.own i in
+      let there = ap (λ (g : View K (Entry W) → ℕ). total g views) same in
+      let away = ap (λ (g : View K (Entry W) → ℕ). total g gone) same in
       let all = weigh-count f id log in
       omega (arith, there, away, all, wrote)
 
@@ -115,26 +107,11 @@ module _ {W : Type 0} where
         let one = once-done _ (events_in k.log) stood.state.legal id in
         omega (arith, outs, runs, same, one)
 
-    at-once : AreLimits (limits_of key) → length (running (events_in k.log)) ≤ (limits_of key).max
-    at-once sizes =
-        let few = running-within_workers (limits_of key) (events_in k.log) legal in
-        let most = workers-within_opening (limits_of key) (events_in k.log) sizes legal in
-        omega (arith, few, most)
-
-    out-runs : (id : Id) → times id (ended_in k.log) < times id (picked_in k.log) → is_among id (running (events_in k.log)) ≡ true
-    out-runs id due = among-some id (running (events_in k.log)) (let outs = stood.outs id in let runs = stood.state.runs id in omega (arith, outs, runs, due))
-
-    one-seat : (id : Id) (index other : ℕ) (v u : View K (Entry W)) → IsSeatAt views index v → IsSeatAt views other u → is_among id (picked_in v.own) ≡ true → is_among id (picked_in u.own) ≡ true → index ≡ other
-    one-seat id index other v u at at' picked picked' =
-        let all = picks id in
-        let few = once id in
-        one-of (λ v. times id (picked_in v.own)) views (omega (arith, all, few)) index other v u at at' (somewhere id (picked_in v.own) picked) (somewhere id (picked_in u.own) picked')
-
-    there-ended : (index : ℕ) (v : View K (Entry W)) (id : Id) → IsSeatAt views index v → 1 ≤ times id (ended_in v.own) → is_there v.phase ≡ true
-    there-ended index v id at ended = go (is_there v.phase) refl
+    fits-ended : (index : ℕ) (v : View K (Entry W)) (id : Id) → IsSeatAt views index v → 1 ≤ times id (ended_in v.own) → MayHaveWritten v.rank v.own
+    fits-ended index v id at ended = go (is_there v.phase) refl
       where
-        go : (b : Bool) → is_there v.phase ≡ b → is_there v.phase ≡ true
-        go true is = is
+        go : (b : Bool) → is_there v.phase ≡ b → MayHaveWritten v.rank v.own
+        go true is = k.fits index v at is
         go false is = let none = ap (λ (own : List (Entry W)). times id (ended_in own)) (k.spent index v at is) in absurd (omega (arith, none, ended))
 
     all-run : (id : Id) → is_among id (finished (events_in k.log)) ≡ true → IsRunBySeat views k.gone id
@@ -145,7 +122,7 @@ module _ {W : Type 0} where
         ⊎_elim
         (λ here.
         let s = some-of (λ v. times id (ended_in v.own)) views here in
-        let w = worker-ended s.1 id (k.fits s.0 s.1 s.2 (there-ended s.0 s.1 id s.2 s.3)) s.3 in
+        let w = worker-ended s.1 id (fits-ended s.0 s.1 id s.2 s.3) s.3 in
         record { index = s.0; seat = s.1; among = inl s.2; works = w.0; picked = w.1; ended = w.2 })
         (λ away.
         let s = some-of (λ v. times id (ended_in v.own)) k.gone away in
@@ -163,11 +140,17 @@ module _ {W : Type 0} where
       gone_fits = k.gone_fits;
       picks = picks;
       ends = ends;
-      at_once = at-once;
-      out_runs = out-runs;
+      at_once = λ sizes.
+          let few = running-within_workers (limits_of key) (events_in k.log) legal in
+          let most = workers-within_opening (limits_of key) (events_in k.log) sizes legal in
+          omega (arith, few, most);
+      out_runs = λ id due. among-some id (running (events_in k.log)) (let outs = stood.outs id in let runs = stood.state.runs id in omega (arith, outs, runs, due));
       once = once;
       ended_few = λ id. let outs = stood.outs id in omega (arith, outs);
       finishes = ended-is k.log;
-      one_seat = one-seat;
+      one_seat = λ id index other v u at at' picked picked'.
+          let all = picks id in
+          let few = once id in
+          one-of (λ v. times id (picked_in v.own)) views (omega (arith, all, few)) index other v u at at' (somewhere id (picked_in v.own) picked) (somewhere id (picked_in u.own) picked');
       all_run = all-run;
     }

@@ -14,9 +14,6 @@ use Rattle.resil_executor.specs.Turn.{Picks}
 use Rattle.resil_executor.specs.Laws.{PickedIsEnded, EndedWasPicked, OnlyWorkersPick}
 use Rattle.resil_executor.proofs.LogLaws.{one-some, one-none, more-some, more-none}
 
-one-of : (id other : Id) → id ∷ [] ≡ other ∷ [] → id ≡ other
-one-of id other e = cc
-
 module _ {W C O : Type 0} (K : Type 0) (HasRun : C → W → O → C → Type 0) where
   pub picked-ended : PickedIsEnded K HasRun
   picked-ended limits before after id work p w =
@@ -33,7 +30,8 @@ module _ {W C O : Type 0} (K : Type 0) (HasRun : C → W → O → C → Type 0)
       let part : p.entry ∷ end ∷ [] ≡ w.part = append_cancel_left before.own (p.entry ∷ end ∷ []) w.part (sym own ∙ w.wrote) in
       let ended : ended_in (p.entry ∷ end ∷ []) ≡ other ∷ [] = more-some (λ (e : Entry W). ended_id e.note) (p.entry ∷ []) end other refl ∙ ap (λ (l : List Id). l ++ other ∷ []) (one-none (λ (e : Entry W). ended_id e.note) p.entry p.ended) in
       let picked : picked_in (p.entry ∷ end ∷ []) ≡ id ∷ [] = more-none (λ (e : Entry W). picked_id e.note) (p.entry ∷ []) end refl ∙ one-some (λ (e : Entry W). picked_id e.note) p.entry id p.picked in
-      one-of other id (sym ended ∙ (ap ended_in part ∙ (w.same ∙ (ap picked_in (sym part) ∙ picked))))
+      let same : ◌≡◌ {A = List Id} (other ∷ []) (id ∷ []) = sym ended ∙ (ap ended_in part ∙ (w.same ∙ (ap picked_in (sym part) ∙ picked))) in
+      cc (same)
 
 module _ {W : Type 0} where
   no-pick : (who : Rank) (own : List (Entry W)) (v after : RuleView W) (last : Option Note) (id : Id) (work : W) → (who ≡ rank.Worker → ⊥) → Picks v id work after last → MayHaveWritten who (own ++ entries_of after last) → ⊥

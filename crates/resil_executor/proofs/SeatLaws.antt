@@ -1,5 +1,6 @@
 -- What a seat sees of what its turn wrote, and what it may have written.
-use Rattle.std.proofs.Common.{◌≡◌, ◌⊎◌, ◌≤◌, ◌<◌, ◌+◌, inl, inr, ℕ, Bool, true, false, cond, List, [], ◌∷◌, ◌++◌, ◌∙◌, Option, Some, None, length, sym, refl, ap, subst, arith, append-nil}
+use Rattle.std.proofs.Common.{◌≡◌, ◌⊎◌, ◌≤◌, ◌+◌, inl, inr, ℕ, Bool, true, false, cond, List, [], ◌++◌, ◌∙◌, Option, Some, None, length, sym, refl, ap, subst, arith, append-nil}
+use Rattle.std.proofs.lemmas.List.{nil_from_length}
 use Rattle.std.specs.Prelude.{IfErr, IfOk, OnOk, OnErr, Result, Ok, Err, Contains}
 use Rattle.std.specs.Bool.{OnTrue, OnFalse}
 use mathlib.Core.List.{IsPrefix}
@@ -124,14 +125,8 @@ module _ {W K : Type 0} {limits : Sizes} {old locked new : View K (Entry W)} {v 
   refusal-sees refused.Memory w = let sees = more-sees w in (sees.begins, sees.wrote)
 
   -- how many submissions there are by now
-  made-new : Steps v last after → made_by after 1 ≡ length (submissions (events_in new.seen) 1)
+  pub made-new : Steps v last after → made_by after 1 ≡ length (submissions (events_in new.seen) 1)
   made-new steps = let now = stands steps in now.state.made_are 1 ∙ ap (λ (xs : List (Entry W)). length (submissions (events_in xs) 1)) (sym t.saw)
-
-  pub counted-sees : Steps v last after → made_by after 1 ≤ 18446744073709551615 → length (submissions (events_in new.seen) 1) ≤ 18446744073709551615
-  counted-sees steps few = let made = made-new steps in omega (arith, made, few)
-
-  pub uncounted-sees : Steps v last after → made_by after 1 < 18446744073709551615 → length (submissions (events_in new.seen) 1) < 18446744073709551615
-  uncounted-sees steps few = let made = made-new steps in omega (arith, made, few)
 
   -- the pool was closed before the turn, and so it is after
   pub closed-sees : WritesNone v after last × (v.closed ≡ true) → SeesMore limits old new × (is_closed (events_in new.seen) ≡ true)
@@ -285,30 +280,28 @@ module _ {W : Type 0} where
   over-is limits log v s now =
       let none_waits : waiting (events_in log) ≡ [] = sym s.state.waiting_is ∙ ap ids_of now.1 in
       let few : length (running (events_in log)) ≡ 0 = sym s.state.numbers.running_are ∙ now.2 in
-      let none_runs = no-length (running (events_in log)) few in record {
+      let none_runs = nil_from_length (running (events_in log)) few in record {
         closed = sym s.state.numbers.closed_is ∙ now.0;
         none_waits = none_waits;
         none_runs = none_runs;
         all_finished = λ id known. all-done v.limits (events_in log) s.state.legal none_waits none_runs id known;
       }
-    where
-      no-length : (xs : List Id) → length xs ≡ 0 → xs ≡ []
-      no-length [] e = refl
-      no-length (x ∷ xs) e = absurd (omega (arith, e))
 
 -- what a worker's turn tells it
 module _ {W K : Type 0} {limits : Sizes} {old locked new : View K (Entry W)} {v after : RuleView W} {last : Option Note} (t : HasTurned limits old locked new v after last)
     (works : locked.rank ≡ rank.Worker) (may : MayHaveWritten locked.rank locked.own) (covered : IsCovered MayHaveWritten locked.seen locked.own) where
-  found-tells : (id : Id) (work : W) → Picks v id work after last → HasPicked limits id work old new
-  found-tells id work p = record {
+  pub look-found : (look : Look W) → OnFound look (λ slot work. Picks v slot.id work after last) → OnFound look (λ slot work. HasPicked limits slot.id work old new)
+  look-found Nothing p = p
+  look-found Over p = p
+  look-found (Found picked) p = record {
     begins = begins-new t;
     legal = legal-new t p.steps;
     entry = entry_of after p.noted;
     wrote = wrote-new t ∙ ap (λ (l : Option Note). old.own ++ entries_of after l) p.wrote;
     picked = p.picked;
     ended = p.ended;
-    known = subst (λ (xs : List (Entry W)). Contains (accepted_in xs) (id, work)) (sym t.saw) (still-there (λ (e : Entry W). job_of e.note e.work) locked.seen (entries_of after last) (id, work) (p.known limits locked.seen t.found));
-    due = subst (λ (xs : List (Entry W)). IsDue id xs) (sym t.wrote) (due-pick locked.rank locked.own v after last id work may p);
+    known = subst (λ (xs : List (Entry W)). Contains (accepted_in xs) (picked.slot.id, picked.work)) (sym t.saw) (still-there (λ (e : Entry W). job_of e.note e.work) locked.seen (entries_of after last) (picked.slot.id, picked.work) (p.known limits locked.seen t.found));
+    due = subst (λ (xs : List (Entry W)). IsDue picked.slot.id xs) (sym t.wrote) (due-pick locked.rank locked.own v after last picked.slot.id picked.work may p);
   }
 
   rest-tells : Steps v last after × IsPlain after last → HasRested limits old new
@@ -321,43 +314,22 @@ module _ {W K : Type 0} {limits : Sizes} {old locked new : View K (Entry W)} {v 
     ended = p.1.1;
   }
 
-  over-tells : Steps v last after × IsPlain after last → IsOverNow after → SeesOver limits new
-  over-tells p now = record {
-    legal = legal-new t p.0;
-    over = subst (λ (xs : List (Entry W)). IsOver (events_in xs)) (sym t.saw) (over-is limits (locked.seen ++ entries_of after last) after (p.0 limits locked.seen t.found) now);
-    once = once;
-  }
-    where
-      once : (id : Id) → times id (picked_in new.own) ≤ 1
-      once id =
-          let same : picked_in new.own ≡ picked_in locked.own = ap picked_in t.wrote ∙ more-empty (λ (e : Entry W). picked_id e.note) locked.own (entries_of after last) p.1.0 in
-          let few = picked-once limits locked.seen locked.own v t.found covered id in
-          let count' = ap (times id) same in
-          omega (arith, few, count')
-
-  pub look-found : (look : Look W) → OnFound look (λ slot work. Picks v slot.id work after last) → OnFound look (λ slot work. HasPicked limits slot.id work old new)
-  look-found (Found p) h = found-tells p.slot.id p.work h
-  look-found Nothing h = h
-  look-found Over h = h
-
   pub look-nothing : (look : Look W) → OnNothing look (Steps v last after × IsPlain after last) → OnNothing look (HasRested limits old new)
   look-nothing (Found p) h = h
   look-nothing Nothing h = rest-tells h
   look-nothing Over h = rest-tells h
 
   pub look-over : (look : Look W) → OnNothing look (Steps v last after × IsPlain after last) → OnOver look (IsOverNow after) → OnOver look (SeesOver limits new)
-  look-over (Found p) h o = o
-  look-over Nothing h o = o
-  look-over Over h o = over-tells h o
-
--- clauses, by what came back
-pub on-true-map : {P Q : Type 0} → (P → Q) → (b : Bool) → OnTrue b P → OnTrue b Q
-on-true-map f true h = f h
-on-true-map f false h = h
-
-pub on-false-map : {P Q : Type 0} → (P → Q) → (b : Bool) → OnFalse b P → OnFalse b Q
-on-false-map f true h = h
-on-false-map f false h = f h
+  look-over (Found picked) p now = now
+  look-over Nothing p now = now
+  look-over Over p now = record {
+    legal = legal-new t p.0;
+    over = subst (λ (xs : List (Entry W)). IsOver (events_in xs)) (sym t.saw) (over-is limits (locked.seen ++ entries_of after last) after (stands t p.0) now);
+    once = λ id.
+        let same = ap (times id) (ap picked_in t.wrote ∙ more-empty (λ (e : Entry W). picked_id e.note) locked.own (entries_of after last) p.1.0) in
+        let few = picked-once limits locked.seen locked.own v t.found covered id in
+        omega (arith, few, same);
+  }
 
 -- each way that a turn may go keeps what the rule stands for
 module _ {W : Type 0} (v after : RuleView W) (last : Option Note) where

@@ -26,17 +26,9 @@ module _ {W K : Type 0} where
   last-begins : (limits : Sizes) (before after : View K (Entry W)) (event : Event) → SeesLast limits before event after → IsPrefix before.seen after.seen
   last-begins limits before after event s = prefix-more before.seen s.log _ after.seen s.begins s.ends
 
-module _ {W C O : Type 0} (HasRun : C → W → O → C → Type 0) where
-  -- what was ended was accepted and run
-  abbrev WereRun : List (Entry W) → List Id → Type 0
-  WereRun seen ids = (id : Id) → Contains ids id → (work : W) × Contains (accepted_in seen) (id, work) × WasRun HasRun work
-
-  none-run : (seen : List (Entry W)) (ids : List Id) → ids ≡ [] → WereRun seen ids
-  none-run seen ids none id there = absurd (nothing-there ids id none there)
-
 module _ {W C O K : Type 0} (limits : Sizes) (HasRun : C → W → O → C → Type 0) where
   pub works-none : (a : View K (Entry W)) → HasWorked limits HasRun a a
-  works-none a = record { begins = ([], append-nil a.seen); part = []; wrote = sym (append-nil a.own); same = refl; ran = none-run HasRun a.seen [] refl }
+  works-none a = record { begins = ([], append-nil a.seen); part = []; wrote = sym (append-nil a.own); same = refl; ran = λ id there. absurd (nothing-there [] id refl there) }
 
   pub ran-works : (a b c : View K (Entry W)) (id ran_id : Id) (work : W) → HasPicked limits id work a b → SeesLast limits b (event.Finish ran_id) c → ran_id ≡ id → WasRun HasRun work → HasWorked limits HasRun a c
   ran-works a b c id ran_id work p f same_id ran = record {

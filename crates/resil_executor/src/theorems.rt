@@ -50,6 +50,7 @@ pub fn only_workers_pick<W>()
 /// ```
 /// end_stays(); // From here on a proof has EndStays.
 /// ```
+#[tactic(auto, using(crate::proofs::EndLaws::end_stays))]
 pub fn end_stays()
     ensures { EndStays }
 {}

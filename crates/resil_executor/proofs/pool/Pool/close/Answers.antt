@@ -1,5 +1,6 @@
 -- What the turn leaves and tells.
 use Rattle.std.proofs.Common.{◌∙◌, rules}
+use Rattle.std.proofs.lemmas.Bool.{OnTrue_at, OnTrue_from, OnFalse_at, OnFalse_from}
 use Rattle.resil_rule.specs.declared.event.Event.TheVariants as event
 use Rattle.resil_executor.proofs.SeatLaws as seats
 use Rattle.resil_executor.proofs.pool.Pool.close.Goals as goal
@@ -14,6 +15,6 @@ pub returns : goal.returns
 returns g c =
     let turn = seats.turned c.args.closer.now.seat.me.0 c.take-state.new.seat.me.0 c.release.new.seat.me.0 c.close-closes.new.self (c.deref_mut.ensures.value ∙ c.state.view_is) c.take-state.ensures.home.0 c.take-state.ensures.key c.requires.mine.1 c.take-state.ensures.begins c.take-state.ensures.own c.release.ensures.seen in record {
       mine = search rules;
-      closed = seats.on-true-map (seats.last-sees turn event.Close) c.close-closes.result c.close-closes.ensures.closed;
-      was_closed = seats.on-false-map (seats.closed-sees turn) c.close-closes.result c.close-closes.ensures.was_closed;
+      closed = OnTrue_from _ _ (λ is. seats.last-sees turn event.Close (OnTrue_at is c.close-closes.ensures.closed));
+      was_closed = OnFalse_from _ _ (λ is. seats.closed-sees turn (OnFalse_at is c.close-closes.ensures.was_closed));
     }

@@ -1,5 +1,5 @@
 -- What the turn leaves and tells.
-use Rattle.std.proofs.Common.{◌∙◌, rules}
+use Rattle.std.proofs.Common.{◌∙◌, ◌<◌, ◌≤◌, subst, rules}
 use Rattle.std.proofs.lemmas.Result.{IfOk-weaker, IfErr-weaker}
 use Rattle.resil_executor.proofs.SeatLaws as seats
 use Rattle.resil_executor.proofs.pool.Pool.submit_job.Goals as goal
@@ -18,12 +18,12 @@ release-requires-clause-fits g c = seats.fits-visit _ _ c.submit-answer.new.self
 pub returns : goal.returns
 returns g c =
     let turn = seats.turned c.args.visitor.now.seat.me.0 c.take-state.new.seat.me.0 c.release.new.seat.me.0 c.submit-answer.new.self (c.deref_mut.ensures.value ∙ c.state.view_is) c.take-state.ensures.home.0 c.take-state.ensures.key c.requires.mine.1 c.take-state.ensures.begins c.take-state.ensures.own c.release.ensures.seen in
-    let steps = seats.submit-steps _ _ _ _ _ c.submit-answer.ensures.accepted c.submit-answer.ensures.refused in record {
+    let made = seats.made-new turn (seats.submit-steps _ _ _ _ _ c.submit-answer.ensures.accepted c.submit-answer.ensures.refused) in record {
       mine = search rules;
       accepted = IfOk-weaker c.submit-answer.result _ _ (λ r. seats.accepted-sees turn r.0 r.1 c.args.work) c.submit-answer.ensures.accepted;
       refused = IfErr-weaker c.submit-answer.result _ _ (λ e. seats.refusal-sees turn e.0) c.submit-answer.ensures.refused;
-      memory = IfErr-weaker c.submit-answer.result _ _ (λ e lacks is. ((lacks is).0, seats.uncounted-sees turn steps (lacks is).1)) c.submit-answer.ensures.memory;
-      counted = seats.counted-sees turn steps c.submit-answer.ensures.counted;
+      memory = IfErr-weaker c.submit-answer.result _ _ (λ e lacks is. ((lacks is).0, subst (λ n. n < 18446744073709551615) made (lacks is).1)) c.submit-answer.ensures.memory;
+      counted = subst (λ n. n ≤ 18446744073709551615) made c.submit-answer.ensures.counted;
       own = c.submit-answer.ensures.own;
       acceptance = c.submit-answer.ensures.acceptance;
       work_back = c.submit-answer.ensures.work_back;
