@@ -440,14 +440,10 @@ module _ {K E S : Type 0} (R : K → List E → S → Type 0) (F : Rank → List
 pub tells-at : {K E S : Type 0} (written : S → List E) (how : Step (Option S)) (stored : ℕ) (old new seat : Me (Option S) (View K E)) → old ≡ new → AfterRelease written how old stored seat → AfterRelease written how new stored seat
 tells-at written how stored old new seat is told = subst (λ (me : _). AfterRelease written how me stored seat) is told
 
--- a join: the holder is as it was
-pub record IsJoinedBy {K E S : Type 0} (F : Rank → List E → Type 0) (own : ℕ → E → Bool) (old new : Me (Option S) (View K E)) (u : View K E) : Type 0 where
-  pub same : new ≡ old
-  pub joined : HasAllOf F own u.number u.seen old.0.seen
-
+-- after a join the holder is as it was
 pub told-of-joined : {K E S : Type 0} (F : Rank → List E → Type 0) (own : ℕ → E → Bool) (how : Step (Option S)) (found : ℕ) (old mid new : Me (Option S) (View K E)) (u : View K E) → old.0.phase ≡ Holding → mid ≡ (joining_view old.0 u, old.1)
-    → AfterJoin F own how mid found new → IsJoinedBy F own old new u
+    → AfterJoin F own how mid found new → (new ≡ old) × HasAllOf F own u.number u.seen old.0.seen
 told-of-joined {K} {E} {S} F own how found old mid new u holds is told =
     let t : AfterJoin F own how (joining_view old.0 u, old.1) found new = subst (λ (me : Me (Option S) (View K E)). AfterJoin F own how me found new) is told in
     let back : holder_view old.0 old.0.seen ≡ old.0 = ap (λ (p : Phase E). view_of old.0.key old.0.rank old.0.number old.0.made p old.0.seen old.0.own) (sym holds) in
-    record { same = λ i. ((t.view ∙ back) i, t.slot i); joined = t.joined }
+    (λ i. ((t.view ∙ back) i, t.slot i), t.joined)

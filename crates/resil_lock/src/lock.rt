@@ -8,7 +8,7 @@ ghost use Rattle.resil_lock.specs.Lock.{TookLock, IsCovered, IsNumbering, first_
 ghost use Rattle.resil_lock.specs.declared.protocol.Phase.TheVariants.{Idle, Holding};
 ghost use Rattle.resil_lock.specs.declared.protocol.Rank.TheVariants as rank;
 
-use crate::bell::{Bell, Sleeper};
+use crate::bell::Bell;
 use crate::door::Door;
 use crate::protocol::{
     Admit, ComeIn, EndJoin, Guarded, Hire, LockRule, LockSeat, Merge, ReleaseLock, TakeLock, View,
@@ -31,9 +31,9 @@ pub struct Lock<S: Guarded> {
     /// The word and the slot.
     pub table: Table<Option<S>, View<S::Key, S::Entry>, S::Key, LockRule<S>, Global>,
     // Where workers wait that find nothing to do.
-    bell: Bell,
+    pub(crate) bell: Bell,
     // Where seats wait that find the lock taken.
-    door: Door,
+    pub(crate) door: Door,
     ghost one_word: { table.shared.table_id.words ≡ 1 },
 }
 
@@ -222,18 +222,6 @@ impl<S: Guarded> Lock<S> {
     /// Wakes all workers that sleep.
     pub fn ring_for_all(&self) {
         self.bell.ring_for_all();
-    }
-
-    // A worker has found something to do. Where it was the one that looked, another one is woken if there is more.
-    pub(crate) fn has_found(&self, sleeper: &mut Sleeper) {
-        sleeper.found(&self.bell);
-    }
-
-    // A worker has found nothing to do. It lets in a seat that sleeps at the door, and sleeps until there may be
-    // something: 1 ms at first, and 64 ms at most.
-    pub(crate) fn sleep<R: Wait>(&self, rt: &R, sleeper: &mut Sleeper) {
-        self.door.call_in();
-        sleeper.wait(rt, &self.bell);
     }
 }
 

@@ -26,7 +26,7 @@ pub returns : goal.returns
 returns g c =
     let told = told-of-joined g.S.Guarded.MayHaveWritten g.S.Guarded.is_own _ _ c.args.holder.now.me c.join_seat.new.seat.me c.load.new.seat.me c.args.from.me.0 c.requires.holds c.join_seat.ensures.2 c.load.ensures.2 in record {
       source = c.load.ensures.0 ∙ c.join_seat.ensures.0;
-      same = told.same;
-      begins = told.joined.begins;
-      same_own = told.joined.same_own;
+      same = told.0;
+      begins = told.1.begins;
+      same_own = told.1.same_own;
     }
