@@ -169,14 +169,6 @@ opener-not e = absurd (cc e)
 pub worker-not : rank.Worker ≡ rank.Visitor → ⊥
 worker-not e = absurd (cc e)
 
--- by whether two ids are one
-few-same : (id x : Id) → ◌≡◌ {A = ℕ} (cond (is_same_id id x) 1 0) 0 ⊎ ((id ≡ x) × ◌≡◌ {A = ℕ} (cond (is_same_id id x) 1 0) 1)
-few-same id x = go (is_same_id id x) refl
-  where
-    go : (b : Bool) → is_same_id id x ≡ b → ◌≡◌ {A = ℕ} (cond (is_same_id id x) 1 0) 0 ⊎ ((id ≡ x) × ◌≡◌ {A = ℕ} (cond (is_same_id id x) 1 0) 1)
-    go true same = inr (same_id-equal id x same, ap {B = ℕ} (λ (b : Bool). cond b 1 0) same)
-    go false other = inl (ap {B = ℕ} (λ (b : Bool). cond b 1 0) other)
-
 -- what a seat may have written
 module _ {W : Type 0} where
   -- after entries with no pick and no end
@@ -228,17 +220,19 @@ module _ {W : Type 0} where
       omega (arith, more.0, more.1, old, one)
 
   pub finish-fits : (who : Rank) (own : List (Entry W)) (v after : RuleView W) (last : Option Note) (id : Id) → who ≡ rank.Worker → IsDue id own → Writes v (event.Finish id) after last → MayHaveWritten who own → MayHaveWritten who (own ++ entries_of after last)
-  finish-fits who own v after last id is due w fits = record { balanced = each; workers = inl is; visitors = λ other. absurd (worker-not (sym is ∙ other)) }
+  finish-fits who own v after last id is due w fits = record { balanced = λ x. balanced x (is_same_id id x) refl; workers = inl is; visitors = λ other. absurd (worker-not (sym is ∙ other)) }
     where
-      each : (x : Id) → times x (ended_in (own ++ entries_of after last)) ≤ times x (picked_in (own ++ entries_of after last))
-      each x =
+      by_case : (x : Id) (b : Bool) → is_same_id id x ≡ b → times x (ended_in own) + cond b 1 0 ≤ times x (picked_in own)
+      by_case x true is_same = let here : IsDue x own = subst (λ (i : Id). IsDue i own) (same_id-equal id x is_same) due in omega (arith, here)
+      by_case x false _ = let old = fits.balanced x in omega (arith, old)
+
+      balanced : (x : Id) (b : Bool) → is_same_id id x ≡ b → times x (ended_in (own ++ entries_of after last)) ≤ times x (picked_in (own ++ entries_of after last))
+      balanced x b is_same =
           let same = ap (λ (l : Option Note). times x (picked_in (own ++ entries_of after l))) w.wrote ∙ ap (times x) (more-none (λ (e : Entry W). picked_id e.note) own (entry_of after (note.Event (event.Finish id))) refl) in
           let more = ap (λ (l : Option Note). times x (ended_in (own ++ entries_of after l))) w.wrote ∙ (ap (times x) (more-some (λ (e : Entry W). ended_id e.note) own (entry_of after (note.Event (event.Finish id))) id refl) ∙ times-last x id (ended_in own)) in
-          let old = fits.balanced x in
-          elim (few-same id x) [
-            | inl none ↦ omega (arith, same, more, old, none)
-            | inr (it, one) ↦ (let here : IsDue x own = subst (λ (i : Id). IsDue i own) it due in omega (arith, same, more, here, one))
-          ]
+          let one = ap {B = ℕ} (λ (b : Bool). cond b 1 0) is_same in
+          let few : times x (ended_in own) + cond b 1 0 ≤ times x (picked_in own) = by_case x b is_same in
+          omega (arith, same, more, one, few)
 
   pub look-fits : (who : Rank) (own : List (Entry W)) (v after : RuleView W) (last : Option Note) (look : Look W) → who ≡ rank.Worker → OnFound look (λ slot work. Picks v slot.id work after last) → OnNothing look (Steps v last after × IsPlain after last)
       → MayHaveWritten who own → MayHaveWritten who (own ++ entries_of after last)

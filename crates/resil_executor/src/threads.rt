@@ -132,9 +132,7 @@ impl<C: Copy> Workers<C> {
         ensures keep_alive { IfOk result (λ workers. workers.keep_alive ≡ keep_alive) }
     {
         let mut contexts = Vec::new(alloc);
-        for _ in 0..threads {
-            contexts.push(context)?;
-        }
+        contexts.resize(threads as usize, context)?;
         Ok(Workers {
             contexts,
             own: context,
