@@ -150,32 +150,6 @@ impl<S: Guarded> Lock<S> {
         }
     }
 
-    // The state, out of the slot of a seat that holds the lock.
-    fn take_from_slot(&self, seat: &mut LockSeat<S, S::Key, S::Entry>) -> S
-        requires source { seat.old.table_id ≡ self.now.table.shared.table_id }
-        requires slot { (state : S) × (seat.old.me.1 ≡ (0, Some state) ∷ []) }
-        ensures source { seat.new.table_id ≡ seat.old.table_id }
-        ensures slot { seat.old.me.1 ≡ (0, Some result) ∷ [] }
-        ensures me { seat.new.me ≡ (seat.old.me.0, (0, None) ∷ []) }
-    {
-        let Some(state) = self.table.shared.exchange(seat, 0, None) else {
-            unreachable!()
-        };
-        state
-    }
-
-    // Puts the state into the slot of a seat that holds the lock, and says whether there is something to do.
-    fn put_in_slot(&self, seat: &mut LockSeat<S, S::Key, S::Entry>, state: S)
-        requires source { seat.old.table_id ≡ self.now.table.shared.table_id }
-        requires slot { seat.old.me.1 ≡ (0, None) ∷ [] }
-        ensures source { seat.new.table_id ≡ seat.old.table_id }
-        ensures me { seat.new.me ≡ (seat.old.me.0, (0, Some state) ∷ []) }
-    {
-        self.bell.set_ready(state.has_work());
-        let vacant = self.table.shared.exchange(seat, 0, Some(state));
-        drop(vacant);
-    }
-
     /// Takes the lock and the state. The state stands for the whole log, which begins with what the seat had seen. It
     /// waits until no other seat holds the lock.
     pub fn take<R: Wait>(&self, rt: &R, seat: &mut LockSeat<S, S::Key, S::Entry>) -> S
@@ -194,7 +168,10 @@ impl<S: Guarded> Lock<S> {
         ensures covered { IsCovered S.MayHaveWritten seat.new.me.0.seen seat.new.me.0.own }
     {
         self.spin(rt, seat);
-        self.take_from_slot(seat)
+        let Some(state) = self.table.shared.exchange(seat, 0, None) else {
+            unreachable!()
+        };
+        state
     }
 
     /// Puts the state back and releases the lock. The log grows by what the turn wrote.
@@ -209,7 +186,9 @@ impl<S: Guarded> Lock<S> {
         ensures slot { seat.new.me.1 ≡ [] }
         ensures seen { seat.new.me.0 ≡ left_view seat.old.me.0 (S.written state) }
     {
-        self.put_in_slot(seat, state);
+        self.bell.set_ready(state.has_work());
+        let vacant = self.table.shared.exchange(seat, 0, Some(state));
+        drop(vacant);
         self.table.shared.store::<ReleaseLock<S>>(seat, 0, 0);
         self.door.open();
     }
