@@ -112,13 +112,9 @@ module _ {W : Type 0} (v after : RuleView W) where
       omega (arith, e, fewer)
 
   module _ {H : Type 0} (IsRecordOf : List Event → H → Type 0) (HasRoom : ℕ → H → Type 0) where
-    pub pick-started : (p : Picked W) (r : H) → IsPicked v p after → HasRoom (owed v) r → p.origin ≡ origin.OwnStart → HasRoom (owed after) r
-    pick-started p r (free, inl was) room own = subst (λ (n : ℕ). HasRoom n r) (sym (pick-owes v after p.slot p.work free was.1 was.2)) room
-    pick-started p r (free, inr was) room own = absurd (cc (sym own ∙ was.0))
-
-    pub pick-took : (p : Picked W) (r : H) → IsPicked v p after → HasRoom (owed v) r → p.origin ≡ origin.Queue → HasRoom (suc (owed after)) r
-    pick-took p r (free, inl was) room queue = absurd (cc (sym queue ∙ was.0))
-    pick-took p r (free, inr was) room queue = subst (λ (n : ℕ). HasRoom n r) (sym (take-owes v after p.slot p.work free was.2 was.3)) room
+    pub pick-room : (p : Picked W) (r : H) → IsPicked v p after → HasRoom (owed v) r → (p.origin ≡ origin.OwnStart → HasRoom (owed after) r) × (p.origin ≡ origin.Queue → HasRoom (suc (owed after)) r)
+    pick-room p r (free, inl was) room = (λ own. subst (λ (n : ℕ). HasRoom n r) (sym (pick-owes v after p.slot p.work free was.1 was.2)) room, λ queue. absurd (cc (sym queue ∙ was.0)))
+    pick-room p r (free, inr was) room = (λ own. absurd (cc (sym own ∙ was.0)), λ queue. subst (λ (n : ℕ). HasRoom n r) (sym (take-owes v after p.slot p.work free was.2 was.3)) room)
 
     pub pick-keeps : (p : Picked W) (last : Option Note) (count count' : ℕ) (r r' : H) → IsPicked v p after → (p.origin ≡ origin.OwnStart → last ≡ Some (note.Started p.slot.id)) → (p.origin ≡ origin.Queue → last ≡ Some (note.Event (event.Take p.slot.id)))
         → count' ≡ count → ((h : List Event) → IsRecordOf h r → IsRecordOf (h ++ events_of last) r') → HasRoom (owed after) r' → Keeps IsRecordOf HasRoom v count r after last count' r'

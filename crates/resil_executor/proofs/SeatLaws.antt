@@ -1,5 +1,5 @@
 -- What a seat sees of what its turn wrote, and what it may have written.
-use Rattle.std.proofs.Common.{◌≡◌, ◌⊎◌, ◌≤◌, ◌+◌, inl, inr, ℕ, Bool, true, false, cond, List, [], ◌++◌, ◌∙◌, Option, Some, None, length, sym, refl, ap, subst, arith, append-nil}
+use Rattle.std.proofs.Common.{◌≡◌, ◌≤◌, ◌+◌, inl, inr, ℕ, Bool, true, false, cond, List, [], ◌++◌, ◌∙◌, Option, Some, None, length, sym, refl, ap, subst, arith, append-nil}
 use Rattle.std.proofs.lemmas.List.{nil_from_length}
 use Rattle.std.specs.Prelude.{IfErr, IfOk, OnOk, OnErr, Result, Ok, Err, Contains}
 use Rattle.std.specs.Bool.{OnTrue, OnFalse}
@@ -159,10 +159,6 @@ pub few-accepted : {W H : Type 0} (IsRecordOf : List Event → H → Type 0) (Ha
     → count ≤ made_by v 1
 few-accepted IsRecordOf HasRoom limits log v count r s k = let made = s.state.made_are 1 in let answered = k.answered in let counted = k.counted in omega (arith, made, answered, counted)
 
--- and no more jobs are left than were accepted
-pub few-unfinished : {W H : Type 0} (IsRecordOf : List Event → H → Type 0) (HasRoom : ℕ → H → Type 0) (log : List (Entry W)) (v : RuleView W) (count : ℕ) (r : H) → KeepsUp IsRecordOf HasRoom log v count r → unfinished v ≤ count
-few-unfinished IsRecordOf HasRoom log v count r k = let jobs = k.jobs in omega (arith, jobs)
-
 pub opener-not : rank.Opener ≡ rank.Visitor → ⊥
 opener-not e = absurd (cc e)
 
@@ -190,9 +186,6 @@ module _ {W : Type 0} where
 
   pub fits-plain : (who other : Rank) (own : List (Entry W)) (after : RuleView W) (last : Option Note) → who ≡ other → (other ≡ rank.Visitor → ⊥) → MayHaveWritten who own → IsPlain after last → MayHaveWritten who (own ++ entries_of after last)
   fits-plain who other own after last is no_visitor fits plain = fits-more who own (entries_of after last) fits plain.0 plain.1 (λ e. absurd (no_visitor (sym is ∙ e)))
-
-  pub fits-none : (who : Rank) (own : List (Entry W)) (after : RuleView W) (last : Option Note) → last ≡ None → MayHaveWritten who own → MayHaveWritten who (own ++ entries_of after last)
-  fits-none who own after last none fits = subst (λ (l : Option Note). MayHaveWritten who (own ++ entries_of after l)) (sym none) (subst (λ (xs : List (Entry W)). MayHaveWritten who xs) (sym (append-nil own)) fits)
 
   -- one job picked
   picked-more : (own : List (Entry W)) (after : RuleView W) (last : Option Note) (noted : Note) (id : Id) → last ≡ Some noted → picked_id noted ≡ Some id → ended_id noted ≡ None → (x : Id)

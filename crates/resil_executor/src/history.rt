@@ -25,9 +25,10 @@ pub struct LastHistory {
     pub lost: u64,
 }
 
-// A copy of the last events.
-fn copy_of(alloc: Global, last: &LastEvents) -> Result<Vec<Event>, AllocError>
-    ensures { IfOk result (λ events. events.items ≡ last.now.events) }
+// What a record of the last events holds. Errors: `AllocError` where memory runs out.
+fn last_history(alloc: Global, last: &LastEvents) -> Result<LastHistory, AllocError>
+    ensures events { IfOk result (λ history. history.events.items ≡ last.now.events) }
+    ensures lost { IfOk result (λ history. history.lost ≡ last.now.lost) }
 {
     let mut events = Vec::with_capacity(alloc, last.len())?;
     for index in 0..last.len() {
@@ -36,17 +37,10 @@ fn copy_of(alloc: Global, last: &LastEvents) -> Result<Vec<Event>, AllocError>
         };
         events.push(event)?;
     }
-    Ok(events)
-}
-
-// What a record of the last events holds. Errors: `AllocError` where memory runs out.
-fn last_history(alloc: Global, last: &LastEvents) -> Result<LastHistory, AllocError>
-    ensures events { IfOk result (λ history. history.events.items ≡ last.now.events) }
-    ensures lost { IfOk result (λ history. history.lost ≡ last.now.lost) }
-{
-    let lost = last.lost();
-    let events = copy_of(alloc, last)?;
-    Ok(LastHistory { events, lost })
+    Ok(LastHistory {
+        events,
+        lost: last.lost(),
+    })
 }
 
 impl<W: Drop> Pool<W, AllEvents> {

@@ -3,14 +3,13 @@ use Rattle.std.proofs.Common.{refl, subst, sym}
 use Rattle.resil_rule.specs.RuleView.{owed}
 use Rattle.resil_executor.specs.Kept.{Keeps}
 use Rattle.resil_executor.proofs.StateLaws.{noted-picks}
-use Rattle.resil_executor.proofs.KeptLaws.{pick-started, pick-took, pick-keeps}
+use Rattle.resil_executor.proofs.KeptLaws.{pick-room, pick-keeps}
 use Rattle.resil_executor.proofs.state.State.pick.Goals as goal
 
-pub note_pick-requires-clause-started : goal.note_pick-requires-clause-started
-note_pick-requires-clause-started g c = pick-started _ _ g.H.Record.IsRecordOf g.H.Record.HasRoom c.in_ok-picked.picked _ c.in_ok-picked.ensures.picked c.requires.room
-
-pub note_pick-requires-clause-took : goal.note_pick-requires-clause-took
-note_pick-requires-clause-took g c = pick-took _ _ g.H.Record.IsRecordOf g.H.Record.HasRoom c.in_ok-picked.picked _ c.in_ok-picked.ensures.picked c.requires.room
+pub note_pick-requires : goal.note_pick-requires
+note_pick-requires g c =
+    let room = pick-room _ _ g.H.Record.IsRecordOf g.H.Record.HasRoom c.in_ok-picked.picked _ c.in_ok-picked.ensures.picked c.requires.room in
+    record { started = room.0; took = room.1 }
 
 pub returns-clause-picked : goal.returns-clause-picked
 returns-clause-picked g c =
