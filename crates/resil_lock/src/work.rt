@@ -103,13 +103,14 @@ impl Looks {
         self.left = self.keep_alive;
     }
 
-    /// The worker has found no job. It lets in a seat that sleeps at the door, and sleeps until there may be a job: 1 ms at first, and 64 ms at most. Once it has timed out,
+    /// The worker has found no job. It sleeps until there may be one: 1 ms at first, and 64 ms at most. Once it has timed out,
     /// empty looks are counted anew.
     pub fn sleep<S: Guarded, R: Wait>(&mut self, rt: &R, lock: &Lock<S>)
         ensures keep_alive { self.new.keep_alive ≡ self.old.keep_alive }
         ensures anew { self.old.left ≤ 1 → self.new.left ≡ self.old.keep_alive }
         ensures fewer { 1 < self.old.left → self.new.left + 1 ≡ self.old.left }
     {
+        // A seat that sleeps at the door is let in first.
         lock.door.call_in();
         self.sleeper.wait(rt, &lock.bell);
         self.left = if self.timed_out() {
