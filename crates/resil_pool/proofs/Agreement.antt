@@ -1,17 +1,20 @@
 -- What callers were told agrees with the history and the results of their pool's machine.
-use Rattle.std.proofs.Common.{◌≡◌, ◌≢◌, ◌≤◌, ◌-◌, ℕ, Bool, cond, List, [], ◌∷◌, ◌++◌, map, length, refl, sym, ap, ◌∙◌, subst, arith, append_assoc, append-nil, eq-eqb, get_or, Option, Some}
+use Rattle.std.proofs.Common.{◌≡◌, ◌≢◌, ◌≤◌, ◌-◌, ℕ, Bool, cond, List, [], ◌∷◌, ◌++◌, map, take, length, refl, sym, ap, ◌∙◌, subst, arith, append_assoc, append-nil, eq-eqb, get_or, Option, Some}
 use Rattle.std.specs.Prelude.{All, option_map, slice_get}
 use Rattle.std.specs.List.{cons_option}
 use Rattle.std.proofs.lemmas.List.Elements.{All-nil, All-cons, All-head, All-tail}
+use Rattle.std.proofs.Math.ListN.{get_or-map}
+use Rattle.std.proofs.lemmas.List.{length-append, length-map, get_or_at, take_at, take-map}
+use Rattle.std.proofs.lemmas.Option.{same_Some, slice_get_read}
 use Rattle.resil_decor.specs.Plan.{PlanView}
 use Rattle.resil_rule.specs.Limits.{Sizes}
 use Rattle.resil_rule.specs.History.{submissions}
 use Rattle.resil_rule.specs.Admission.{IsAllowed, AreAllowedAfter, IsLegal}
 use Rattle.resil_rule.specs.declared.event.Id.{Id}
 use Rattle.resil_rule.specs.declared.event.Reply.{Reply}
-use Rattle.resil_rule.specs.declared.event.Reply.TheVariants.{Core, Queued, Extra, Full, Closed}
+use Rattle.resil_rule.specs.declared.event.Reply.TheVariants.{Core, Queued, Extra}
 use Rattle.resil_rule.specs.declared.event.Event.{Event}
-use Rattle.resil_rule.specs.declared.event.Event.TheVariants.{Submit, Take, Finish, IdleEnd, Close, Resized}
+use Rattle.resil_rule.specs.declared.event.Event.TheVariants.{Submit}
 use Rattle.resil_admission.specs.MachineView.{MachineView, AreResultsOf}
 use Rattle.resil_admission.specs.declared.jobs.Accepted.{Accepted}
 use Rattle.resil_admission.specs.declared.row.Row.{Row}
@@ -20,7 +23,7 @@ use Rattle.resil_pool.specs.declared.lock.logged_event.Note.{Note}
 use Rattle.resil_pool.specs.declared.lock.logged_event.Note.TheVariants as note
 use Rattle.resil_pool.specs.declared.receipt.Receipt.{Receipt}
 use Rattle.resil_pool.specs.Lock.LoggedEvent.{NamesCaller, AllNameCallers, events_in, closer_number, is_own_note, event_of, accepted_of, own_in, plans_in, plan_entry, MatchesLog}
-use Rattle.resil_pool.specs.Parts.{CallerView, submission_of}
+use Rattle.resil_pool.specs.Parts.{CallerView, submit_of, submission_of}
 use Rattle.resil_pool.specs.Draining.Report.{receipts_at}
 use Rattle.resil_pool.specs.Draining.Callers.{AreLogged, IsGathered}
 use Rattle.resil_pool.specs.Draining.Receipts.{IsOfPlanOn, HasReceipt, AgreeWithReceipts}
@@ -28,8 +31,8 @@ use Rattle.resil_pool.specs.Draining.Remaining.{with_runs}
 use Rattle.resil_pool.specs.NamedCallers.{KeepsNames}
 use Rattle.resil_pool.proofs.Logs.{own_in-append, events_in-append}
 use Rattle.resil_pool.proofs.MachineCalls.{filed-with_run}
-use Rattle.resil_pool.proofs.Submissions.{length-submissions}
-use Rattle.resil_pool.proofs.JoinedCallers.{still_submissions}
+use Rattle.resil_pool.proofs.Submissions.{submissions_of_entries}
+use Rattle.resil_pool.proofs.JoinedCallers.{at_place, still_submissions}
 
 -- the plan of an accepted job stands on the receipt of its submission
 record EntryHasReceipt (lists : List (List Receipt)) (entry : Id × Option PlanView) : Type 0 where
@@ -46,31 +49,20 @@ record IsReceiptAt (caller : ℕ) (receipts : List Receipt) (place : ℕ) (n : L
   pub there : slice_get receipts place ≡ Some receipt
   pub is : submission_of caller receipt ≡ n
 
-abbrev first_or : LoggedEvent → List LoggedEvent → LoggedEvent
-first_or d [] = d
-first_or d (x ∷ xs) = x
-
-abbrev rest_of : List LoggedEvent → List LoggedEvent
-rest_of [] = []
-rest_of (x ∷ xs) = xs
-
 receipt_at : (caller : ℕ) (receipts : List Receipt) (front back : List LoggedEvent) (n : LoggedEvent) → map (submission_of caller) receipts ≡ front ++ n ∷ back → IsReceiptAt caller receipts (length front) n
-receipt_at caller [] [] back n is = let no : 0 ≡ length (n ∷ back) = ap length is in absurd (omega arith)
-receipt_at caller [] (x ∷ front) back n is = let no : 0 ≡ length (x ∷ (front ++ n ∷ back)) = ap length is in absurd (omega arith)
-receipt_at caller (r ∷ receipts) [] back n is = record { receipt = r; there = refl; is = ap (first_or n) is }
-receipt_at caller (r ∷ receipts) (x ∷ front) back n is = let next = receipt_at caller receipts front back n (ap rest_of is) in record { receipt = next.receipt; there = next.there; is = next.is }
+receipt_at caller receipts front back n is =
+    let sum = length-append front (n ∷ back) in
+    let all : length receipts ≡ length (front ++ n ∷ back) = sym (length-map receipts (submission_of caller)) ∙ ap length is in
+    let x = at_place receipts (length front) (omega (arith, sum, all)) in record {
+      receipt = x.0;
+      there = slice_get_read receipts (length receipts) (length front) x.0 refl (omega (arith, sum, all)) (sym x.1);
+      is = sym (ap (submission_of caller) x.1) ∙ (sym (get_or-map (submission_of caller) receipts (length front) x.0)
+          ∙ (ap (λ (xs : List LoggedEvent). get_or xs (length front) (submission_of caller x.0)) is ∙ get_or_at front n back (submission_of caller x.0) (length front) refl));
+    }
 
 abbrev number_of : Note → ℕ
 number_of (note.Event (Submit id reply)) = id.number
-number_of (note.Event (Take id)) = 0
-number_of (note.Event (Finish id)) = 0
-number_of (note.Event IdleEnd) = 0
-number_of (note.Event Close) = 0
-number_of (note.Event (Resized core max)) = 0
-number_of (note.Started id) = 0
-
-some_plan : (x y : PlanView) → Some x ≡ Some y → x ≡ y
-some_plan x y e = cc
+number_of _ = 0
 
 module _ (limits : Sizes) (callers : ℕ) (log : List LoggedEvent) (lists : List (List Receipt)) (many : length lists ≡ callers) (logged : AreLogged log lists) where
   -- a submission in the log stands on a receipt of the caller that it names, at its number
@@ -85,7 +77,12 @@ module _ (limits : Sizes) (callers : ℕ) (log : List LoggedEvent) (lists : List
       let mine : own_in id.caller log ≡ own_in id.caller before ++ n ∷ own_in id.caller after =
       ap (own_in id.caller) is ∙ (own_in-append id.caller before (n ∷ after) ∙ ap (λ (xs : List LoggedEvent). own_in id.caller before ++ xs) kept) in
       let at = receipt_at id.caller (receipts_at lists id.caller) (own_in id.caller before) (own_in id.caller after) n (sym (logged id.caller low (omega arith)) ∙ mine) in
-      let count = length-submissions id.caller before apart in
+      let front = own_in id.caller before in
+      let first = take (length front) (receipts_at lists id.caller) in
+      let told : front ≡ map (submission_of id.caller) first =
+      sym (take_at front (n ∷ own_in id.caller after) (length front) refl) ∙ (ap (take (length front)) (sym mine ∙ logged id.caller low (omega arith)) ∙ take-map (submission_of id.caller) (length front) (receipts_at lists id.caller)) in
+      let count : length (submissions (events_in before) id.caller) ≡ length front =
+      ap length (submissions_of_entries id.caller before first apart told) ∙ (length-map first (submit_of id.caller) ∙ (sym (length-map first (submission_of id.caller)) ∙ ap length (sym told))) in
       let next = allowed.0 in
       let place : id.number - 1 ≡ length (own_in id.caller before) = omega arith in record {
         from = low;
@@ -104,14 +101,7 @@ module _ (limits : Sizes) (callers : ℕ) (log : List LoggedEvent) (lists : List
       put_at (note.Event (Submit id Core)) f = All-cons (EntryHasReceipt lists) (id, n.plan) (plans_in rest) (f id Core refl) later
       put_at (note.Event (Submit id Queued)) f = All-cons (EntryHasReceipt lists) (id, n.plan) (plans_in rest) (f id Queued refl) later
       put_at (note.Event (Submit id Extra)) f = All-cons (EntryHasReceipt lists) (id, n.plan) (plans_in rest) (f id Extra refl) later
-      put_at (note.Event (Submit id Full)) f = later
-      put_at (note.Event (Submit id Closed)) f = later
-      put_at (note.Event (Take id)) f = later
-      put_at (note.Event (Finish id)) f = later
-      put_at (note.Event IdleEnd) f = later
-      put_at (note.Event Close) f = later
-      put_at (note.Event (Resized core max)) f = later
-      put_at (note.Started id) f = later
+      put_at _ f = later
 
   entries : (before rest : List LoggedEvent) → log ≡ before ++ rest → AreAllowedAfter limits (events_in before) (events_in rest) → All (NamesCaller callers) (events_in rest) → All (EntryHasReceipt lists) (plans_in rest)
   entries before [] is legal names = All-nil (EntryHasReceipt lists)
@@ -132,8 +122,6 @@ module _ (limits : Sizes) (callers : ℕ) (log : List LoggedEvent) (lists : List
 -- so each result is of the plan on its receipt
 rows_have : (lists : List (List Receipt)) (jobs : List Accepted) (rows : List Row) → AreResultsOf jobs rows → All (EntryHasReceipt lists) (map plan_entry jobs) → All (HasReceipt lists) rows
 rows_have lists [] [] h all = All-nil (HasReceipt lists)
-rows_have lists [] (row ∷ rows) h all = absurd h
-rows_have lists (job ∷ jobs) [] h all = absurd h
 rows_have lists (job ∷ jobs) (row ∷ rows) h all =
     let e = All-head (EntryHasReceipt lists) (plan_entry job) (map plan_entry jobs) all in
     let same : job.id ≡ row.id = sym h.0.id in
@@ -144,16 +132,14 @@ rows_have lists (job ∷ jobs) (row ∷ rows) h all =
       receipt = e.receipt;
       there = subst (λ (i : Id). slice_get (receipts_at lists i.caller) (i.number - 1) ≡ Some e.receipt) same e.there;
       number = e.number ∙ ap (λ (i : Id). i.number) same;
-      plan = h.0.plan ∙ some_plan job.plan e.receipt.plan e.plan;
+      plan = h.0.plan ∙ same_Some job.plan e.receipt.plan e.plan;
     })
     (rows_have lists jobs rows h.1 (All-tail (EntryHasReceipt lists) (plan_entry job) (map plan_entry jobs) all))
+rows_have lists _ _ h all = absurd h
 
 -- a result with a receipt is of the plan on it
-some_receipt : (x y : Receipt) → Some x ≡ Some y → x ≡ y
-some_receipt x y e = cc
-
 of_its_plan : (lists : List (List Receipt)) (row : Row) → HasReceipt lists row → IsOfPlanOn lists row
-of_its_plan lists row has receipt there = has.plan ∙ ap (λ (r : Receipt). r.plan) (some_receipt has.receipt receipt (sym has.there ∙ there))
+of_its_plan lists row has receipt there = has.plan ∙ ap (λ (r : Receipt). r.plan) (same_Some has.receipt receipt (sym has.there ∙ there))
 
 pub of_their_plans : (lists : List (List Receipt)) (rows : List Row) → All (HasReceipt lists) rows → All (IsOfPlanOn lists) rows
 of_their_plans lists rows all = λ k d within. of_its_plan lists (get_or rows k d) (all k d within)

@@ -1,5 +1,6 @@
 -- What holds of a lock between any two steps, read for the turn.
 use Rattle.std.proofs.Common.{◌≡◌, ◌⊎◌, ℕ, zero, suc, ◌≤◌, Bool, true, false, cond, List, [], ◌∷◌, filter, length, Contains, refl, sym, ap, ◌∙◌, subst, inl, inr, ⊎_elim, arith, eq-eqb, Option}
+use Rattle.std.proofs.lemmas.List.Elements.{All-contains, All-contains_itself, All-filter, Contains-append_right}
 use mathlib.Core.Option as m
 use lib.ListN.{get_elem?}
 use Rattle.resil_lock.specs.declared.protocol.Phase.{Phase}
@@ -28,37 +29,20 @@ module _ {A : Type 0} where
   at_or_beyond (x ∷ xs) zero = inl (x, refl)
   at_or_beyond (x ∷ xs) (suc i) = ⊎_elim (λ t. inl t) (λ le. inr (omega arith)) (at_or_beyond xs i)
 
-  Contains-cons : (x y : A) (xs : List A) → Contains xs y → Contains (x ∷ xs) y
-  Contains-cons x y xs c = let inside = c.1 in (suc c.0, omega arith, c.2)
-
-  Contains-cons_same : (x y : A) (xs : List A) → x ≡ y → Contains (x ∷ xs) y
-  Contains-cons_same x y xs same = (0, omega arith, same)
-
-  Contains-cons_cases : (x y : A) (xs : List A) → Contains (x ∷ xs) y → (x ≡ y) ⊎ Contains xs y
-  Contains-cons_cases x y xs (zero, inside, is) = inl is
-  Contains-cons_cases x y xs (suc k, inside, is) = inr (k, omega arith, is)
-
-  Contains-nil : (y : A) → Contains [] y → ⊥
-  Contains-nil y c = let inside = c.1 in omega arith
-
   module _ (p : A → Bool) where
     -- an element that passes the test is kept
     Contains-filter : (xs : List A) (y : A) → Contains xs y → p y ≡ true → Contains (filter p xs) y
-    Contains-filter [] y c is = absurd (Contains-nil y c)
-    Contains-filter (x ∷ xs) y c is = cases (p x) refl (⊎_elim (λ same. inl same) (λ later. inr (Contains-filter xs y later is)) (Contains-cons_cases x y xs c))
+    Contains-filter [] y (k, inside, is) passes = absurd (omega arith)
+    Contains-filter (x ∷ xs) y (zero, inside, is) passes = subst (λ (b : Bool). Contains (cond b (x ∷ filter p xs) (filter p xs)) y) (sym (ap p is ∙ passes)) (0, omega arith, is)
+    Contains-filter (x ∷ xs) y (suc k, inside, is) passes = later (p x) (Contains-filter xs y (k, omega arith, is) passes)
       where
-        cases : (b : Bool) → p x ≡ b → (x ≡ y) ⊎ Contains (filter p xs) y → Contains (cond b (x ∷ filter p xs) (filter p xs)) y
-        cases true e c = ⊎_elim (λ same. Contains-cons_same x y (filter p xs) same) (λ later. Contains-cons x y (filter p xs) later) c
-        cases false e c = ⊎_elim (λ same. let no : false ≡ true = sym e ∙ (ap p same ∙ is) in absurd (cc)) (λ later. later) c
+        later : (b : Bool) → Contains (filter p xs) y → Contains (cond b (x ∷ filter p xs) (filter p xs)) y
+        later true c = Contains-append_right (x ∷ []) (filter p xs) y c
+        later false c = c
 
     -- what is kept was there
     Contains-from_filter : (xs : List A) (y : A) → Contains (filter p xs) y → Contains xs y
-    Contains-from_filter [] y c = absurd (Contains-nil y c)
-    Contains-from_filter (x ∷ xs) y c = cases (p x) (λ later. Contains-from_filter xs y later) c
-      where
-        cases : (b : Bool) → (Contains (filter p xs) y → Contains xs y) → Contains (cond b (x ∷ filter p xs) (filter p xs)) y → Contains (x ∷ xs) y
-        cases true rest c = ⊎_elim (λ same. Contains-cons_same x y xs same) (λ later. Contains-cons x y xs (rest later)) (Contains-cons_cases x y (filter p xs) c)
-        cases false rest c = Contains-cons x y xs (rest c)
+    Contains-from_filter xs y c = All-contains (Contains xs) (filter p xs) y (All-filter p (Contains xs) xs (All-contains_itself xs)) c
 
 module _ (opening : Opening) (words : List ℕ) (homes : List (m.Option (Option State))) (views : List View) (k : HoldsBetweenSteps StandsFor MayHaveWritten is_own opening words homes views) where
   numbered : (index : ℕ) (v : View) → IsSeatAt views index v → is_there v.phase ≡ true → v.number ≡ index
@@ -77,7 +61,7 @@ module _ (opening : Opening) (words : List ℕ) (homes : List (m.Option (Option 
         t.1,
         λ here. Contains-from_filter (is_own id.caller) t.0.seen submission (subst (λ (xs : List LoggedEvent). Contains xs submission) (sym (own id.caller t.0 t.1 here)) mine),
       ))
-      (λ (beyond : length views ≤ id.caller). absurd (Contains-nil submission (subst (λ (xs : List LoggedEvent). Contains xs submission) ((k.numbers numbering).no_others id.caller beyond) mine)))
+      (λ (beyond : length views ≤ id.caller). let none = subst (λ (xs : List LoggedEvent). Contains xs submission) ((k.numbers numbering).no_others id.caller beyond) mine in let inside = none.1 in absurd (omega arith))
       (at_or_beyond views id.caller)
 
   pub holds_between_turns : HoldsBetweenTurns opening.limits words homes views

@@ -2,20 +2,23 @@
 use Rattle.std.proofs.Common.{◌≡◌, ◌<◌, ◌+◌, ⊎_elim, ℕ, Bool, true, false, ◌||◌, List, [], ◌∷◌, ◌++◌, map, length, get_or, refl, sym, ap, ◌∙◌, subst, arith, length-append, append-nil, Option, Some, None}
 use Rattle.std.specs.Prelude.{◌↔◌, IsTrue}
 use Rattle.std.specs.Bool.{OnTrue}
+use Rattle.std.proofs.lemmas.Bool.{OnTrue_from}
 use Rattle.std.proofs.lemmas.List.{length-map, get_or_default, append_cancel_right}
+use Rattle.std.proofs.lemmas.List.Folds.{list_any_none}
 use Rattle.std.proofs.Math.ListN.{get_or-map}
 use Rattle.resil_rule.specs.History.{is_close, is_closed}
 use Rattle.resil_admission.specs.MachineView.{MachineView}
 use Rattle.resil_rule.specs.declared.event.Event.{Event}
-use Rattle.resil_rule.specs.declared.event.Event.TheVariants.{Submit, Take, Finish, IdleEnd, Close, Resized}
+use Rattle.resil_rule.specs.declared.event.Event.TheVariants.{Submit, Close}
 use Rattle.resil_pool.specs.declared.hold.JobRow.{JobRow}
 use Rattle.resil_pool.specs.declared.lock.logged_event.LoggedEvent.{LoggedEvent}
 use Rattle.resil_pool.specs.Lock.LoggedEvent.{log_event, events_in, closer_number, own_in}
 use Rattle.resil_pool.specs.Lock.Protocol.{LockSeatState}
-use Rattle.resil_pool.specs.Lock.Turn.{Turned, ClosesAtMost}
+use Rattle.resil_pool.specs.Lock.Turn.{WritesAtMost}
 use Rattle.resil_pool.specs.Hold.{submitter, row_caller, AreRows, BeginsWithRows, TellsOfRows}
+use Rattle.resil_pool.proofs.JoinedCallers.{at_place}
 use Rattle.resil_pool.proofs.Logs.{events_in-append}
-use Rattle.resil_pool.proofs.TurnLaws.{saw, sees-more}
+use Rattle.resil_pool.proofs.TurnLaws.{Turned, saw, sees-more}
 
 pub rows_length : (rows : List JobRow) (events : List Event) → AreRows rows events → length events ≡ length rows
 rows_length rows events are = sym (length-map events submitter) ∙ (ap length are ∙ length-map rows row_caller)
@@ -30,26 +33,13 @@ rows_at rows events place e r within are =
 -- submissions are no closing
 no_close_here : (e : Event) (caller : ℕ) → submitter e ≡ Some caller → is_close e ≡ false
 no_close_here (Submit id reply) caller is = refl
-no_close_here (Take id) caller is = absurd (cc)
-no_close_here (Finish id) caller is = absurd (cc)
-no_close_here IdleEnd caller is = absurd (cc)
-no_close_here Close caller is = absurd (cc)
-no_close_here (Resized core max) caller is = absurd (cc)
-
-abbrev first_of : List (Option ℕ) → Option ℕ
-first_of [] = None
-first_of (x ∷ xs) = x
-
-abbrev rest_of : List (Option ℕ) → List (Option ℕ)
-rest_of [] = []
-rest_of (x ∷ xs) = xs
+no_close_here _ caller is = absurd (cc)
 
 no_close : (rows : List JobRow) (events : List Event) → AreRows rows events → is_closed events ≡ false
-no_close rows [] are = refl
-no_close [] (e ∷ events) are = let no : length (e ∷ events) ≡ 0 = rows_length [] (e ∷ events) are in absurd (omega arith)
-no_close (row ∷ rows) (e ∷ events) are =
-    let here = no_close_here e row.caller (ap first_of are) in
-    let rest = no_close rows events (ap rest_of are) in λ i. here i || rest i
+no_close rows events are = list_any_none is_close events (λ k d within.
+    let many = rows_length rows events are in
+    let row = at_place rows k (omega arith) in
+    no_close_here (get_or events k d) _ (rows_at rows events k d row.0 (omega arith) are))
 
 -- no list is itself with one more
 no_longer : (xs ys : List LoggedEvent) (x : LoggedEvent) → ys ≡ xs → ¬ (ys ≡ xs ++ x ∷ [])
@@ -57,17 +47,13 @@ no_longer xs ys x same more =
     let sum : length (xs ++ x ∷ []) ≡ length xs + 1 = length-append xs (x ∷ []) in
     let equal : length xs ≡ length (xs ++ x ∷ []) = ap length (sym same ∙ more) in omega arith
 
-on_true : {P : Type 0} (b : Bool) → (b ≡ true → P) → OnTrue b P
-on_true true f = f refl
-on_true false f = tt
-
 -- where the history was that of the rows, the closing comes next; and what stands before a closing of the closer's is what the machine had
-module _ (in_order : Bool) (rows : List JobRow) {old : LockSeatState} {m : MachineView} {entries : List LoggedEvent} {m' : MachineView} {new : LockSeatState} (t : Turned old m entries m' new) (closes : ClosesAtMost entries) (iff : IsTrue in_order ↔ AreRows rows m.history) where
+module _ (in_order : Bool) (rows : List JobRow) {old : LockSeatState} {m : MachineView} {entries : List LoggedEvent} {m' : MachineView} {new : LockSeatState} (t : Turned old m entries m' new) (closes : WritesAtMost Close entries) (iff : IsTrue in_order ↔ AreRows rows m.history) where
   written-after : (e : entries ≡ log_event None Close ∷ []) → events_in new.0.seen ≡ m.history ++ Close ∷ []
   written-after e = ap events_in (saw t ∙ ap (λ (xs : List LoggedEvent). t.me.0.seen ++ xs) e) ∙ (events_in-append t.me.0.seen (log_event None Close ∷ []) ∙ ap (λ (h : List Event). h ++ Close ∷ []) (sym t.acted.took.home.home.history))
 
   pub begins_after : is_closed (events_in new.0.seen) ≡ true → OnTrue in_order (BeginsWithRows rows (events_in new.0.seen))
-  begins_after closed = on_true in_order (λ yes.
+  begins_after closed = OnTrue_from in_order _ (λ yes.
       let are : AreRows rows m.history = iff.0 yes in
       ⊎_elim
       (λ (e : entries ≡ []).

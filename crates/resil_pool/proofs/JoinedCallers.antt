@@ -1,9 +1,10 @@
 -- Taking the callers out of their list, one after the other.
-use Rattle.std.proofs.Common.{◌≡◌, ◌≢◌, ℕ, zero, suc, ◌+◌, ◌-◌, ◌<◌, List, [], ◌∷◌, ◌++◌, map, length, get_or, refl, sym, ap, ◌∙◌, subst, arith, append-nil, append_assoc, length-append, Result, Ok, Err, IfOk}
+use Rattle.std.proofs.Common.{◌≡◌, ◌≢◌, ℕ, zero, suc, Bool, true, ◌||◌, ◌+◌, ◌-◌, ◌<◌, List, [], ◌∷◌, ◌++◌, map, length, get_or, refl, sym, ap, ◌∙◌, subst, arith, append-nil, append_assoc, length-append, Result, IfOk}
 use Rattle.std.specs.Prelude.{All, swap_remove}
 use Rattle.std.specs.List.{range_with_len}
 use Rattle.std.specs.List.Sorted.{IsPermutation}
-use Rattle.std.proofs.lemmas.List.{map-append, map-id, length-map}
+use Rattle.std.proofs.lemmas.Result.{IfOk-weaker}
+use Rattle.std.proofs.lemmas.List.{map-append, map-id, length-map, nil_from_length}
 use Rattle.std.proofs.Math.ListN.{get_or-map}
 use Rattle.std.proofs.lemmas.List.Elements.{All-append, All-nil, All-push}
 use Rattle.std.proofs.lemmas.List.FromFn.{length-range_with_len, get_or-range_with_len, map-range_with_len_more}
@@ -14,7 +15,8 @@ use Rattle.resil_pool.specs.declared.receipt.Receipt.{Receipt}
 use Rattle.resil_pool.specs.Parts.{CallerView, submission_of}
 use Rattle.resil_pool.specs.Draining.Report.{AreNumbered, AreSubmissions, receipts_at}
 use Rattle.resil_pool.specs.Draining.Callers.{AreLogged, IsGathered}
-use Rattle.resil_rule.specs.History.{submissions}
+use Rattle.std.proofs.lemmas.List.Folds.{list_any-append}
+use Rattle.resil_rule.specs.History.{is_close, is_closed, submissions}
 use Rattle.resil_rule.specs.declared.event.Event.{Event}
 use Rattle.resil_pool.specs.Lock.LoggedEvent.{events_in, own_in}
 use Rattle.resil_pool.proofs.Logs.{events_in-append}
@@ -37,16 +39,6 @@ pub record SoFar (initial callers : List CallerView) (below : ℕ) (seen : List 
   pub told : lists ≡ map (λ c. c.receipts) done
   pub begins : All (λ c. IsPrefix c.seen seen) done
   pub submissions : All (HasItsSubmissions seen) done
-
-pub so_far_none : (initial : List CallerView) (seen : List LoggedEvent) → SoFar initial initial 0 seen []
-so_far_none initial seen = record {
-  done = [];
-  same = subst (λ (xs : List CallerView). IsPermutation initial xs) (sym (append-nil initial)) (IsPermutation-refl initial);
-  numbered = refl;
-  told = refl;
-  begins = All-nil (λ c. IsPrefix c.seen seen);
-  submissions = All-nil (HasItsSubmissions seen);
-}
 
 one_more : (n : ℕ) → range_with_len 1 (n + 1) ≡ range_with_len 1 n ++ (n + 1) ∷ []
 one_more n = sym (map-id (range_with_len 1 (n + 1))) ∙ (map-range_with_len_more (λ x. x) 1 n (n + 1) (omega arith) ∙ ap (λ (xs : List ℕ). xs ++ (n + 1) ∷ []) (map-id (range_with_len 1 n)))
@@ -133,7 +125,7 @@ all_gathered initial callers count below seen lists all end so_far =
     let total : length (callers ++ s.done) ≡ length initial = length_permutation initial (callers ++ s.done) s.same in
     let sum : length (callers ++ s.done) ≡ length callers + length s.done = length-append callers s.done in
     let many = all.as_many in
-    let none : callers ≡ [] = empty callers (omega arith) in
+    let none : callers ≡ [] = nil_from_length callers (omega arith) in
     let logged : AreLogged seen lists = logged_in_order s.done count seen lists s.numbered s.told s.submissions in
     let same : IsPermutation initial s.done = subst (λ (xs : List CallerView). IsPermutation initial (xs ++ s.done)) none s.same in record {
       told = record { in_order = s.done; same = same; numbered = s.numbered ∙ ap (range_with_len 1) (sym done); handed_in = s.told };
@@ -141,38 +133,24 @@ all_gathered initial callers count below seen lists all end so_far =
       submissions = λ caller low high. submissions_of_entries caller seen (receipts_at lists caller) (λ first. absurd (omega (arith, low, first))) (logged caller low high);
       logged = logged;
     }
-  where
-    empty : (xs : List CallerView) → length xs ≡ 0 → xs ≡ []
-    empty [] e = refl
-    empty (x ∷ xs) e = absurd (omega arith)
 
-if_ok_map : {A E : Type 0} (P Q : A → Type 0) (r : Result A E) → ((x : A) → P x → Q x) → IfOk r P → IfOk r Q
-if_ok_map P Q (Ok x) f h = f x h
-if_ok_map P Q (Err e) f h = tt
-
-events_begin : (seen now : List LoggedEvent) (history : List Event) → IsPrefix seen now → history ≡ events_in now → IsPrefix (events_in seen) history
-events_begin seen now history p is = (events_in p.0, sym (events_in-append seen p.0) ∙ (ap events_in p.1 ∙ sym is))
+-- what the closer has taken the machine with begins with what was seen before
+pub events_begin : (seen taken : List LoggedEvent) (before history : List Event) → IsPrefix seen taken → before ≡ events_in taken → IsPrefix before history → IsPrefix (events_in seen) history
+events_begin seen taken before history p is grown = prefix_trans (events_in seen) before history (events_in p.0, sym (events_in-append seen p.0) ∙ (ap events_in p.1 ∙ sym is)) grown
 
 -- the history begins with what each caller had seen
 pub each_begins : (callers : List CallerView) (taken : List LoggedEvent) (before history : List Event) → All (λ c. IsPrefix c.seen taken) callers → before ≡ events_in taken → IsPrefix before history
     → All (λ c. IsPrefix (events_in c.seen) history) callers
-each_begins callers taken before history all is grown k d h = prefix_trans (events_in (get_or callers k d).seen) before history (events_begin (get_or callers k d).seen taken before (all k d h) is) grown
+each_begins callers taken before history all is grown k d h = events_begin (get_or callers k d).seen taken before history (all k d h) is grown
 
 -- the submissions of each caller are still those on its receipts, where none came after those that were seen
 pub still_submissions : (taken : List LoggedEvent) (before history : List Event) (lists : List (List Receipt)) → AreSubmissions (events_in taken) lists → before ≡ events_in taken
     → ((caller : ℕ) → submissions history caller ≡ submissions before caller) → AreSubmissions history lists
 still_submissions taken before history lists all is same caller low high = same caller ∙ (ap (λ (es : List Event). submissions es caller) is ∙ all caller low high)
 
-pub all_begin : {A E : Type 0} (history_of : A → List Event) (callers : List CallerView) (history : List Event) (r : Result A E) → All (λ c. IsPrefix (events_in c.seen) history) callers → IfOk r (λ x. history_of x ≡ history)
-    → IfOk r (λ x. All (λ c. IsPrefix (events_in c.seen) (history_of x)) callers)
-all_begin history_of callers history r all told =
-    if_ok_map (λ x. history_of x ≡ history) (λ x. All (λ c. IsPrefix (events_in c.seen) (history_of x)) callers) r (λ x e k d h. subst (λ (l : List Event). IsPrefix (events_in (get_or callers k d).seen) l) (sym e) (all k d h)) told
+pub still_closed : (old new : List Event) → IsPrefix old new → is_closed old ≡ true → is_closed new ≡ true
+still_closed old new p closed = ap is_closed (sym p.1) ∙ (list_any-append is_close old p.0 ∙ ap (λ (b : Bool). b || is_closed p.0) closed)
 
--- the history begins with what the closer had seen
-pub closer_begins : {A E : Type 0} (history_of : A → List Event) (old taken : List LoggedEvent) (before history : List Event) (r : Result A E) {closed : List LoggedEvent} → IsPrefix old closed → IsPrefix closed taken
-    → before ≡ events_in taken → IsPrefix before history → IfOk r (λ x. history_of x ≡ history) → IfOk r (λ x. IsPrefix (events_in old) (history_of x))
-closer_begins history_of old taken before history r {closed} one two is grown told =
-    if_ok_map (λ x. history_of x ≡ history) (λ x. IsPrefix (events_in old) (history_of x)) r
-    (λ x e. subst (λ (l : List Event). IsPrefix (events_in old) l) (sym e) (prefix_trans (events_in old) before history
-    (events_begin old taken before (prefix_trans old closed taken one two) is) grown))
-    told
+-- what holds of a history holds of the report that has it
+pub of_report : {A E : Type 0} (history_of : A → List Event) {history : List Event} (r : Result A E) (P : List Event → Type 0) → P history → IfOk r (λ x. history_of x ≡ history) → IfOk r (λ x. P (history_of x))
+of_report history_of r P holds told = IfOk-weaker r _ _ (λ x e. subst P (sym e) holds) told

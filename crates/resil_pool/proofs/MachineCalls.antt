@@ -2,6 +2,8 @@
 use Rattle.std.proofs.Common.{◌≡◌, ◌<◌, ⊎_elim, inl, inr, ℕ, Bool, true, false, ◌||◌, cond, List, [], ◌∷◌, ◌++◌, map, drop, length, refl, sym, ap, ◌∙◌, subst, append-nil, length-append, arith, Option, Some, None}
 use Rattle.std.specs.Prelude.{◌↔◌, IsTrue, slice_get, option_map}
 use Rattle.std.specs.Bool.{OnTrue, OnFalse}
+use Rattle.std.proofs.lemmas.Bool.{true_from_ne_false}
+use Rattle.std.proofs.lemmas.Option.{none-some}
 use Rattle.std.proofs.lemmas.List.{map-append}
 use Rattle.std.proofs.lemmas.List.Elements.{filter_map-append}
 use Rattle.std.proofs.lemmas.List.Folds.{list_any-append}
@@ -14,10 +16,10 @@ use Rattle.resil_admission.specs.MachineView.{MachineView, jobs_in_flight, newly
 use Rattle.resil_admission.specs.declared.jobs.Accepted.{Accepted}
 use Rattle.resil_rule.specs.declared.event.Id.{Id}
 use Rattle.resil_rule.specs.declared.event.Reply.{Reply}
-use Rattle.resil_rule.specs.declared.event.Reply.TheVariants.{Core, Queued, Extra, Full, Closed}
+use Rattle.resil_rule.specs.declared.event.Reply.TheVariants.{Core}
 use Rattle.resil_rule.specs.declared.event.Event.{Event}
 use Rattle.resil_rule.specs.declared.event.Event.TheVariants.{Submit, Take, Finish, IdleEnd, Close}
-use Rattle.resil_rule.proofs.EventLaws.{or-of}
+use Rattle.resil_rule.proofs.EventLaws.{or-of, waiting-quiet}
 use Rattle.resil_rule.proofs.IdLaws.{in_flight-running}
 use Rattle.resil_pool.specs.declared.lock.logged_event.LoggedEvent.{LoggedEvent}
 use Rattle.resil_pool.specs.declared.lock.logged_event.Note.{Note}
@@ -25,37 +27,34 @@ use Rattle.resil_pool.specs.declared.lock.logged_event.Note.TheVariants as note
 use Rattle.resil_pool.specs.declared.lock.state.Written.{Written}
 use Rattle.resil_pool.specs.Lock.LoggedEvent.{log_event, finish_of, plans_in, plan_entry, run_of}
 use Rattle.resil_pool.specs.Lock.Protocol.{plain, entries_of}
-use Rattle.resil_pool.specs.Lock.Turn.{IsStep, IsMoved, Takes, Rests, ClosesAtMost}
+use Rattle.resil_pool.specs.Lock.Turn.{IsStep, IsMoved, Takes, WritesAtMost}
+use Rattle.resil_pool.specs.Worker.{EndsIdle, HasNoTake}
+
+-- an event was written that was allowed, and these are the accepted jobs then
+appends : (plan : Option PlanView) (old new : MachineView) (event : Event) (jobs : List Accepted) → IsAllowed old.limits old.history event → map plan_entry jobs ≡ map plan_entry old.jobs ++ plans_in (log_event plan event ∷ [])
+    → new ≡ record old { history = old.history ++ event ∷ []; jobs = jobs } → IsStep plan old (note.Event event) new
+appends plan old new event jobs allowed plans is = (
+  record {
+    allowed = allowed;
+    sized = ap (λ (m : MachineView). m.limits) is;
+    history = ap (λ (m : MachineView). m.history) is;
+    plans = ap (λ (m : MachineView). map plan_entry m.jobs) is ∙ plans;
+  },
+  ap (λ (m : MachineView). m.picked) is,
+)
 
 filed-accepted : (reply : Reply) (id : Id) (plan : PlanView) → map plan_entry (newly_accepted id reply plan) ≡ plans_in (log_event (Some plan) (Submit id reply) ∷ [])
 filed-accepted Core id plan = refl
-filed-accepted Queued id plan = refl
-filed-accepted Extra id plan = refl
-filed-accepted Full id plan = refl
-filed-accepted Closed id plan = refl
+filed-accepted _ id plan = refl
 
 pub submission-step : (old new : MachineView) (id : Id) (reply : Reply) (plan : PlanView) → IsAllowed old.limits old.history (Submit id reply) → new ≡ with_submission old id reply plan → IsStep (Some plan) old (note.Event (Submit id reply)) new
-submission-step old new id reply plan allowed is = (
-  record {
-    allowed = allowed;
-    sized = ap (λ (m : MachineView). m.limits) is;
-    history = ap (λ (m : MachineView). m.history) is;
-    plans = ap (λ (m : MachineView). map plan_entry m.jobs) is ∙ (map-append plan_entry old.jobs (newly_accepted id reply plan) ∙ ap (λ (xs : List (Id × Option PlanView)). map plan_entry old.jobs ++ xs) (filed-accepted reply id plan));
-  },
-  ap (λ (m : MachineView). m.picked) is,
-)
+submission-step old new id reply plan allowed is =
+    appends (Some plan) old new (Submit id reply) _ allowed (map-append plan_entry old.jobs (newly_accepted id reply plan) ∙ ap (λ (xs : List (Id × Option PlanView)). map plan_entry old.jobs ++ xs) (filed-accepted reply id plan)) is
 
 -- an event that is no submission
 pub event-step : (old new : MachineView) (event : Event) → plans_in (log_event None event ∷ []) ≡ [] → IsAllowed old.limits old.history event → new ≡ with_event old event → IsStep None old (note.Event event) new
-event-step old new event none allowed is = (
-  record {
-    allowed = allowed;
-    sized = ap (λ (m : MachineView). m.limits) is;
-    history = ap (λ (m : MachineView). m.history) is;
-    plans = ap (λ (m : MachineView). map plan_entry m.jobs) is ∙ (sym (append-nil (map plan_entry old.jobs)) ∙ ap (λ (xs : List (Id × Option PlanView)). map plan_entry old.jobs ++ xs) (sym none));
-  },
-  ap (λ (m : MachineView). m.picked) is,
-)
+event-step old new event none allowed is =
+    appends None old new event old.jobs allowed (sym (append-nil (map plan_entry old.jobs)) ∙ ap (λ (xs : List (Id × Option PlanView)). map plan_entry old.jobs ++ xs) (sym none)) is
 
 pub filed-with_run : (jobs : List Accepted) (id : Id) (run : RunView) → map plan_entry (with_run jobs id run) ≡ map plan_entry jobs
 filed-with_run [] id run = refl
@@ -96,15 +95,7 @@ picked-by old new id before after written last picked first second took started 
 
 -- a finish
 pub finish-step : (old new : MachineView) (id : Id) (run : RunView) → is_among id (jobs_in_flight old) ≡ true → new ≡ with_finish old id run → IsStep None old (note.Event (Finish id)) new
-finish-step old new id run out is = (
-  record {
-    allowed = out_runs old id out;
-    sized = ap (λ (m : MachineView). m.limits) is;
-    history = ap (λ (m : MachineView). m.history) is;
-    plans = ap (λ (m : MachineView). map plan_entry m.jobs) is ∙ (filed-with_run old.jobs id run ∙ sym (append-nil (map plan_entry old.jobs)));
-  },
-  ap (λ (m : MachineView). m.picked) is,
-)
+finish-step old new id run out is = appends None old new (Finish id) (with_run old.jobs id run) (out_runs old id out) (filed-with_run old.jobs id run ∙ sym (append-nil (map plan_entry old.jobs))) is
 
 abbrev finish_with : Id → Option RunView → List LoggedEvent
 finish_with id kept = record { note = note.Event (Finish id); plan = None; ended = option_map (λ run. record { id = id; run = run }) kept } ∷ []
@@ -113,51 +104,34 @@ pub finish-told : (jobs : List Accepted) (id : Id) (run : RunView) (last : Optio
 finish-told jobs id run last is kept = ap (entries_of jobs) is ∙ ap (finish_with id) kept
 
 -- after an idle end nothing waits
-waiting-idle_end : (h : List Event) → waiting h ≡ [] → waiting (h ++ IdleEnd ∷ []) ≡ []
-waiting-idle_end h none =
-    let q : queued (h ++ IdleEnd ∷ []) ≡ queued h = filter_map-append queued_id h (IdleEnd ∷ []) ∙ append-nil (queued h) in
-    let t : taken (h ++ IdleEnd ∷ []) ≡ taken h = filter_map-append taken_id h (IdleEnd ∷ []) ∙ append-nil (taken h) in
-    (λ i. drop (length (t i)) (q i)) ∙ none
-
-no_take_where_none_waits : (limits : Sizes) (h : List Event) → waiting h ≡ [] → (id : Id) → ¬ IsAllowed limits h (Take id)
-no_take_where_none_waits limits h none id allowed =
-    let first : None ≡ Some id = sym (ap (λ (ids : List Id). slice_get ids 0) none) ∙ allowed.0 in absurd (cc)
-
-pub no_take_after_idle_end : (limits : Sizes) (h : List Event) → IsAllowed limits h IdleEnd → (id : Id) → ¬ IsAllowed limits (h ++ IdleEnd ∷ []) (Take id)
-no_take_after_idle_end limits h allowed = no_take_where_none_waits limits (h ++ IdleEnd ∷ []) (waiting-idle_end h allowed.0)
+no_take_after_idle_end : (limits : Sizes) (h : List Event) → IsAllowed limits h IdleEnd → (id : Id) → ¬ IsAllowed limits (h ++ IdleEnd ∷ []) (Take id)
+no_take_after_idle_end limits h allowed id take =
+    let none : waiting (h ++ IdleEnd ∷ []) ≡ [] = waiting-quiet h IdleEnd refl refl refl refl refl ∙ allowed.0 in none-some id (sym (ap (λ (ids : List Id). slice_get ids 0) none) ∙ take.0)
 
 -- what an idle end leaves, whether it was one or not
-pub record EndsIdle (old new : MachineView) (last : Option Written) : Type 0 where
-  pub wrote : IsMoved old (entries_of new.jobs last) new
-  pub rests : Rests (entries_of new.jobs last)
-  pub no_take : (id : Id) → ¬ IsAllowed new.limits new.history (Take id)
-  pub closed : is_closed old.history ≡ true → is_closed new.history ≡ true
-
 pub idle_end_after : (ended : Bool) (old new : MachineView) (last : Option Written) → (IsTrue ended ↔ IsAllowed old.limits old.history IdleEnd) → OnTrue ended (new ≡ with_event old IdleEnd) → OnFalse ended (new ≡ old)
-    → OnTrue ended (last ≡ Some (plain (note.Event IdleEnd))) → OnFalse ended (last ≡ None) → ((id : Id) → ¬ IsAllowed old.limits old.history (Take id)) → EndsIdle old new last
+    → OnTrue ended (last ≡ Some (plain (note.Event IdleEnd))) → OnFalse ended (last ≡ None) → HasNoTake old → EndsIdle old new (entries_of new.jobs last)
 idle_end_after true old new last iff is _ noted _ none =
     let allowed = iff.0 refl in record {
+      ends = λ _. is;
       wrote = moved-one old new last (note.Event IdleEnd) noted (event-step old new IdleEnd refl allowed is);
       rests = inr (ap (entries_of new.jobs) noted);
-      no_take = subst (λ (m : MachineView). (id : Id) → ¬ IsAllowed m.limits m.history (Take id)) (sym is) (no_take_after_idle_end old.limits old.history allowed);
+      no_take = subst HasNoTake (sym is) (no_take_after_idle_end old.limits old.history allowed);
       closed = λ shut. ap (λ (m : MachineView). is_closed m.history) is ∙ (list_any-append is_close old.history (IdleEnd ∷ []) ∙ ap (λ (b : Bool). b || false) shut);
     }
 idle_end_after false old new last iff _ is _ noted none = record {
+  ends = λ allowed. let no : false ≡ true = iff.1 allowed in absurd (cc);
   wrote = moved-none old new last noted is;
   rests = inl (ap (entries_of new.jobs) noted);
-  no_take = subst (λ (m : MachineView). (id : Id) → ¬ IsAllowed m.limits m.history (Take id)) (sym is) none;
+  no_take = subst HasNoTake (sym is) none;
   closed = λ shut. ap (λ (m : MachineView). is_closed m.history) is ∙ shut;
 }
 
 -- what a closing leaves
 pub record Closes (old new : MachineView) (last : Option Written) : Type 0 where
   pub wrote : IsMoved old (entries_of new.jobs last) new
-  pub closes : ClosesAtMost (entries_of new.jobs last)
+  pub closes : WritesAtMost Close (entries_of new.jobs last)
   pub closed : is_closed new.history ≡ true
-
-not_open : (b : Bool) → ¬ (b ≡ false) → b ≡ true
-not_open true h = refl
-not_open false h = absurd (h refl)
 
 pub close_after : (closes : Bool) (old new : MachineView) (last : Option Written) → (IsTrue closes ↔ (is_closed old.history ≡ false)) → OnTrue closes (new ≡ with_event old Close) → OnFalse closes (new ≡ old)
     → OnTrue closes (last ≡ Some (plain (note.Event Close))) → OnFalse closes (last ≡ None) → Closes old new last
@@ -169,5 +143,5 @@ close_after true old new last iff is _ noted _ = record {
 close_after false old new last iff _ is _ noted = record {
   wrote = moved-none old new last noted is;
   closes = inl (ap (entries_of new.jobs) noted);
-  closed = ap (λ (m : MachineView). is_closed m.history) is ∙ not_open (is_closed old.history) (λ unclosed. let is_not : false ≡ true = iff.1 unclosed in cc);
+  closed = ap (λ (m : MachineView). is_closed m.history) is ∙ true_from_ne_false (is_closed old.history) (λ unclosed. let is_not : false ≡ true = iff.1 unclosed in cc);
 }

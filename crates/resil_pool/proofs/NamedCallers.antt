@@ -7,7 +7,7 @@ use Rattle.resil_admission.specs.MachineView.{MachineView, with_submission, with
 use Rattle.resil_rule.specs.declared.event.Id.{Id}
 use Rattle.resil_rule.specs.declared.event.Reply.{Reply}
 use Rattle.resil_rule.specs.declared.event.Event.{Event}
-use Rattle.resil_rule.specs.declared.event.Event.TheVariants.{Submit, Take, Finish, IdleEnd, Close, Resized}
+use Rattle.resil_rule.specs.declared.event.Event.TheVariants.{Submit, Take, Finish, Close, Resized}
 use Rattle.resil_pool.specs.Lock.LoggedEvent.{NamesCaller, AllNameCallers, log_event, events_in, closer_number, MatchesLog}
 use Rattle.resil_pool.specs.Lock.Protocol.{LockSeatState}
 use Rattle.resil_pool.specs.Lock.Turn.{MayWrite, AppendedOne, IsTurn, Unchanged, AppendsToMachine, IsWorkersEvent, AppendsWorkersEvent, AppendsAtMostOne, AppendsCloseAtMost}
@@ -24,29 +24,19 @@ module _ (callers : ℕ) where
 
   workers_event_names : (e : Event) → IsWorkersEvent e → NamesCaller callers e
   workers_event_names (Submit id reply) other = absurd other
-  workers_event_names (Take id) other = tt
-  workers_event_names (Finish id) other = tt
-  workers_event_names IdleEnd other = tt
   workers_event_names Close other = absurd other
   workers_event_names (Resized core max) other = absurd other
+  workers_event_names _ other = tt
 
   -- what a caller's seat may write names that caller
   callers_event_names : (count number : ℕ) (e : Event) → IsCallersNumber callers number → MayWrite count number e → NamesCaller callers e
   callers_event_names count number (Submit id reply) is own = let low = is.0 in let high = is.1 in let same = own.0 in (omega arith, omega arith)
-  callers_event_names count number (Take id) is own = tt
-  callers_event_names count number (Finish id) is own = tt
-  callers_event_names count number IdleEnd is own = tt
-  callers_event_names count number Close is own = tt
-  callers_event_names count number (Resized core max) is own = tt
+  callers_event_names count number _ is own = tt
 
   -- what the closer's seat may write is no submission
   closers_event_names : (count number : ℕ) (e : Event) → number ≡ closer_number → MayWrite count number e → NamesCaller callers e
   closers_event_names count number (Submit id reply) first own = absurd (own.1 first)
-  closers_event_names count number (Take id) first own = tt
-  closers_event_names count number (Finish id) first own = tt
-  closers_event_names count number IdleEnd first own = tt
-  closers_event_names count number Close first own = tt
-  closers_event_names count number (Resized core max) first own = tt
+  closers_event_names count number _ first own = tt
 
   -- what a seat may write in a pool with so many callers names one of them, if it is a submission
   pub written_names : (number : ℕ) (e : Event) → MayWrite callers number e → NamesCaller callers e
@@ -55,11 +45,7 @@ module _ (callers : ℕ) where
       positive : (n : ℕ) → n ≢ 0 → 1 ≤ n
       positive zero apart = absurd (apart refl)
       positive (suc n) apart = omega arith
-  written_names number (Take id) own = tt
-  written_names number (Finish id) own = tt
-  written_names number IdleEnd own = tt
-  written_names number Close own = tt
-  written_names number (Resized core max) own = tt
+  written_names number _ own = tt
 
   pub opening_names : AllNameCallers callers []
   opening_names = All-nil (NamesCaller callers)

@@ -16,8 +16,7 @@ use Rattle.resil_lock.specs.Lock.{weigh, IsCovered, IsNumbering}
 use Rattle.resil_pool.specs.declared.lock.logged_event.LoggedEvent.{LoggedEvent}
 use Rattle.resil_pool.specs.declared.lock.opening.Opening.{Opening}
 use Rattle.resil_pool.specs.Lock.LoggedEvent.{events_in, starts_in, picked_in, ended_in}
-use Rattle.resil_pool.specs.Lock.Protocol.{IsMachineOf, MayHaveWritten, starts_of}
-use Rattle.resil_pool.specs.Lock.Seat.{EndsOnlyPicked, IsDue, IsSettled, Tallies}
+use Rattle.resil_pool.specs.Lock.Protocol.{IsMachineOf, MayHaveWritten, starts_of, EndsOnlyPicked, IsDue, IsSettled, Tallies}
 use Rattle.resil_pool.proofs.Logs.{picked-more, ended-more}
 
 -- all seats of a pool have numbers
@@ -72,33 +71,7 @@ module _ (opening : Opening) (log own : List LoggedEvent) (m : MachineView) (is 
   pub due-job : (id : Id) → IsDue id own → is_among id (jobs_in_flight m) ≡ true
   due-job id due = let all = others id in due-out opening.limits m id (subst (IsLegal opening.limits) (sym is.home.history) is.legal) (omega (arith, all, due))
 
-pub take-within : {A : Type 0} (n : ℕ) (xs ys : List A) → n ≤ length xs → take n (xs ++ ys) ≡ take n xs
-take-within zero xs ys few = refl
-take-within (suc n) [] ys few = absurd (omega (arith, few))
-take-within (suc n) (x ∷ xs) ys few = ap (λ (l : List _). x ∷ l) (take-within n xs ys (omega (arith, few)))
-
 pub take-next : {A : Type 0} (n : ℕ) (xs : List A) (x : A) → slice_get xs n ≡ Some x → take (suc n) xs ≡ take n xs ++ x ∷ []
 take-next n [] x is = absurd (cc is)
 take-next zero (y ∷ xs) x is = let same : y ≡ x = cc in ap (λ (z : _). z ∷ []) same
 take-next (suc n) (y ∷ xs) x is = ap (λ (l : List _). y ∷ l) (take-next n xs x is)
-
--- a worker's round: it picks a job, and ends that one
-pub due-after : (old new : List LoggedEvent) (id : Id) → IsSettled old → Tallies old (id ∷ []) [] new → IsDue id new
-due-after old new id settled t =
-    let one : times id (id ∷ []) ≡ 1 = times-one id id ∙ ap {B = ℕ} (λ (b : Bool). cond b 1 0) (same_id-self id) in
-    let before = settled id in
-    let p = t.picked id in
-    let e = t.ended id in
-    omega (arith, one, before, p, e)
-
-pub settled-after : (old mid new : List LoggedEvent) (id : Id) → IsSettled old → Tallies old (id ∷ []) [] mid → Tallies mid [] (id ∷ []) new → IsSettled new
-settled-after old mid new id settled picks ends x =
-    let before = settled x in
-    let p = picks.picked x in
-    let e = picks.ended x in
-    let p' = ends.picked x in
-    let e' = ends.ended x in
-    omega (arith, before, p, e, p', e')
-
-pub still-settled : (old new : List LoggedEvent) → IsSettled old → Tallies old [] [] new → IsSettled new
-still-settled old new settled t x = let before = settled x in let p = t.picked x in let e = t.ended x in omega (arith, before, p, e)

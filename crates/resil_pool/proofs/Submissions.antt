@@ -1,9 +1,12 @@
--- A caller after a submission.
-use Rattle.std.proofs.Common.{◌≡◌, ◌≢◌, ne_eqb, ℕ, ◌+◌, ◌≤◌, suc, Bool, true, false, cond, List, [], ◌∷◌, ◌++◌, map, length, refl, sym, ap, ◌∙◌, subst, arith, Some, Result, Ok, Err, eq-eqb}
+-- A caller's turns: a submission, and a resize.
+use Rattle.std.proofs.Common.{◌≡◌, ◌≢◌, ne_eqb, ℕ, ◌+◌, ◌≤◌, suc, Bool, true, false, cond, List, [], ◌∷◌, ◌++◌, map, length, refl, sym, ap, ◌∙◌, subst, arith, append-nil, Some, None, Result, Ok, Err, OnOk, OnErr, eq-eqb}
+use Rattle.std.specs.Prelude.{◌↔◌, IfErr}
+use Rattle.std.specs.Result.{IsErrOf}
 use Rattle.std.specs.List.{cons_option}
 use Rattle.std.proofs.lemmas.List.{map-append, length-map}
 use Rattle.atomic_table.specs.Seated.{TableId}
 use Rattle.resil_decor.specs.Plan.{PlanView}
+use Rattle.resil_rule.specs.Limits.{Sizes, IsCore, AreSizesWithin}
 use Rattle.resil_rule.specs.History.{is_submit_of, submissions, next_number}
 use Rattle.resil_rule.specs.Admission.{IsLegal}
 use Rattle.resil_admission.specs.MachineView.{MachineView, IsSubmitRefusal}
@@ -12,7 +15,7 @@ use Rattle.resil_rule.specs.declared.error.AdmitError.TheVariants as cause
 use Rattle.resil_rule.specs.declared.event.Id.{Id}
 use Rattle.resil_rule.specs.declared.event.Reply.{Reply}
 use Rattle.resil_rule.specs.declared.event.Event.{Event}
-use Rattle.resil_rule.specs.declared.event.Event.TheVariants.{Submit, Take, Finish, IdleEnd, Close, Resized}
+use Rattle.resil_rule.specs.declared.event.Event.TheVariants.{Submit, Close, Resized}
 use Rattle.resil_pool.specs.declared.lock.logged_event.LoggedEvent.{LoggedEvent}
 use Rattle.resil_pool.specs.declared.lock.logged_event.Note.{Note}
 use Rattle.resil_pool.specs.declared.lock.logged_event.Note.TheVariants as note
@@ -20,11 +23,15 @@ use Rattle.resil_pool.specs.declared.lock.opening.Opening.{Opening}
 use Rattle.resil_pool.specs.declared.receipt.Receipt.{Receipt}
 use Rattle.resil_pool.specs.Lock.LoggedEvent.{log_event, event_of, events_in, closer_number, is_own_event, is_own_note, own_in, SeesMore, SeesOwn}
 use Rattle.resil_pool.specs.Lock.Protocol.{LockSeatState, MayHaveWritten}
-use Rattle.resil_pool.specs.Lock.Turn.{HasTurn, MayHave, Turned, IsMoved}
+use Rattle.resil_pool.specs.Lock.Turn.{IsMoved}
+use Rattle.resil_pool.specs.declared.resize.ResizeError.{ResizeError}
+use Rattle.resil_pool.specs.declared.resize.ResizeError.TheVariants as refused
+use Rattle.resil_pool.specs.Resize.{SeesResize, IsResizeError}
 use Rattle.resil_pool.specs.Submit.{AnswersSubmission}
+use Rattle.resil_pool.proofs.Logs.{own_in-append}
 use Rattle.resil_pool.specs.Parts.{CallerView, caller_view, submission_id, submit_of, submission_of, IsCaller}
 use Rattle.resil_pool.proofs.MachineCalls.{submission-step}
-use Rattle.resil_pool.proofs.TurnLaws.{ends-none, rests-now, number-now, key-now, rank-now, sees-more, sees-own, wrote-none, wrote-one}
+use Rattle.resil_pool.proofs.TurnLaws.{HasTurn, MayHave, Turned, ends-none, saw, home-now, rests-now, number-now, key-now, rank-now, sees-more, sees-own, wrote-none, wrote-one}
 
 -- a caller's seat isn't the closer's
 pub is_not_closer : (me : LockSeatState) (number : ℕ) (receipts : List Receipt) → IsCaller me number receipts → me.0.number ≢ closer_number
@@ -92,14 +99,11 @@ module _ (caller : CallerView) (table : TableId) {old : LockSeatState} {m : Mach
 -- a caller's own events are its submissions
 own_submissions : (c : ℕ) (e : Event) → c ≢ closer_number → is_own_event c e ≡ is_submit_of c e
 own_submissions c (Submit id reply) apart = refl
-own_submissions c (Take id) apart = refl
-own_submissions c (Finish id) apart = refl
-own_submissions c IdleEnd apart = refl
 own_submissions c Close apart = ne_eqb c 0 apart
-own_submissions c (Resized core max) apart = refl
+own_submissions c _ apart = refl
 
 -- a caller's submissions in the history are its own events in the log
-pub submissions-own : (c : ℕ) (log : List LoggedEvent) → c ≢ closer_number → submissions (events_in log) c ≡ events_in (own_in c log)
+submissions-own : (c : ℕ) (log : List LoggedEvent) → c ≢ closer_number → submissions (events_in log) c ≡ events_in (own_in c log)
 submissions-own c [] apart = refl
 submissions-own c (n ∷ log) apart = by n.note refl (submissions-own c log apart)
   where
@@ -110,18 +114,6 @@ submissions-own c (n ∷ log) apart = by n.note refl (submissions-own c log apar
     by : (written : Note) → n.note ≡ written → submissions (events_in log) c ≡ events_in (own_in c log) → submissions (cons_option (event_of written) (events_in log)) c ≡ events_in (cond (is_own_note c written) (n ∷ own_in c log) (own_in c log))
     by (note.Event e) at rest = ap (λ (b : Bool). cond b (e ∷ submissions (events_in log) c) (submissions (events_in log) c)) (sym (own_submissions c e apart)) ∙ both e (is_own_event c e) at rest
     by (note.Started id) at rest = rest
-
-pub length-submissions : (c : ℕ) (log : List LoggedEvent) → c ≢ closer_number → length (submissions (events_in log) c) ≡ length (own_in c log)
-length-submissions c [] apart = refl
-length-submissions c (n ∷ log) apart = by n.note (length-submissions c log apart)
-  where
-    both : (e : Event) (b : Bool) → length (submissions (events_in log) c) ≡ length (own_in c log) → length (cond b (e ∷ submissions (events_in log) c) (submissions (events_in log) c)) ≡ length (cond b (n ∷ own_in c log) (own_in c log))
-    both e true rest = ap suc rest
-    both e false rest = rest
-
-    by : (written : Note) → length (submissions (events_in log) c) ≡ length (own_in c log) → length (submissions (cons_option (event_of written) (events_in log)) c) ≡ length (cond (is_own_note c written) (n ∷ own_in c log) (own_in c log))
-    by (note.Event e) rest = ap (λ (b : Bool). length (cond b (e ∷ submissions (events_in log) c) (submissions (events_in log) c))) (sym (own_submissions c e apart)) ∙ both e (is_own_event c e) rest
-    by (note.Started id) rest = rest
 
 events_of_receipts : (c : ℕ) (receipts : List Receipt) → events_in (map (submission_of c) receipts) ≡ map (submit_of c) receipts
 events_of_receipts c [] = refl
@@ -140,16 +132,53 @@ pub right_number : (old me : LockSeatState) (machine : MachineView) (number : �
 right_number old me machine number receipts h is =
     let own : own_in number me.0.seen ≡ map (submission_of number) receipts = subst (λ (j : ℕ). own_in j me.0.seen ≡ own_in j old.0.seen) is.numbered h.same_own ∙ is.own in
     let count : length (submissions machine.history number) ≡ length receipts =
-    ap (λ (es : List Event). length (submissions es number)) h.home.home.history ∙ (length-submissions number me.0.seen is.not_closer ∙ (ap length own ∙ length-map receipts (submission_of number))) in
+    ap (λ (es : List Event). length (submissions es number)) h.home.home.history ∙ (ap length (submissions_of_entries number me.0.seen receipts is.not_closer own) ∙ length-map receipts (submit_of number)) in
     omega arith
 
 -- so a refusal is want of memory
 pub refused_for_memory : (machine : MachineView) (id : Id) (error : AdmitError) → IsSubmitRefusal machine id error → id.number ≡ next_number machine.history id.caller → error ≡ cause.Memory
 refused_for_memory machine id cause.WrongNumber is right = absurd (is right)
 refused_for_memory machine id cause.Memory is right = refl
-refused_for_memory machine id cause.CoreOutOfRange is right = absurd is
-refused_for_memory machine id cause.MaxOutOfRange is right = absurd is
-refused_for_memory machine id cause.QueueOutOfRange is right = absurd is
-refused_for_memory machine id cause.NotOut is right = absurd is
-refused_for_memory machine id cause.OtherJob is right = absurd is
-refused_for_memory machine id cause.NotDone is right = absurd is
+refused_for_memory machine id _ is right = absurd is
+
+-- a resize to these sizes was written, or nothing, as the answer says
+module _ {A E : Type 0} (core max : ℕ) (answer : Result A E) (entries : List LoggedEvent) (one : OnOk answer (entries ≡ log_event None (Resized core max) ∷ [])) (none : OnErr answer (entries ≡ [])) where
+  pub resize-may : (old : LockSeatState) → MayHaveWritten old.0.rank old.0.own → old.0.number ≢ closer_number → MayHave old entries
+  resize-may old fits apart = go answer one none
+    where
+      go : (r : Result A E) → OnOk r (entries ≡ log_event None (Resized core max) ∷ []) → OnErr r (entries ≡ []) → MayHave old entries
+      go (Ok x) e _ = subst (MayHave old) (sym e) (ends-none old (log_event None (Resized core max) ∷ []) fits (apart, tt) refl)
+      go (Err x) _ e = subst (MayHave old) (sym e) (ends-none old [] fits tt refl)
+
+  pub resize-own : (number : ℕ) → own_in number entries ≡ []
+  resize-own number = go answer one none
+    where
+      go : (r : Result A E) → OnOk r (entries ≡ log_event None (Resized core max) ∷ []) → OnErr r (entries ≡ []) → own_in number entries ≡ []
+      go (Ok x) e _ = ap (own_in number) e
+      go (Err x) _ e = ap (own_in number) e
+
+-- the resize was written
+pub sees-resize : {old : LockSeatState} {m : MachineView} {entries : List LoggedEvent} {m' : MachineView} {new : LockSeatState} (core max : ℕ) → Turned old m entries m' new → entries ≡ log_event None (Resized core max) ∷ []
+    → SeesResize old.0.key.limits old.0.number old.0.seen core max new.0.seen
+sees-resize {old} {entries = entries} core max t is =
+    let now = saw t in record {
+      legal = (home-now t).legal;
+      before = t.me.0.seen;
+      begins = t.acted.took.begins;
+      ends = now ∙ ap (λ (xs : List LoggedEvent). t.me.0.seen ++ xs) is;
+      same_own = ap (own_in old.0.number) now
+          ∙ (own_in-append old.0.number t.me.0.seen entries ∙ (ap (λ (xs : List LoggedEvent). own_in old.0.number t.me.0.seen ++ own_in old.0.number xs) is ∙ (append-nil (own_in old.0.number t.me.0.seen) ∙ t.acted.took.same_own)));
+    }
+
+-- why a pool isn't resized
+pub resize-core : (limits : Sizes) (core max : ℕ) (r : Result (Unit {0}) ResizeError) → OnOk r (IsCore core) → IfErr r (IsResizeError limits core max) → IsErrOf r refused.CoreOutOfRange ↔ ¬ IsCore core
+resize-core limits core max (Ok u) is why = (λ e. absurd (cc e), λ not. absurd (not is))
+resize-core limits core max (Err refused.CoreOutOfRange) is why = (λ e. why, λ not. refl)
+resize-core limits core max (Err refused.MaxOutOfRange) is why = (λ e. absurd (cc e), λ not. absurd (not why.0))
+resize-core limits core max (Err refused.Memory) is why = (λ e. absurd (cc e), λ not. absurd (not why.0))
+
+pub resize-max : (limits : Sizes) (core max : ℕ) (r : Result (Unit {0}) ResizeError) → OnOk r (AreSizesWithin limits core max) → IfErr r (IsResizeError limits core max) → IsErrOf r refused.MaxOutOfRange ↔ (IsCore core × ¬ AreSizesWithin limits core max)
+resize-max limits core max (Ok u) is why = (λ e. absurd (cc e), λ not. absurd (not.1 is))
+resize-max limits core max (Err refused.CoreOutOfRange) is why = (λ e. absurd (cc e), λ not. absurd (why not.0))
+resize-max limits core max (Err refused.MaxOutOfRange) is why = (λ e. why, λ not. refl)
+resize-max limits core max (Err refused.Memory) is why = (λ e. absurd (cc e), λ not. absurd (not.1 why.1))

@@ -1,6 +1,7 @@
 -- A whole turn: what its seat has with the lock, what it may leave, and what the seat knows then.
-use Rattle.std.proofs.Common.{◌≡◌, ◌≢◌, ◌+◌, ◌⊎◌, ⊎_elim, inl, inr, ℕ, suc, Bool, true, false, cond, eq-eqb, ne_eqb, List, [], ◌∷◌, ◌++◌, map, take, length, filter, refl, sym, ap, ◌∙◌, subst, append-nil, append_assoc, length-append, arith, Option, None}
+use Rattle.std.proofs.Common.{◌≡◌, ◌≢◌, ◌≤◌, ◌+◌, ◌⊎◌, ⊎_elim, inl, inr, ℕ, suc, Bool, true, false, cond, eq-eqb, ne_eqb, List, [], ◌∷◌, ◌++◌, map, take, length, filter, refl, sym, ap, ◌∙◌, subst, append-nil, append_assoc, length-append, arith, Option, None}
 use Rattle.std.proofs.lemmas.Option.{slice_get_within}
+use Rattle.std.proofs.lemmas.List.{take-append-le}
 use Rattle.std.proofs.lemmas.List.Elements.{filter_map-append, All-push}
 use mathlib.Core.List.{IsPrefix}
 use Rattle.resil_decor.specs.Plan.{PlanView}
@@ -9,7 +10,7 @@ use Rattle.resil_rule.specs.Admission.{IsAllowed, IsLegal}
 use Rattle.resil_rule.specs.History.{is_among, started, started_id, times}
 use Rattle.resil_rule.specs.declared.event.Id.{Id}
 use Rattle.resil_rule.specs.declared.event.Event.{Event}
-use Rattle.resil_rule.specs.declared.event.Event.TheVariants.{Submit, Take, Finish, IdleEnd, Close, Resized}
+use Rattle.resil_rule.specs.declared.event.Event.TheVariants.{Submit, Take, IdleEnd, Close}
 use Rattle.resil_rule.proofs.LegalLaws.{legal-push}
 use Rattle.resil_admission.specs.MachineView.{MachineView, jobs_in_flight}
 use Rattle.resil_admission.specs.declared.row.Row.{Row}
@@ -21,15 +22,56 @@ use Rattle.resil_pool.specs.declared.lock.logged_event.Note.TheVariants as note
 use Rattle.resil_pool.specs.declared.lock.opening.Opening.{Opening}
 use Rattle.resil_pool.specs.declared.lock.state.State.{State}
 use Rattle.resil_pool.specs.Lock.LoggedEvent.{NamesCaller, AllNameCallers, log_event, start_of, events_in, starts_in, picked_in, ended_in, closer_number, is_own_note, is_own, own_in, plans_in, plan_entry, runs_in, SeesMore, SeesOwn}
-use Rattle.resil_pool.specs.Lock.Protocol.{View, LockSeatState, IsMachineOf, MayHaveWritten, starts_of, told}
-use Rattle.resil_pool.specs.Lock.Seat.{IsDue, Tallies}
-use Rattle.resil_pool.specs.Lock.Turn.{IsResting, MayWriteNote, MayWriteEach, MayHave, IsStep, IsMoved, Takes, Rests, ClosesAtMost, SeesClosing, WroteCloseAtMost, TookATurn, HasTurn, Acted, Turned}
+use Rattle.resil_pool.specs.Lock.Protocol.{View, LockSeatState, IsMachineOf, MayHaveWritten, starts_of, told, IsDue, Tallies, EndsOnlyPicked}
+use Rattle.resil_pool.specs.Lock.Turn.{IsResting, MayWrite, IsStep, IsMoved, Takes, WritesAtMost, SeesClosing, WroteCloseAtMost, TookATurn}
 use Rattle.atomic_table.specs.Seated.{TableId}
 use Rattle.resil_pool.specs.Parts.{SeatView, IsCloser, source_of, seat_view}
 use Rattle.resil_pool.specs.Worker.{takes_in}
 use Rattle.resil_pool.proofs.Logs.{own_in-append, events_in-append, starts_in-append, plans_in-append, runs_in-append, takes_in-append, picked-more, ended-more}
 use Rattle.resil_pool.proofs.NamedCallers.{written_names}
-use Rattle.resil_pool.proofs.SeatLaws.{numbering, few-job, due-job, take-next, take-within}
+use Rattle.resil_pool.proofs.SeatLaws.{numbering, few-job, due-job, take-next}
+
+-- the seat of this number may write these
+abbrev MayWriteNote : ℕ → ℕ → Note → Type 0
+MayWriteNote callers number (note.Event event) = MayWrite callers number event
+MayWriteNote callers number (note.Started id) = Unit {0}
+
+abbrev MayWriteEach : ℕ → ℕ → List LoggedEvent → Type 0
+MayWriteEach callers number [] = Unit {0}
+MayWriteEach callers number (entry ∷ entries) = MayWriteNote callers number entry.note × MayWriteEach callers number entries
+
+-- what a turn wrote: the seat may have written it, and has picked each job that it ends
+pub record MayHave (old : LockSeatState) (entries : List LoggedEvent) : Type 0 where
+  pub may : MayWriteEach old.0.key.callers old.0.number entries
+  pub due : (id : Id) → times id (ended_in old.0.own) + times id (ended_in entries) ≤ times id (picked_in old.0.own) + times id (picked_in entries)
+
+-- A seat has taken the lock, and has the machine: it stands for the log that the seat has seen, and a job that the seat picked and hasn't ended is out.
+pub record HasTurn (old : LockSeatState) (machine : MachineView) (me : LockSeatState) : Type 0 where
+  pub view : me.0 ≡ holder_view old.0 me.0.seen
+  pub slot : me.1 ≡ (0, None) ∷ []
+  pub begins : IsPrefix old.0.seen me.0.seen
+  pub same_own : own_in old.0.number me.0.seen ≡ own_in old.0.number old.0.seen
+  pub home : IsMachineOf old.0.key me.0.seen machine
+  pub fits : MayHaveWritten old.0.rank old.0.own
+  pub out : (id : Id) → IsDue id old.0.own → is_among id (jobs_in_flight machine) ≡ true
+  pub few : EndsOnlyPicked machine
+
+-- it made the one machine the other, and wrote this
+pub record Acted (old : LockSeatState) (m : MachineView) (me : LockSeatState) (entries : List LoggedEvent) (m' : MachineView) : Type 0 where
+  pub took : HasTurn old m me
+  pub moved : IsMoved m entries m'
+  pub wrote : MayHave old entries
+
+-- and it released the lock
+pub record Turned (old : LockSeatState) (m : MachineView) (entries : List LoggedEvent) (m' : MachineView) (new : LockSeatState) : Type 0 where
+  pub me : LockSeatState
+  pub acted : Acted old m me entries m'
+  pub slot : new.1 ≡ []
+  pub left : new.0 ≡ left_view me.0 entries
+
+-- what holds of each of two lists holds of the one that was written
+pub either : {entries a b : List LoggedEvent} (P : List LoggedEvent → Type 0) → P a → P b → (entries ≡ a) ⊎ (entries ≡ b) → P entries
+either P one other is = ⊎_elim (λ e. subst P (sym e) one) (λ e. subst P (sym e) other) is
 
 -- what the lock tells a seat that takes it
 abbrev pub Took : TableId → TableId → LockSeatState → LockSeatState → State → Type 0
@@ -78,7 +120,7 @@ step-stands opening log m m' number plan ended (note.Event e) is step own =
     let same = step.1 in
     let few = is.within in
     let longer = ap length grown ∙ length-append (started m.history) (started (e ∷ [])) in
-    let starts : starts_of m' ≡ starts_of m = (λ i. take (step.1 i) (grown i)) ∙ take-within m.picked (started m.history) (started (e ∷ [])) is.within in record {
+    let starts : starts_of m' ≡ starts_of m = (λ i. take (step.1 i) (grown i)) ∙ take-append-le m.picked (started m.history) (started (e ∷ [])) is.within in record {
       home = record {
         sized = step.0.sized ∙ is.home.sized;
         history = step.0.history ∙ (ap (λ (h : List Event). h ++ e ∷ []) is.home.history ∙ sym events);
@@ -116,12 +158,8 @@ stands opening log m m' number (entry ∷ next ∷ entries) is moved own = absur
 -- what a seat may write is no other seat's own
 other-note : (callers number j : ℕ) → j ≢ number → (written : Note) → MayWriteNote callers number written → is_own_note j written ≡ false
 other-note callers number j apart (note.Event (Submit id reply)) mine = ne_eqb id.caller j (λ same. apart (sym same ∙ mine.0))
-other-note callers number j apart (note.Event (Take id)) mine = refl
-other-note callers number j apart (note.Event (Finish id)) mine = refl
-other-note callers number j apart (note.Event IdleEnd) mine = refl
 other-note callers number j apart (note.Event Close) mine = ne_eqb j 0 (λ same. apart (same ∙ sym mine))
-other-note callers number j apart (note.Event (Resized core max)) mine = refl
-other-note callers number j apart (note.Started id) mine = refl
+other-note callers number j apart _ mine = refl
 
 others-own : (callers number j : ℕ) → j ≢ number → (entries : List LoggedEvent) → MayWriteEach callers number entries → own_in j entries ≡ []
 others-own callers number j apart [] own = refl
@@ -164,22 +202,13 @@ pub ends-none : (old : LockSeatState) (entries : List LoggedEvent) → MayHaveWr
 ends-none old entries fits may ends = record { may = may; due = λ id. let b = fits.balanced id in let e = ap (times id) ends in omega (arith, b, e) }
 
 pub takes-quiet : (callers number : ℕ) (id : Id) (entries : List LoggedEvent) → Takes id entries → IsQuiet callers number entries
-takes-quiet callers number id entries takes = ⊎_elim
-    (λ (e : entries ≡ start_of id ∷ []). subst (IsQuiet callers number) (sym e) (record { may = (tt, tt); own = refl; ends = refl; runs = refl }))
-    (λ (e : entries ≡ log_event None (Take id) ∷ []). subst (IsQuiet callers number) (sym e) (record { may = (tt, tt); own = refl; ends = refl; runs = refl }))
-    takes
+takes-quiet callers number id entries takes = either (IsQuiet callers number) (record { may = (tt, tt); own = refl; ends = refl; runs = refl }) (record { may = (tt, tt); own = refl; ends = refl; runs = refl }) takes
 
-pub rests-quiet : (callers number : ℕ) (entries : List LoggedEvent) → Rests entries → IsQuiet callers number entries
-rests-quiet callers number entries rests = ⊎_elim
-    (λ (e : entries ≡ []). subst (IsQuiet callers number) (sym e) (record { may = tt; own = refl; ends = refl; runs = refl }))
-    (λ (e : entries ≡ log_event None IdleEnd ∷ []). subst (IsQuiet callers number) (sym e) (record { may = (tt, tt); own = refl; ends = refl; runs = refl }))
-    rests
+pub rests-quiet : (callers number : ℕ) (entries : List LoggedEvent) → WritesAtMost IdleEnd entries → IsQuiet callers number entries
+rests-quiet callers number entries rests = either (IsQuiet callers number) (record { may = tt; own = refl; ends = refl; runs = refl }) (record { may = (tt, tt); own = refl; ends = refl; runs = refl }) rests
 
-pub may-close : (old : LockSeatState) (entries : List LoggedEvent) → MayHaveWritten old.0.rank old.0.own → old.0.number ≡ closer_number → ClosesAtMost entries → MayHave old entries
-may-close old entries fits first closes = ⊎_elim
-    (λ (e : entries ≡ []). subst (MayHave old) (sym e) (ends-none old [] fits tt refl))
-    (λ (e : entries ≡ log_event None Close ∷ []). subst (MayHave old) (sym e) (ends-none old (log_event None Close ∷ []) fits (first, tt) refl))
-    closes
+pub may-close : (old : LockSeatState) (entries : List LoggedEvent) → MayHaveWritten old.0.rank old.0.own → old.0.number ≡ closer_number → WritesAtMost Close entries → MayHave old entries
+may-close old entries fits first closes = either (MayHave old) (ends-none old [] fits tt refl) (ends-none old (log_event None Close ∷ []) fits (first, tt) refl) closes
 
 -- what a turn showed its seat
 module _ {old : LockSeatState} {m : MachineView} {entries : List LoggedEvent} {m' : MachineView} {new : LockSeatState} (t : Turned old m entries m' new) where
@@ -232,7 +261,7 @@ module _ {old : LockSeatState} {m : MachineView} {entries : List LoggedEvent} {m
   }
 
   pub took-turn : own_in old.0.number entries ≡ [] → TookATurn old new
-  took-turn none = record { rest = rests-now; number = number-now; ranked = rank-now; limits = key-now; seen = sees-more none }
+  took-turn none = record { rest = rests-now; limits = key-now; seen = sees-more none }
 
   pub wrote-none : entries ≡ [] → new.0.own ≡ old.0.own
   wrote-none is = own-now ∙ (ap (λ (xs : List LoggedEvent). old.0.own ++ xs) is ∙ append-nil old.0.own)
@@ -254,7 +283,7 @@ module _ {old : LockSeatState} {m : MachineView} {entries : List LoggedEvent} {m
   })
 
   -- a closing
-  module _ (first : old.0.number ≡ closer_number) (closes : ClosesAtMost entries) where
+  module _ (first : old.0.number ≡ closer_number) (closes : WritesAtMost Close entries) where
     pub sees-closing : SeesClosing old.0.key.limits old.0.seen new.0.seen
     sees-closing = subst (λ (j : ℕ). SeesMore old.0.key.limits j old.0.seen new.0.seen ⊎ SeesOwn old.0.key.limits j old.0.seen (log_event None Close) new.0.seen) first (⊎_elim
         (λ (e : entries ≡ []). inl (sees-more (ap (own_in old.0.number) e)))
@@ -272,7 +301,7 @@ closing-more limits old new seen = ⊎_elim
     seen
 
 -- what a closing shows a closer
-module _ {old : LockSeatState} {m : MachineView} {entries : List LoggedEvent} {m' : MachineView} {new : LockSeatState} (t : Turned old m entries m' new) (closer : SeatView) (table : TableId) (same : seat_view table old ≡ closer) (first : old.0.number ≡ closer_number) (closes : ClosesAtMost entries) where
+module _ {old : LockSeatState} {m : MachineView} {entries : List LoggedEvent} {m' : MachineView} {new : LockSeatState} (t : Turned old m entries m' new) (closer : SeatView) (table : TableId) (same : seat_view table old ≡ closer) (first : old.0.number ≡ closer_number) (closes : WritesAtMost Close entries) where
   pub closer-seen : SeesClosing closer.source.limits closer.seen new.0.seen
   closer-seen = subst (λ (k : SeatView). SeesClosing k.source.limits k.seen new.0.seen) same (sees-closing t first closes)
 

@@ -26,18 +26,15 @@ pub record HasAllHandles (pool : PoolView) (callers : List CallerView) (ends : L
 
 abbrev pub IsPartMissing : DrainFault → Type 0
 IsPartMissing (PartMissing pool closer callers ends) = Unit {0}
-IsPartMissing Stranger = ⊥
-IsPartMissing ReceiptsDiffer = ⊥
+IsPartMissing _ = ⊥
 
 abbrev pub IsStranger : DrainFault → Type 0
-IsStranger (PartMissing pool closer callers ends) = ⊥
 IsStranger Stranger = Unit {0}
-IsStranger ReceiptsDiffer = ⊥
+IsStranger _ = ⊥
 
 abbrev pub IsReceiptsDiffer : DrainFault → Type 0
-IsReceiptsDiffer (PartMissing pool closer callers ends) = ⊥
-IsReceiptsDiffer Stranger = ⊥
 IsReceiptsDiffer ReceiptsDiffer = Unit {0}
+IsReceiptsDiffer _ = ⊥
 
 -- the answer is a refusal, of which P holds
 abbrev pub IsDrainError : (DrainFault → Type 0) → Result DrainReport DrainFault → Type 0
@@ -47,8 +44,7 @@ IsDrainError P (Err fault) = P fault
 -- where a part is missing, all that were handed in come back
 abbrev pub HandsBack : PoolView → SeatView → List CallerView → List EndView → DrainFault → Type 0
 HandsBack pool closer callers ends (PartMissing pool' closer' callers' ends') = (pool' ≡ pool) × (closer' ≡ closer) × (callers'.items ≡ callers) × (ends'.items ≡ ends)
-HandsBack pool closer callers ends Stranger = Unit {0}
-HandsBack pool closer callers ends ReceiptsDiffer = Unit {0}
+HandsBack pool closer callers ends _ = Unit {0}
 
 -- what the machine was left with isn't what the receipts say
 abbrev pub Differ : ℕ → MachineView → List (List Receipt) → Type 0

@@ -2,7 +2,7 @@
 use Rattle.std.specs.Prelude.{◌≡◌, ◌↔◌, ◌++◌, ◌∷◌, ℕ, Bool, IsTrue, List, Option, Some, None, map}
 use Rattle.resil_rule.specs.Limits.{Sizes}
 use Rattle.resil_rule.specs.declared.event.Event.{Event}
-use Rattle.resil_rule.specs.declared.event.Event.TheVariants.{Submit, Take, Finish, IdleEnd, Close, Resized}
+use Rattle.resil_rule.specs.declared.event.Event.TheVariants.{Submit, Close}
 use Rattle.resil_pool.specs.declared.hold.JobRow.{JobRow}
 use Rattle.resil_pool.specs.declared.lock.logged_event.LoggedEvent.{LoggedEvent}
 use Rattle.resil_pool.specs.Lock.LoggedEvent.{log_event, events_in, closer_number, SeesOwn}
@@ -10,11 +10,7 @@ use Rattle.resil_pool.specs.Lock.LoggedEvent.{log_event, events_in, closer_numbe
 -- the caller that an event is a submission of
 abbrev pub submitter : Event → Option ℕ
 submitter (Submit id reply) = Some id.caller
-submitter (Take id) = None
-submitter (Finish id) = None
-submitter IdleEnd = None
-submitter Close = None
-submitter (Resized core max) = None
+submitter _ = None
 
 abbrev pub row_caller : JobRow → Option ℕ
 row_caller row = Some row.caller

@@ -8,14 +8,16 @@ use Rattle.resil_admission.specs.declared.row.Row.{Row}
 use Rattle.resil_rule.specs.declared.error.AdmitError.{AdmitError}
 use Rattle.resil_rule.specs.declared.event.Id.{Id}
 use Rattle.resil_rule.specs.declared.event.Event.{Event}
-use Rattle.resil_rule.specs.declared.event.Event.TheVariants.{Take}
-use Rattle.resil_admission.specs.MachineView.{MachineView, IsFinishRefusal}
+use Rattle.resil_rule.specs.declared.event.Event.TheVariants.{Take, IdleEnd}
+use Rattle.resil_admission.specs.MachineView.{MachineView, IsFinishRefusal, with_event}
 use Rattle.resil_decor.specs.Plan.{PlanView}
 use Rattle.resil_decor.specs.Run.{RunView}
 use Rattle.resil_decor.specs.declared.permitter.Asked.{Asked}
 use Rattle.resil_pool.specs.declared.lock.logged_event.LoggedEvent.{LoggedEvent}
 use Rattle.resil_pool.specs.Lock.LoggedEvent.{events_in, plans_in, runs_in, MatchesLog}
 use Rattle.resil_pool.specs.Lock.Protocol.{View}
+use Rattle.resil_pool.specs.Lock.Turn.{IsMoved, WritesAtMost}
+use Rattle.resil_pool.specs.declared.worker.AtWork.{AtWork}
 use Rattle.resil_pool.specs.declared.worker.Look.{Look}
 use Rattle.resil_pool.specs.declared.worker.Look.TheVariants.{Found, NoJob, Exit}
 
@@ -26,6 +28,15 @@ AllowsNoTake limits history = (id : Id) → ¬ IsAllowed limits history (Take id
 abbrev pub HasNoTake : MachineView → Type 0
 HasNoTake m = AllowsNoTake m.limits m.history
 
+-- An idle worker has asked to end: where the rule of admission allows it, its end was written, and else nothing. No job may be taken then,
+-- and a closed pool is still closed.
+pub record EndsIdle (old new : MachineView) (entries : List LoggedEvent) : Type 0 where
+  pub ends : IsAllowed old.limits old.history IdleEnd → new ≡ with_event old IdleEnd
+  pub wrote : IsMoved old entries new
+  pub rests : WritesAtMost IdleEnd entries
+  pub no_take : HasNoTake new
+  pub closed : is_closed old.history ≡ true → is_closed new.history ≡ true
+
 -- the pool is closed, and nothing waits that may be taken
 pub record IsAtEnd (limits : Sizes) (history : List Event) : Type 0 where
   pub closed : is_closed history ≡ true
@@ -33,27 +44,23 @@ pub record IsAtEnd (limits : Sizes) (history : List Event) : Type 0 where
 
 -- P holds if the look was the worker's last
 abbrev pub OnExit : Look → Type 0 → Type 0
-OnExit (Found id job) P = Unit {0}
-OnExit NoJob P = Unit {0}
 OnExit Exit P = P
+OnExit _ P = Unit {0}
 
 -- P holds of the job that the look found
 abbrev pub OnFound : Look → (Id → PlanView → Type 0) → Type 0
 OnFound (Found id job) P = P id job
-OnFound NoJob P = Unit {0}
-OnFound Exit P = Unit {0}
+OnFound _ P = Unit {0}
 
 -- P holds if the look found no job, and the worker looks on
 abbrev pub OnNoJob : Look → Type 0 → Type 0
-OnNoJob (Found id job) P = Unit {0}
 OnNoJob NoJob P = P
-OnNoJob Exit P = Unit {0}
+OnNoJob _ P = Unit {0}
 
 -- P holds if the look found no job
 abbrev pub OnNothing : Look → Type 0 → Type 0
 OnNothing (Found id job) P = Unit {0}
-OnNothing NoJob P = P
-OnNothing Exit P = P
+OnNothing _ P = P
 
 -- the plan that the log keeps beside the accepted submission of this id
 abbrev pub logged_plan_of : List LoggedEvent → Id → Option (Option PlanView)
@@ -143,3 +150,11 @@ pub record HasMadeRounds {P : Type 0} (Between : P → List Asked → P → Type
   pub begins : IsPrefix before.seen after.seen
   pub took : HasRunTakes Between permitter permitter' (runs_in before.own) (runs_in after.own) (takes_in before.own) (takes_in after.own) None
   pub holds : (id : ℕ) → held permitter' id ≡ held permitter id
+
+-- what all rounds of a worker at work leave of it
+pub record HasWorked {P H : Type 0} (Between : P → List Asked → P → Type 0) (held : P → ℕ → ℕ) (x y : AtWork P H) : Type 0 where
+  pub pool : y.pool ≡ x.pool
+  pub seat : y.seat.ghost_name ≡ x.seat.ghost_name
+  pub permitter : y.permitter.ghost_name ≡ x.permitter.ghost_name
+  pub table : y.seat.now.table_id ≡ x.seat.now.table_id
+  pub made : HasMadeRounds Between held x.permitter.now y.permitter.now x.seat.now.me.0 y.seat.now.me.0

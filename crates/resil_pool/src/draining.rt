@@ -17,15 +17,14 @@
 ghost use Rattle.std.specs.Prelude.{◌≡◌, ◌↔◌, ℕ, true, List, All, Any, IsSome, IsTrue, IfOk, IfErr, map};
 ghost use mathlib.Core.List.{IsPrefix};
 ghost use Rattle.resil_rule.specs.Admission.{IsLegal};
-ghost use Rattle.resil_rule.specs.History.{is_closed, submissions};
+ghost use Rattle.resil_rule.specs.History.{is_closed};
 ghost use Rattle.resil_admission.specs.MachineView.{HasNoneToPick};
 ghost use Rattle.resil_pool.specs.Lock.LoggedEvent.{NamesCaller, events_in};
-ghost use Rattle.resil_pool.specs.Lock.Seat.{EndsOnlyPicked};
-ghost use Rattle.resil_pool.specs.NamedCallers.{KeepsNames};
+ghost use Rattle.resil_pool.specs.Lock.Protocol.{EndsOnlyPicked};
 ghost use Rattle.resil_rule.specs.declared.event.Event.{Event};
 ghost use Rattle.resil_admission.specs.declared.row.Row.{Row};
 ghost use Rattle.resil_pool.specs.Draining.Report.{AreReceiptsOf, AreSubmissions, AreCollected};
-ghost use Rattle.resil_pool.specs.Draining.Remaining.{FinishedEachPick, Ran, RanInDrain};
+ghost use Rattle.resil_pool.specs.Draining.Remaining.{HasRunOn, Ran, RanInDrain};
 ghost use Rattle.resil_pool.specs.Draining.{HasAllHandles, IsPartMissing, IsStranger, IsReceiptsDiffer, IsDrainError, HandsBack, Ended};
 
 mod callers;
@@ -47,13 +46,9 @@ use std::sync::Wait;
 fn run_remaining<R: Wait, P: Permitter>(rt: &R, machine: &mut Machine, permitter: &mut P)
     requires legal { IsLegal machine.old.limits machine.old.history }
     requires few { EndsOnlyPicked machine.old }
-    ensures limits { machine.new.limits ≡ machine.old.limits }
-    ensures begins { IsPrefix machine.old.history machine.new.history }
+    ensures even { HasRunOn machine.old machine.new }
     ensures ran { (made : List Row) × Ran P.AnsweredBetween permitter.old machine.old made permitter.new machine.new }
     ensures none_left { HasNoneToPick machine.new }
-    ensures even { FinishedEachPick machine.old machine.new }
-    ensures names { (callers : ℕ) → KeepsNames callers machine.old machine.new }
-    ensures submissions { (caller : ℕ) → submissions machine.new.history caller ≡ submissions machine.old.history caller }
     ensures held { (id : ℕ) → P.held permitter.new id ≡ P.held permitter.old id }
 {
     for _ in rt.forever() {

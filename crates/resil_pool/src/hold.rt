@@ -4,17 +4,18 @@
 //! No other seat is used before the pool is closed. Contracts see one seat at a time, so the closer compares the history with the
 //! rows while it holds the lock.
 
-ghost use Rattle.std.specs.Prelude.{◌≡◌, ◌↔◌, Some, true, IsTrue};
+ghost use Rattle.std.specs.Prelude.{◌≡◌, ◌↔◌, true, IsTrue};
 ghost use Rattle.std.specs.Bool.{OnTrue};
 ghost use Rattle.resil_rule.specs.History.{is_closed};
 ghost use Rattle.resil_pool.specs.Lock.LoggedEvent.{events_in};
 ghost use Rattle.resil_pool.specs.Lock.Protocol.{told};
-ghost use Rattle.resil_pool.specs.Lock.Turn.{IsMoved, ClosesAtMost, SeesClosing, WroteCloseAtMost};
-ghost use Rattle.resil_pool.specs.Hold.{submitter, AreRows, BeginsWithRows, TellsOfRows};
+ghost use Rattle.resil_pool.specs.Lock.Turn.{IsMoved, WritesAtMost, SeesClosing, WroteCloseAtMost};
+ghost use Rattle.resil_pool.specs.Hold.{AreRows, BeginsWithRows, TellsOfRows};
 
 use crate::lock::{Note, State, note_if};
 use crate::parts::Closer;
 use crate::pool::Pool;
+use crate::submit::is_submission_of;
 use resil_admission::Event;
 use resil_decor::Plan;
 use std::sync::Wait;
@@ -28,17 +29,6 @@ pub struct JobRow {
     pub plan: Plan,
 }
 
-// Whether the event is a submission of this caller.
-fn is_submitted_by(event: &Event, caller: u16) -> bool
-    ensures { IsTrue result ↔ (submitter event.now ≡ Some caller) }
-{
-    match event {
-        Event::Submit { id, .. } => id.caller == caller,
-        Event::Take(_) | Event::Finish(_) | Event::IdleEnd | Event::Close | Event::Resized { .. } =>
-            false,
-    }
-}
-
 // Whether the events are the rows' submissions, in row order, and nothing else.
 fn are_rows(events: &[Event], rows: &[JobRow]) -> bool
     ensures { IsTrue result ↔ AreRows rows.now events.now }
@@ -47,7 +37,7 @@ fn are_rows(events: &[Event], rows: &[JobRow]) -> bool
         return false;
     }
     for place in 0..rows.len() {
-        if !is_submitted_by(&events[place], rows[place].caller) {
+        if !is_submission_of(&events[place], rows[place].caller) {
             return false;
         }
     }
@@ -58,7 +48,7 @@ impl State {
     // Closes the machine, if it is open, and says whether its history was that of the rows.
     fn close_after_rows(&mut self, rows: &[JobRow]) -> bool
         ensures wrote { IsMoved self.old.machine (told self.new) self.new.machine }
-        ensures closes { ClosesAtMost (told self.new) }
+        ensures closes { WritesAtMost Event.Close (told self.new) }
         ensures closed { is_closed self.new.machine.history ≡ true }
         ensures in_order { IsTrue result ↔ AreRows rows.now self.old.machine.history }
     {

@@ -139,7 +139,7 @@ pub fn open_pool(
         lock,
         limits,
         callers,
-        keep_alive: empty_looks(keep_alive),
+        keep_alive: keep_alive.max(1),
         receipts,
     };
     Ok((pool, Closer { seat }, submitters, workers))
@@ -156,13 +156,6 @@ fn make_lock(alloc: Global, opening: Opening) -> Result<(Lock, LockSeat), AllocE
     let last = None;
     let inner = Box::new(alloc, State { machine, last })?;
     resil_lock::Lock::new(alloc, BoxedState { inner }, &opening)
-}
-
-// The keep-alive as a number of empty looks: 0 means 1.
-fn empty_looks(keep_alive: u32) -> u32
-    ensures { (1 ≤ keep_alive → result ≡ keep_alive) × (keep_alive ≡ 0 → result ≡ 1) }
-{
-    keep_alive.max(1)
 }
 
 // Callers, numbered from 1, in a list that has room for them.

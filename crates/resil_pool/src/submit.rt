@@ -3,7 +3,9 @@
 //! All memory that a submission needs outside of the machine is taken before its turn: room for the receipt, and a
 //! copy of the plan. So a submission that was written always has its receipt.
 
-ghost use Rattle.std.specs.Prelude.{◌≡◌, ◌+◌, ◌<◌, ◌++◌, ◌∷◌, [], length, map, IfOk, IfErr, OnErr, vec_capacity};
+ghost use Rattle.std.specs.Prelude.{◌≡◌, ◌↔◌, ◌+◌, ◌<◌, ◌++◌, ◌∷◌, [], Some, length, map, IfOk, IfErr, IsTrue, OnErr, vec_capacity};
+ghost use Rattle.resil_rule.specs.History.{is_submit_of};
+ghost use Rattle.resil_pool.specs.Hold.{submitter};
 ghost use Rattle.resil_pool.specs.Lock.LoggedEvent.{own_in, SeesMore, SeesOwn};
 ghost use Rattle.resil_pool.specs.Lock.Protocol.{told};
 ghost use Rattle.resil_pool.specs.Submit.{AnswersSubmission};
@@ -144,5 +146,17 @@ fn memory_of(error: AdmitError) -> SubmitError
     match error {
         AdmitError::Memory => SubmitError::Memory,
         _ => unreachable!(),
+    }
+}
+
+// Whether the event is a submission of this caller.
+pub(crate) fn is_submission_of(event: &Event, caller: u16) -> bool
+    ensures names { IsTrue result ↔ (submitter event.now ≡ Some caller) }
+    ensures passes { result ≡ is_submit_of caller event.now }
+{
+    match event {
+        Event::Submit { id, .. } => id.caller == caller,
+        Event::Take(_) | Event::Finish(_) | Event::IdleEnd | Event::Close | Event::Resized { .. } =>
+            false,
     }
 }

@@ -13,11 +13,10 @@ ghost use Rattle.resil_rule.specs.Admission.{IsAllowed, IsLegal};
 ghost use Rattle.resil_admission.specs.MachineView.{IsPicked, HasNoneToPick, jobs_in_flight, plan_of, with_event, with_finish};
 ghost use Rattle.resil_pool.specs.declared.lock.logged_event.Note.TheVariants as note;
 ghost use Rattle.resil_pool.specs.Lock.LoggedEvent.{events_in, runs_in, finish_of};
-ghost use Rattle.resil_pool.specs.Lock.Protocol.{told};
-ghost use Rattle.resil_pool.specs.Lock.Seat.{IsDue, IsSettled, Tallies};
-ghost use Rattle.resil_pool.specs.Lock.Turn.{IsResting, IsMoved, Takes, Rests, TookATurn};
+ghost use Rattle.resil_pool.specs.Lock.Protocol.{IsDue, IsSettled, Tallies, told};
+ghost use Rattle.resil_pool.specs.Lock.Turn.{IsResting, IsMoved, Takes, TookATurn, WritesAtMost};
 ghost use Rattle.resil_pool.specs.Parts.{IsWitness};
-ghost use Rattle.resil_pool.specs.Worker.{AllowsNoTake, EndsWith, HasNoTake, HasFirstRefusal, HasRunJob, HasRunJobs, HasMadeRounds, IsAtEnd, OnExit, OnFound, OnNoJob, OnNothing, HasRunTakes, TakesAtMost, WasRefused, logged_plan_of, takes_in};
+ghost use Rattle.resil_pool.specs.Worker.{EndsIdle, EndsWith, HasNoTake, HasFirstRefusal, HasRunJob, HasRunJobs, HasWorked, IsAtEnd, OnExit, OnFound, OnNoJob, OnNothing, HasRunTakes, TakesAtMost, WasRefused, logged_plan_of, takes_in};
 
 use crate::hook::Hook;
 use crate::lock::{LockSeat, Note, State, note_if};
@@ -63,32 +62,15 @@ impl State {
         ensures asks { timed_out ≡ true → OnNoJob result (IsAllowed self.old.machine.limits self.old.machine.history Event.IdleEnd → self.new.machine ≡ with_event self.old.machine Event.IdleEnd) }
         ensures wrote { IsMoved self.old.machine (told self.new) self.new.machine }
         ensures picks { OnFound result (λ id _. Takes id (told self.new)) }
-        ensures rests { OnNothing result (Rests (told self.new)) }
+        ensures rests { OnNothing result (WritesAtMost Event.IdleEnd (told self.new)) }
         ensures left { OnExit result (IsAtEnd self.new.machine.limits self.new.machine.history) }
     {
         let before = self.machine.history().len();
-        match self.machine.pick() {
-            Some((id, job)) => {
-                let written = note_of_pick(id, before, self.machine.history().len());
-                self.last = note_if(true, written);
-                Look::Found(id, job)
-            }
-            None => self.on_empty(timed_out),
+        if let Some((id, job)) = self.machine.pick() {
+            let written = note_of_pick(id, before, self.machine.history().len());
+            self.last = note_if(true, written);
+            return Look::Found(id, job);
         }
-    }
-
-    // What a worker does where there is no job.
-    fn on_empty(&mut self, timed_out: bool) -> Look
-        requires { HasNoTake self.old.machine }
-        ensures nothing { OnFound result (λ _ _. ⊥) }
-        ensures no_take { HasNoTake self.new.machine }
-        ensures open { OnNoJob result (is_closed self.old.machine.history ≡ false) }
-        ensures unchanged { timed_out ≡ false → OnNoJob result (self.new.machine ≡ self.old.machine) }
-        ensures asks { timed_out ≡ true → OnNoJob result (IsAllowed self.old.machine.limits self.old.machine.history Event.IdleEnd → self.new.machine ≡ with_event self.old.machine Event.IdleEnd) }
-        ensures wrote { IsMoved self.old.machine (told self.new) self.new.machine }
-        ensures rests { Rests (told self.new) }
-        ensures left { OnExit result (IsAtEnd self.new.machine.limits self.new.machine.history) }
-    {
         if self.machine.closed() {
             self.end_if_allowed();
             return Look::Exit;
@@ -104,11 +86,7 @@ impl State {
     // Asks the machine to end an idle worker, which it does if the rule of admission allows it.
     fn end_if_allowed(&mut self)
         requires { HasNoTake self.old.machine }
-        ensures ends { IsAllowed self.old.machine.limits self.old.machine.history Event.IdleEnd → self.new.machine ≡ with_event self.old.machine Event.IdleEnd }
-        ensures wrote { IsMoved self.old.machine (told self.new) self.new.machine }
-        ensures rests { Rests (told self.new) }
-        ensures no_take { HasNoTake self.new.machine }
-        ensures closed { is_closed self.old.machine.history ≡ true → is_closed self.new.machine.history ≡ true }
+        ensures { EndsIdle self.old.machine self.new.machine (told self.new) }
     {
         let ended = self.machine.idle_end();
         self.last = note_if(ended, Note::Event(Event::IdleEnd));
@@ -142,7 +120,6 @@ impl Pool {
         ensures picks { OnFound result (λ id _. Tallies seat.old.me.0.own (id ∷ []) [] seat.new.me.0.own) }
         ensures picks_none { OnNothing result (Tallies seat.old.me.0.own [] [] seat.new.me.0.own) }
         ensures found { OnFound result (λ id job. logged_plan_of seat.new.me.0.seen id ≡ Some (Some job)) }
-        ensures no_take { OnNothing result (AllowsNoTake seat.old.me.0.key.limits (events_in seat.new.me.0.seen)) }
         ensures left { OnExit result (IsAtEnd seat.old.me.0.key.limits (events_in seat.new.me.0.seen)) }
     {
         let mut state = self.lock.take(rt, seat);
@@ -151,26 +128,8 @@ impl Pool {
         look
     }
 
-    // A turn in which the run of a job ends that the seat picked, of the plan that the log keeps beside its submission. No run
-    // is refused: by the rule of the lock the job is out until its own worker ends it.
-    fn finish<R: Wait>(&self, rt: &R, seat: &mut LockSeat, id: Id, run: Run)
-        requires source { seat.old.table_id ≡ self.now.source.table_id }
-        requires rest { IsResting seat.old.me }
-        requires due { IsDue id seat.old.me.0.own }
-        requires known { logged_plan_of seat.old.me.0.seen id ≡ Some (Some run.plan) }
-        ensures source { seat.new.table_id ≡ seat.old.table_id }
-        ensures turn { TookATurn seat.old.me seat.new.me }
-        ensures ends { Tallies seat.old.me.0.own [] (id ∷ []) seat.new.me.0.own }
-        ensures finished { EndsWith (events_in seat.new.me.0.seen) (Event.Finish id) }
-        ensures kept { runs_in seat.new.me.0.own ≡ runs_in seat.old.me.0.own ++ record { id = id; run = run } ∷ [] }
-        ensures takes_none { takes_in seat.new.me.0.own ≡ takes_in seat.old.me.0.own }
-    {
-        let mut state = self.lock.take(rt, seat);
-        state.inner.finish(id, run);
-        self.lock.release(seat, state);
-    }
-
-    // Runs a job that the seat picked, with this permitter, and ends it in one turn.
+    // Runs a job that the seat picked, with this permitter, and ends it in one turn. The run is of the plan that the log keeps
+    // beside the job's submission. It isn't refused: by the rule of the lock the job is out until its own worker ends it.
     fn run_job<R: Wait, P: Permitter, H: Hook>(
         &self,
         rt: &R,
@@ -194,7 +153,9 @@ impl Pool {
         let (id, job) = picked;
         hook.before(id);
         let run = job.run(permitter);
-        self.finish(rt, seat, id, run);
+        let mut state = self.lock.take(rt, seat);
+        state.inner.finish(id, run);
+        self.lock.release(seat, state);
         hook.after(id);
     }
 
@@ -264,12 +225,9 @@ fn make_rounds<R: Wait, P: Permitter, H: Hook>(rt: &R, at_work: &mut AtWork<'_, 
     requires source { at_work.old.seat.now.table_id ≡ at_work.old.pool.now.source.table_id }
     requires rest { IsWitness at_work.old.seat.now.me }
     requires settled { IsSettled at_work.old.seat.now.me.0.own }
-    ensures same_seat { at_work.new.seat.ghost_name ≡ at_work.old.seat.ghost_name }
-    ensures same_permitter { at_work.new.permitter.ghost_name ≡ at_work.old.permitter.ghost_name }
-    ensures source { at_work.new.seat.now.table_id ≡ at_work.old.seat.now.table_id }
     ensures rest { IsWitness at_work.new.seat.now.me }
     ensures settled { IsSettled at_work.new.seat.now.me.0.own }
-    ensures made { HasMadeRounds P.AnsweredBetween P.held at_work.old.permitter.now at_work.new.permitter.now at_work.old.seat.now.me.0 at_work.new.seat.now.me.0 }
+    ensures made { HasWorked P.AnsweredBetween P.held at_work.old at_work.new }
     ensures end { IsAtEnd at_work.new.seat.now.me.0.key.limits (events_in at_work.new.seat.now.me.0.seen) }
 {
     let pool = at_work.pool;
@@ -279,7 +237,7 @@ fn make_rounds<R: Wait, P: Permitter, H: Hook>(rt: &R, at_work: &mut AtWork<'_, 
 impl<P: Permitter, H: Hook> Rounds for AtWork<'_, P, H> {
     ghost use Rattle.std.specs.Prelude.{◌≡◌};
     ghost use Rattle.resil_pool.specs.Lock.LoggedEvent.{events_in};
-    ghost use Rattle.resil_pool.specs.Lock.Seat.{IsSettled};
+    ghost use Rattle.resil_pool.specs.Lock.Protocol.{IsSettled};
     ghost use Rattle.resil_pool.specs.Parts.{IsWitness};
     ghost use Rattle.resil_pool.specs.Worker.{HasMadeRound, IsAtEnd};
 

@@ -2,7 +2,7 @@
 use Rattle.std.specs.Prelude.{◌≡◌, ◌+◌, ◌++◌, ℕ, List, [], ◌∷◌, Some, All, Contains, length, map}
 use mathlib.Core.List.{IsPrefix}
 use Rattle.resil_decor.specs.declared.permitter.Asked.{Asked}
-use Rattle.resil_rule.specs.History.{finished, taken}
+use Rattle.resil_rule.specs.History.{finished, taken, submissions}
 use Rattle.resil_admission.specs.MachineView.{MachineView, with_run, plan_of, IsPicked, IsFinishRefusal}
 use Rattle.resil_rule.specs.declared.error.AdmitError.{AdmitError}
 use Rattle.resil_admission.specs.declared.jobs.Accepted.{Accepted}
@@ -11,6 +11,7 @@ use Rattle.resil_rule.specs.declared.event.Event.{Event}
 use Rattle.resil_admission.specs.declared.row.Row.{Row}
 use Rattle.resil_decor.specs.Run.{RunView}
 use Rattle.resil_pool.specs.Lock.LoggedEvent.{run_of}
+use Rattle.resil_pool.specs.NamedCallers.{KeepsNames}
 use Rattle.resil_pool.specs.Worker.{asked_in}
 
 -- the jobs, after each of these runs was kept
@@ -39,6 +40,14 @@ picks m = m.picked + length (taken m.history)
 -- from the one machine to the other as many jobs were finished as were picked
 abbrev pub FinishedEachPick : MachineView → MachineView → Type 0
 FinishedEachPick old new = picks new + length (finished old.history) ≡ picks old + length (finished new.history)
+
+-- what a drain runs itself leaves: more history, with as many finishes as picks, with the submissions that there were, which name callers where they did
+pub record HasRunOn (old new : MachineView) : Type 0 where
+  pub limits : new.limits ≡ old.limits
+  pub begins : IsPrefix old.history new.history
+  pub even : FinishedEachPick old new
+  pub names : (callers : ℕ) → KeepsNames callers old new
+  pub submissions : (caller : ℕ) → submissions new.history caller ≡ submissions old.history caller
 
 -- from the one machine on as many jobs were finished as were picked; then one more was picked, which left the other machine; and that one refuses a run of the
 -- job's plan

@@ -11,7 +11,7 @@ use Rattle.resil_admission.specs.declared.jobs.Accepted.{Accepted}
 use Rattle.resil_admission.specs.declared.row.Row.{Row}
 use Rattle.resil_rule.specs.declared.event.Id.{Id}
 use Rattle.resil_rule.specs.declared.event.Event.{Event}
-use Rattle.resil_rule.specs.declared.event.Event.TheVariants.{Submit, Take, Finish, IdleEnd, Close, Resized}
+use Rattle.resil_rule.specs.declared.event.Event.TheVariants.{Submit, Finish, Close}
 use Rattle.resil_pool.specs.declared.lock.logged_event.LoggedEvent.{LoggedEvent}
 use Rattle.resil_pool.specs.declared.lock.logged_event.Note.{Note}
 use Rattle.resil_pool.specs.declared.lock.logged_event.Note.TheVariants as note
@@ -46,11 +46,7 @@ ended_in log = finished (events_in log)
 -- a submission names a caller from 1 to this many
 abbrev pub NamesCaller : ℕ → Event → Type 0
 NamesCaller callers (Submit id reply) = (1 ≤ id.caller) × (id.caller ≤ callers)
-NamesCaller callers (Take id) = Unit {0}
-NamesCaller callers (Finish id) = Unit {0}
-NamesCaller callers IdleEnd = Unit {0}
-NamesCaller callers Close = Unit {0}
-NamesCaller callers (Resized core max) = Unit {0}
+NamesCaller callers _ = Unit {0}
 
 -- each submission in the history names a caller from 1 to this many
 abbrev pub AllNameCallers : ℕ → List Event → Type 0
@@ -63,11 +59,8 @@ closer_number = 0
 -- a caller's own events are its submissions, and the closer's is the closing; a take, a finish, an idle end and a resize are nobody's own
 abbrev pub is_own_event : ℕ → Event → Bool
 is_own_event number (Submit id reply) = id.caller == number
-is_own_event number (Take id) = false
-is_own_event number (Finish id) = false
-is_own_event number IdleEnd = false
 is_own_event number Close = number == closer_number
-is_own_event number (Resized core max) = false
+is_own_event number _ = false
 
 abbrev pub is_own_note : ℕ → Note → Bool
 is_own_note number (note.Event event) = is_own_event number event
@@ -111,13 +104,8 @@ run_of (job ∷ jobs) id = if is_same_id id job.id then job.run else run_of jobs
 
 -- the job that a turn ended, with the run that is kept of it
 abbrev pub run_ended_by : List Accepted → Note → Option Row
-run_ended_by jobs (note.Event (Submit id reply)) = None
-run_ended_by jobs (note.Event (Take id)) = None
 run_ended_by jobs (note.Event (Finish id)) = option_map (λ run. record { id = id; run = run }) (run_of jobs id)
-run_ended_by jobs (note.Event IdleEnd) = None
-run_ended_by jobs (note.Event Close) = None
-run_ended_by jobs (note.Event (Resized core max)) = None
-run_ended_by jobs (note.Started id) = None
+run_ended_by jobs _ = None
 
 -- what a turn wrote, with this plan, that left the machine with these jobs
 abbrev pub logged : Option PlanView → List Accepted → Note → LoggedEvent

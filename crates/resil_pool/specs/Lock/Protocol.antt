@@ -1,7 +1,7 @@
--- What lies under the lock says of itself: which logs it stands for, which seats there are, and what a turn wrote.
-use Rattle.std.specs.Prelude.{◌≡◌, ◌≤◌, ◌⊎◌, ℕ, List, [], ◌∷◌, Option, Some, None, length, option_map, take}
+-- What lies under the lock says of itself: which logs it stands for, which seats there are, what a turn wrote, and which jobs a seat's own turns picked and ended.
+use Rattle.std.specs.Prelude.{◌≡◌, ◌≤◌, ◌<◌, ◌⊎◌, ◌+◌, ℕ, List, [], ◌∷◌, Option, Some, None, length, option_map, take}
 use Rattle.atomic_table.specs.Table.{Me}
-use Rattle.resil_rule.specs.History.{started, times}
+use Rattle.resil_rule.specs.History.{started, taken, finished, times}
 use Rattle.resil_rule.specs.declared.event.Id.{Id}
 use Rattle.resil_admission.specs.MachineView.{MachineView}
 use Rattle.resil_admission.specs.declared.jobs.Accepted.{Accepted}
@@ -64,3 +64,20 @@ entries_of jobs (Some written) = logged (option_map (λ plan. plan.value) writte
 
 abbrev pub told : State → List LoggedEvent
 told state = entries_of state.machine.jobs state.last
+
+-- a seat that wrote this has picked this job and not ended it
+abbrev pub IsDue : Id → List LoggedEvent → Type 0
+IsDue id own = times id (ended_in own) < times id (picked_in own)
+
+-- the jobs that it picked are those that it ended
+abbrev pub IsSettled : List LoggedEvent → Type 0
+IsSettled own = (id : Id) → times id (ended_in own) ≡ times id (picked_in own)
+
+-- its turns have picked these jobs more, and ended these
+pub record Tallies (old : List LoggedEvent) (picks ends : List Id) (new : List LoggedEvent) : Type 0 where
+  pub picked : (id : Id) → times id (picked_in new) ≡ times id (picked_in old) + times id picks
+  pub ended : (id : Id) → times id (ended_in new) ≡ times id (ended_in old) + times id ends
+
+-- no job was finished more often than it was picked
+abbrev pub EndsOnlyPicked : MachineView → Type 0
+EndsOnlyPicked machine = (id : Id) → times id (finished machine.history) ≤ times id (starts_of machine) + times id (taken machine.history)

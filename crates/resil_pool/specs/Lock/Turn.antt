@@ -1,24 +1,20 @@
 -- What one turn does: from taking the lock to releasing it.
-use Rattle.std.specs.Prelude.{◌≡◌, ◌≢◌, ◌≤◌, ◌⊎◌, ◌+◌, ℕ, true, ◌++◌, ◌∷◌, List, [], Option, Some, None, map}
-use mathlib.Core.List.{IsPrefix}
+use Rattle.std.specs.Prelude.{◌≡◌, ◌≢◌, ◌≤◌, ◌⊎◌, ◌+◌, ℕ, ◌++◌, ◌∷◌, List, [], Option, Some, None, map}
 use Rattle.atomic_table.specs.Seated.{TableId}
 use Rattle.resil_decor.specs.Plan.{PlanView}
 use Rattle.resil_rule.specs.Limits.{Sizes}
 use Rattle.resil_rule.specs.Admission.{IsAllowed}
-use Rattle.resil_rule.specs.History.{is_among, times}
 use Rattle.resil_rule.specs.declared.event.Id.{Id}
-use Rattle.resil_admission.specs.MachineView.{MachineView, next_started, jobs_in_flight}
+use Rattle.resil_admission.specs.MachineView.{MachineView, next_started}
 use Rattle.resil_rule.specs.declared.event.Event.{Event}
-use Rattle.resil_rule.specs.declared.event.Event.TheVariants.{Submit, Take, Finish, IdleEnd, Close, Resized}
+use Rattle.resil_rule.specs.declared.event.Event.TheVariants.{Submit, Take, Close, Resized}
 use Rattle.resil_lock.specs.declared.protocol.Phase.TheVariants.{Idle}
-use Rattle.resil_lock.specs.Lock.{holder_view, left_view}
 use Rattle.resil_pool.specs.declared.lock.logged_event.LoggedEvent.{LoggedEvent}
 use Rattle.resil_pool.specs.declared.lock.opening.Opening.{Opening}
 use Rattle.resil_pool.specs.declared.lock.logged_event.Note.{Note}
 use Rattle.resil_pool.specs.declared.lock.logged_event.Note.TheVariants as note
-use Rattle.resil_pool.specs.Lock.LoggedEvent.{log_event, events_in, picked_in, ended_in, own_in, start_of, closer_number, MatchesLog, plans_in, plan_entry, SeesMore, SeesOwn}
-use Rattle.resil_pool.specs.Lock.Protocol.{LockSeatState, IsMachineOf, MayHaveWritten}
-use Rattle.resil_pool.specs.Lock.Seat.{IsDue, EndsOnlyPicked}
+use Rattle.resil_pool.specs.Lock.LoggedEvent.{log_event, events_in, start_of, closer_number, MatchesLog, plans_in, plan_entry, SeesMore, SeesOwn}
+use Rattle.resil_pool.specs.Lock.Protocol.{LockSeatState}
 
 -- which lock, and with what its pool was opened
 pub record PoolId : Type 0 where
@@ -38,11 +34,9 @@ pub record IsResting (me : LockSeatState) : Type 0 where
 -- the closer; a closing by the closer alone, a resize never by the closer
 abbrev pub MayWrite : ℕ → ℕ → Event → Type 0
 MayWrite callers number (Submit id reply) = (id.caller ≡ number) × (number ≢ closer_number) × (number ≤ callers)
-MayWrite callers number (Take id) = Unit {0}
-MayWrite callers number (Finish id) = Unit {0}
-MayWrite callers number IdleEnd = Unit {0}
 MayWrite callers number Close = number ≡ closer_number
 MayWrite callers number (Resized core max) = number ≢ closer_number
+MayWrite callers number _ = Unit {0}
 
 -- one event was written, which was allowed, and which the seat may write
 pub record AppendedOne (me : LockSeatState) (plan : Option PlanView) (machine : MachineView) : Type 0 where
@@ -83,21 +77,16 @@ IsMoved old (entry ∷ next ∷ entries) new = ⊥
 abbrev pub Takes : Id → List LoggedEvent → Type 0
 Takes id entries = (entries ≡ start_of id ∷ []) ⊎ (entries ≡ log_event None (Take id) ∷ [])
 
--- it wrote at most an idle end, or a closing
-abbrev pub Rests : List LoggedEvent → Type 0
-Rests entries = (entries ≡ []) ⊎ (entries ≡ log_event None IdleEnd ∷ [])
-
-abbrev pub ClosesAtMost : List LoggedEvent → Type 0
-ClosesAtMost entries = (entries ≡ []) ⊎ (entries ≡ log_event None Close ∷ [])
+-- it wrote this event, or nothing
+abbrev pub WritesAtMost : Event → List LoggedEvent → Type 0
+WritesAtMost event entries = (entries ≡ []) ⊎ (entries ≡ log_event None event ∷ [])
 
 -- what a worker writes: no submission, no closing and no resize
 abbrev pub IsWorkersEvent : Event → Type 0
 IsWorkersEvent (Submit id reply) = ⊥
-IsWorkersEvent (Take id) = Unit {0}
-IsWorkersEvent (Finish id) = Unit {0}
-IsWorkersEvent IdleEnd = Unit {0}
 IsWorkersEvent Close = ⊥
 IsWorkersEvent (Resized core max) = ⊥
+IsWorkersEvent _ = Unit {0}
 
 pub record AppendsWorkersEvent (old new : MachineView) : Type 0 where
   pub event : Event
@@ -123,45 +112,5 @@ WroteCloseAtMost old new = (new ≡ old) ⊎ (new ≡ old ++ log_event None Clos
 -- a seat had a turn, without an event of its own
 pub record TookATurn (old new : LockSeatState) : Type 0 where
   pub rest : IsResting new
-  pub number : new.0.number ≡ old.0.number
-  pub ranked : new.0.rank ≡ old.0.rank
   pub limits : new.0.key ≡ old.0.key
   pub seen : SeesMore old.0.key.limits old.0.number old.0.seen new.0.seen
-
--- the seat of this number may write these
-abbrev pub MayWriteNote : ℕ → ℕ → Note → Type 0
-MayWriteNote callers number (note.Event event) = MayWrite callers number event
-MayWriteNote callers number (note.Started id) = Unit {0}
-
-abbrev pub MayWriteEach : ℕ → ℕ → List LoggedEvent → Type 0
-MayWriteEach callers number [] = Unit {0}
-MayWriteEach callers number (entry ∷ entries) = MayWriteNote callers number entry.note × MayWriteEach callers number entries
-
--- what a turn wrote: the seat may have written it, and has picked each job that it ends
-pub record MayHave (old : LockSeatState) (entries : List LoggedEvent) : Type 0 where
-  pub may : MayWriteEach old.0.key.callers old.0.number entries
-  pub due : (id : Id) → times id (ended_in old.0.own) + times id (ended_in entries) ≤ times id (picked_in old.0.own) + times id (picked_in entries)
-
--- A seat has taken the lock, and has the machine: it stands for the log that the seat has seen, and a job that the seat picked and hasn't ended is out.
-pub record HasTurn (old : LockSeatState) (machine : MachineView) (me : LockSeatState) : Type 0 where
-  pub view : me.0 ≡ holder_view old.0 me.0.seen
-  pub slot : me.1 ≡ (0, None) ∷ []
-  pub begins : IsPrefix old.0.seen me.0.seen
-  pub same_own : own_in old.0.number me.0.seen ≡ own_in old.0.number old.0.seen
-  pub home : IsMachineOf old.0.key me.0.seen machine
-  pub fits : MayHaveWritten old.0.rank old.0.own
-  pub out : (id : Id) → IsDue id old.0.own → is_among id (jobs_in_flight machine) ≡ true
-  pub few : EndsOnlyPicked machine
-
--- it made the one machine the other, and wrote this
-pub record Acted (old : LockSeatState) (m : MachineView) (me : LockSeatState) (entries : List LoggedEvent) (m' : MachineView) : Type 0 where
-  pub took : HasTurn old m me
-  pub moved : IsMoved m entries m'
-  pub wrote : MayHave old entries
-
--- and it released the lock
-pub record Turned (old : LockSeatState) (m : MachineView) (entries : List LoggedEvent) (m' : MachineView) (new : LockSeatState) : Type 0 where
-  pub me : LockSeatState
-  pub acted : Acted old m me entries m'
-  pub slot : new.1 ≡ []
-  pub left : new.0 ≡ left_view me.0 entries

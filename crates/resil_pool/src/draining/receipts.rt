@@ -5,37 +5,24 @@
 //! more would take as long as all jobs times the lists of a chain that they share.
 
 ghost use Rattle.std.specs.Prelude.{◌≡◌, ◌↔◌, ◌≤◌, All, map, length, IsTrue};
-ghost use Rattle.resil_rule.specs.History.{is_submit_of, submissions};
+ghost use Rattle.resil_rule.specs.History.{submissions};
 ghost use Rattle.resil_pool.specs.Parts.{submit_of};
 ghost use Rattle.resil_pool.specs.Draining.Report.{AreSubmissions};
 ghost use Rattle.resil_pool.specs.Lock.LoggedEvent.{NamesCaller};
 ghost use Rattle.resil_pool.specs.Draining.Receipts.{IsOfPlanOn, HasNumberedReceipt, AgreeWithReceipts};
 
 use crate::receipt::Receipt;
-use resil_admission::{Event, Row};
-
-// Whether the event is a submission of this caller.
-fn is_of(event: &Event, caller: u16) -> bool
-    ensures { result ≡ is_submit_of caller event.now }
-{
-    match event {
-        Event::Submit { id, .. } => id.caller == caller,
-        Event::Take(_) | Event::Finish(_) | Event::IdleEnd | Event::Close | Event::Resized { .. } =>
-            false,
-    }
-}
+use crate::submit::is_submission_of;
+use resil_admission::{Event, Id, Row};
 
 // Whether the event is the submission of this receipt.
 fn is_receipt_of(event: &Event, caller: u16, receipt: &Receipt) -> bool
     ensures { IsTrue result ↔ (event.now ≡ submit_of caller receipt.now) }
 {
-    match event {
-        Event::Submit { id, reply } => {
-            id.caller == caller && id.number == receipt.number && *reply == receipt.reply
-        }
-        Event::Take(_) | Event::Finish(_) | Event::IdleEnd | Event::Close | Event::Resized { .. } =>
-            false,
-    }
+    let number = receipt.number;
+    let id = Id { caller, number };
+    let reply = receipt.reply;
+    *event == Event::Submit { id, reply }
 }
 
 // Whether the submissions of a caller have the numbers and replies of its receipts, in their order.
@@ -44,7 +31,7 @@ fn are_submissions(history: &[Event], caller: u16, receipts: &[Receipt]) -> bool
 {
     let mut told = 0;
     for event in history {
-        if is_of(event, caller) {
+        if is_submission_of(event, caller) {
             if told >= receipts.len() || !is_receipt_of(event, caller, &receipts[told]) {
                 return false;
             }

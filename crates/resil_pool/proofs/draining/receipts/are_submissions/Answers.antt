@@ -10,7 +10,7 @@ returns-then-told-receipts c = (
   λ no. absurd (let f = no in cc),
   λ all.
       let i = c.loop-event.invariant in
-      let next = told_next c.args.caller c.args.history.now c.args.receipts.now c.loop-event.event-index c.loop-event.told _ c.loop-event-test.true (sym c.if-is_of.ensures) i.so_far i.within all in
+      let next = told_next c.args.caller c.args.history.now c.args.receipts.now c.loop-event.event-index c.loop-event.told _ c.loop-event-test.true (sym c.if-is_submission_of.ensures.passes) i.so_far i.within all in
       let inside = next.within in
       elim c.then-told-receipts.branch [
         | then-told-receipts-via-then-told-receipts w ↦ let over = w.if-told-receipts.true in absurd (omega arith)

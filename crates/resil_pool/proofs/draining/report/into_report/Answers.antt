@@ -7,7 +7,7 @@ use Rattle.resil_admission.specs.declared.row.Row.{Row}
 use Rattle.resil_rule.specs.declared.event.Event.{Event}
 use Rattle.resil_pool.specs.declared.receipt.Receipt.{Receipt}
 use Rattle.resil_pool.specs.Draining.Receipts.{IsOfPlanOn, AgreeWithReceipts}
-use Rattle.resil_pool.proofs.Collected.{collected, differ}
+use Rattle.resil_pool.proofs.ReceiptLaws.{collected, differ}
 use Rattle.resil_pool.proofs.draining.report.into_report.Goals as goal
 
 pub agree_with_receipts-requires : goal.agree_with_receipts-requires

@@ -2,7 +2,7 @@
 use Rattle.std.proofs.Common.{List, ◌∙◌, subst, rules}
 use Rattle.resil_rule.specs.Limits.{Sizes}
 use Rattle.resil_rule.specs.declared.event.Event.{Event}
-use Rattle.resil_pool.specs.Worker.{AllowsNoTake, IsAtEnd}
+use Rattle.resil_pool.specs.Worker.{IsAtEnd}
 use Rattle.resil_pool.proofs.TurnLaws.{acted, gives, turned, ends-none, home-now, took-turn}
 use Rattle.resil_pool.proofs.WorkerLaws.{look-quiet, on_found, on_nothing, on_exit, found_in_log, took-most, took-none, picked-one, picked-none, ended-none}
 use Rattle.resil_pool.proofs.pool.Pool.look.Goals as goal
@@ -28,6 +28,5 @@ returns g c =
       picks = on_found look _ _ (λ id job takes. picked-one turn id takes) l.picks;
       picks_none = on_nothing look _ _ (picked-none turn) l.rests;
       found = found_in_log c.release.new.seat.me.0.seen c.deref_mut.result.now.machine c.look-look.new.self.machine look home.plans l.found;
-      no_take = on_nothing look _ _ (subst (λ (y : Sizes × List Event). AllowsNoTake y.0 y.1) (λ i. (home.sized i, home.history i))) l.no_take;
       left = on_exit look _ _ (subst (λ (y : Sizes × List Event). IsAtEnd y.0 y.1) (λ i. (home.sized i, home.history i))) l.left;
     }

@@ -1,6 +1,7 @@
 -- The turn of a resize.
 use Rattle.std.proofs.Common.{◌++◌, ◌∷◌, [], None, ℕ, ap, ◌∙◌, subst, rules}
 use Rattle.std.specs.Prelude.{OnOk, IfErr}
+use Rattle.std.proofs.lemmas.Result.{on_ok_weaker, on_err_weaker}
 use Rattle.resil_rule.specs.Limits.{Sizes, AreSizesWithin}
 use Rattle.resil_rule.specs.declared.event.Event.TheVariants.{Resized}
 use Rattle.resil_pool.specs.Lock.LoggedEvent.{log_event}
@@ -8,8 +9,7 @@ use Rattle.resil_pool.specs.Lock.Turn.{PoolId}
 use Rattle.resil_pool.specs.Parts.{CallerView}
 use Rattle.resil_pool.specs.Resize.{SeesResize, IsResizeError}
 use Rattle.resil_pool.proofs.TurnLaws.{has-turn, acted, gives, turned, wrote-one, same-source}
-use Rattle.resil_pool.proofs.Submissions.{is_not_closer, caller-same, caller-saw-more, caller-wrote-none}
-use Rattle.resil_pool.proofs.ResizeLaws.{resize-may, resize-own, sees-resize, resize-core, resize-max, on_ok, on_err}
+use Rattle.resil_pool.proofs.Submissions.{is_not_closer, caller-same, caller-saw-more, caller-wrote-none, resize-may, resize-own, sees-resize, resize-core, resize-max}
 use Rattle.resil_pool.proofs.pool.Pool.resize.Goals as goal
 
 pub release-requires : goal.release-requires
@@ -34,11 +34,11 @@ returns g c =
     let limits = took.home.home.sized ∙ (ap (λ (x : CallerView). x.source.limits) c.caller.view_is ∙ ap (λ (s : PoolId). s.limits) c.requires) in record {
       caller = record { source = same-source _ _ turn (c.release.ensures.source ∙ c.take-state.ensures.source) ∙ ap (λ (x : CallerView). x.source) c.caller.view_is; number = ap (λ (x : CallerView). x.number) c.caller.view_is };
       receipts = ap (λ (x : CallerView). x.receipts) c.caller.view_is;
-      seen = on_ok _ _ r (λ e. subst (λ (x : CallerView). SeesResize x.source.limits x.number x.seen c.args.core c.args.max c.release.new.seat.me.0.seen) c.caller.view_is (subst (λ (j : ℕ). SeesResize old.key.limits j old.seen c.args.core c.args.max c.release.new.seat.me.0.seen) c.caller.invariant.numbered (sees-resize c.args.core c.args.max turn e))) a.resized;
+      seen = on_ok_weaker r (λ e. subst (λ (x : CallerView). SeesResize x.source.limits x.number x.seen c.args.core c.args.max c.release.new.seat.me.0.seen) c.caller.view_is (subst (λ (j : ℕ). SeesResize old.key.limits j old.seen c.args.core c.args.max c.release.new.seat.me.0.seen) c.caller.invariant.numbered (sees-resize c.args.core c.args.max turn e))) a.resized;
       own = (caller-same turn _ _ c.caller.invariant quiet).own;
-      wrote = on_ok _ _ r (λ e. wrote-one turn _ e ∙ ap (λ (x : CallerView). x.wrote ++ log_event None (Resized c.args.core c.args.max) ∷ []) c.caller.view_is) a.resized;
+      wrote = on_ok_weaker r (λ e. wrote-one turn _ e ∙ ap (λ (x : CallerView). x.wrote ++ log_event None (Resized c.args.core c.args.max) ∷ []) c.caller.view_is) a.resized;
       core = resize-core c.deref_mut.result.now.machine.limits _ _ r a.core a.refused;
       max = resize-max c.args.self.now.source.limits _ _ r (subst (λ (s : Sizes). OnOk r (AreSizesWithin s c.args.core c.args.max)) limits a.max) (subst (λ (s : Sizes). IfErr r (IsResizeError s c.args.core c.args.max)) limits a.refused);
-      unseen = on_err _ _ r (λ e. caller-saw-more _ _ turn _ _ c.caller.invariant c.caller.view_is quiet) a.nothing;
-      unwritten = on_err _ _ r (λ e. caller-wrote-none _ _ turn _ _ c.caller.invariant c.caller.view_is e) a.nothing;
+      unseen = on_err_weaker r (λ e. caller-saw-more _ _ turn _ _ c.caller.invariant c.caller.view_is quiet) a.nothing;
+      unwritten = on_err_weaker r (λ e. caller-wrote-none _ _ turn _ _ c.caller.invariant c.caller.view_is e) a.nothing;
     }

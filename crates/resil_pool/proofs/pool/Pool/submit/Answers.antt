@@ -28,38 +28,30 @@ invariant_of-caller-in-Ok-answer g c =
     let items : c.keep_receipt.new.receipts.items ≡ c.caller.inside.receipts.items ++ receipt ∷ [] = c.keep_receipt.ensures.kept ∙ (λ i. c.reserve.ensures.items i ++ told i ∷ []) in
     subst (λ (rs : List Receipt). IsCaller c.release.new.seat.me c.caller.inside.number rs) (sym items) (caller-after turn _ _ c.caller.invariant receipt c.in-Ok-answer.ensures.told)
 
-pub returns-in-Ok-answer-clause-caller : goal.returns-in-Ok-answer-clause-caller
-returns-in-Ok-answer-clause-caller g c =
+pub returns-in-Ok-answer : goal.returns-in-Ok-answer
+returns-in-Ok-answer g c =
     let s = c.submit-answer.ensures in
     let turn = turned (acted c.caller.inside.seat.me c.submit-answer.new.self (c.deref_mut.ensures.value ∙ c.state.view_is) c.take-state.ensures (submission-moved _ _ _ _ c.submit-answer.result _ s) (λ fits. submission-may _ _ _ _ _ _ _ c.submit-answer.result _ fits c.caller.invariant s)) c.release.ensures in
-    record { source = same-source _ _ turn (c.release.ensures.source ∙ c.take-state.ensures.source) ∙ ap (λ (x : CallerView). x.source) c.caller.view_is; number = ap (λ (x : CallerView). x.number) c.caller.view_is }
-
-pub returns-in-Ok-answer-clause-own : goal.returns-in-Ok-answer-clause-own
-returns-in-Ok-answer-clause-own g c =
-    let s = c.submit-answer.ensures in
-    let turn = turned (acted c.caller.inside.seat.me c.submit-answer.new.self (c.deref_mut.ensures.value ∙ c.state.view_is) c.take-state.ensures (submission-moved _ _ _ _ c.submit-answer.result _ s) (λ fits. submission-may _ _ _ _ _ _ _ c.submit-answer.result _ fits c.caller.invariant s)) c.release.ensures in
+    let k = c.args.caller.now in
+    let plan = c.in-Ok.ensures.copied ∙ c.plan.ensures in
     let receipt : Receipt = record { number = c.len.result + 1; reply = c.in-Ok-answer.reply; plan = c.args.job } in
-    let told : IsSameReceipt (receipt_of c.keep_receipt.result c.in-Ok.plan) receipt = λ i. receipt_of (c.keep_receipt.ensures.ticket i) ((c.in-Ok.ensures.copied ∙ c.plan.ensures) i) in
+    let told : IsSameReceipt (receipt_of c.keep_receipt.result c.in-Ok.plan) receipt = λ i. receipt_of (c.keep_receipt.ensures.ticket i) (plan i) in
     let items : c.keep_receipt.new.receipts.items ≡ c.caller.inside.receipts.items ++ receipt ∷ [] = c.keep_receipt.ensures.kept ∙ (λ i. c.reserve.ensures.items i ++ told i ∷ []) in
-    (caller-after turn _ _ c.caller.invariant receipt c.in-Ok-answer.ensures.told).own ∙ ap (map (submission_of c.caller.inside.number)) (sym items)
-
-pub returns-in-Ok-answer-clause-seen : goal.returns-in-Ok-answer-clause-seen
-returns-in-Ok-answer-clause-seen g c =
-    let s = c.submit-answer.ensures in
-    let turn = turned (acted c.caller.inside.seat.me c.submit-answer.new.self (c.deref_mut.ensures.value ∙ c.state.view_is) c.take-state.ensures (submission-moved _ _ _ _ c.submit-answer.result _ s) (λ fits. submission-may _ _ _ _ _ _ _ c.submit-answer.result _ fits c.caller.invariant s)) c.release.ensures in
-    let receipt : Receipt = record { number = c.len.result + 1; reply = c.in-Ok-answer.reply; plan = c.args.job } in
-    let k = c.args.caller.now in
-    subst (λ (ticket : Ticket). SeesOwn k.source.limits k.number k.seen (submission_of k.number (receipt_of ticket c.args.job)) c.release.new.seat.me.0.seen) (sym c.keep_receipt.ensures.ticket)
-    (caller-saw _ _ turn _ _ c.caller.invariant c.caller.view_is receipt c.in-Ok-answer.ensures.told)
-
-pub returns-in-Ok-answer-clause-wrote : goal.returns-in-Ok-answer-clause-wrote
-returns-in-Ok-answer-clause-wrote g c =
-    let s = c.submit-answer.ensures in
-    let turn = turned (acted c.caller.inside.seat.me c.submit-answer.new.self (c.deref_mut.ensures.value ∙ c.state.view_is) c.take-state.ensures (submission-moved _ _ _ _ c.submit-answer.result _ s) (λ fits. submission-may _ _ _ _ _ _ _ c.submit-answer.result _ fits c.caller.invariant s)) c.release.ensures in
-    let receipt : Receipt = record { number = c.len.result + 1; reply = c.in-Ok-answer.reply; plan = c.args.job } in
-    let k = c.args.caller.now in
-    subst (λ (ticket : Ticket). c.release.new.seat.me.0.own ≡ k.wrote ++ submission_of k.number (receipt_of ticket c.args.job) ∷ []) (sym c.keep_receipt.ensures.ticket)
-    (caller-wrote _ _ turn _ _ c.caller.invariant c.caller.view_is receipt c.in-Ok-answer.ensures.told)
+    let before = c.reserve.ensures.items ∙ ap (λ (x : CallerView). x.receipts) c.caller.view_is in record {
+      caller = record { source = same-source _ _ turn (c.release.ensures.source ∙ c.take-state.ensures.source) ∙ ap (λ (x : CallerView). x.source) c.caller.view_is; number = ap (λ (x : CallerView). x.number) c.caller.view_is };
+      number = search rules;
+      receipt = c.keep_receipt.ensures.kept ∙ (λ i. before i ++ receipt_of c.keep_receipt.result (plan i) ∷ []);
+      seen = subst (λ (ticket : Ticket). SeesOwn k.source.limits k.number k.seen (submission_of k.number (receipt_of ticket c.args.job)) c.release.new.seat.me.0.seen) (sym c.keep_receipt.ensures.ticket)
+          (caller-saw _ _ turn _ _ c.caller.invariant c.caller.view_is receipt c.in-Ok-answer.ensures.told);
+      own = (caller-after turn _ _ c.caller.invariant receipt c.in-Ok-answer.ensures.told).own ∙ ap (map (submission_of c.caller.inside.number)) (sym items);
+      wrote = subst (λ (ticket : Ticket). c.release.new.seat.me.0.own ≡ k.wrote ++ submission_of k.number (receipt_of ticket c.args.job) ∷ []) (sym c.keep_receipt.ensures.ticket)
+          (caller-wrote _ _ turn _ _ c.caller.invariant c.caller.view_is receipt c.in-Ok-answer.ensures.told);
+      refused = tt;
+      unchanged = tt;
+      unseen = tt;
+      unwritten = tt;
+      job_back = tt;
+    }
 
 pub memory_of-requires : goal.memory_of-requires
 memory_of-requires g c =
@@ -73,26 +65,20 @@ invariant_of-caller-in-Err g c =
     let turn = turned (acted c.caller.inside.seat.me c.submit-answer.new.self (c.deref_mut.ensures.value ∙ c.state.view_is) c.take-state.ensures (submission-moved _ _ _ _ c.submit-answer.result _ s) (λ fits. submission-may _ _ _ _ _ _ _ c.submit-answer.result _ fits c.caller.invariant s)) c.release.ensures in
     subst (λ (rs : List Receipt). IsCaller c.release.new.seat.me c.caller.inside.number rs) (sym c.reserve.ensures.items) (caller-same turn _ _ c.caller.invariant (ap (own_in c.caller.inside.seat.me.0.number) c.in-Err.ensures.nothing))
 
-pub returns-in-Err-clause-caller : goal.returns-in-Err-clause-caller
-returns-in-Err-clause-caller g c =
+pub returns-in-Err : goal.returns-in-Err
+returns-in-Err g c =
     let s = c.submit-answer.ensures in
     let turn = turned (acted c.caller.inside.seat.me c.submit-answer.new.self (c.deref_mut.ensures.value ∙ c.state.view_is) c.take-state.ensures (submission-moved _ _ _ _ c.submit-answer.result _ s) (λ fits. submission-may _ _ _ _ _ _ _ c.submit-answer.result _ fits c.caller.invariant s)) c.release.ensures in
-    record { source = same-source _ _ turn (c.release.ensures.source ∙ c.take-state.ensures.source) ∙ ap (λ (x : CallerView). x.source) c.caller.view_is; number = ap (λ (x : CallerView). x.number) c.caller.view_is }
-
-pub returns-in-Err-clause-own : goal.returns-in-Err-clause-own
-returns-in-Err-clause-own g c =
-    let s = c.submit-answer.ensures in
-    let turn = turned (acted c.caller.inside.seat.me c.submit-answer.new.self (c.deref_mut.ensures.value ∙ c.state.view_is) c.take-state.ensures (submission-moved _ _ _ _ c.submit-answer.result _ s) (λ fits. submission-may _ _ _ _ _ _ _ c.submit-answer.result _ fits c.caller.invariant s)) c.release.ensures in
-    (caller-same turn _ _ c.caller.invariant (ap (own_in c.caller.inside.seat.me.0.number) c.in-Err.ensures.nothing)).own ∙ ap (map (submission_of c.caller.inside.number)) (sym c.reserve.ensures.items)
-
-pub returns-in-Err-clause-unseen : goal.returns-in-Err-clause-unseen
-returns-in-Err-clause-unseen g c =
-    let s = c.submit-answer.ensures in
-    let turn = turned (acted c.caller.inside.seat.me c.submit-answer.new.self (c.deref_mut.ensures.value ∙ c.state.view_is) c.take-state.ensures (submission-moved _ _ _ _ c.submit-answer.result _ s) (λ fits. submission-may _ _ _ _ _ _ _ c.submit-answer.result _ fits c.caller.invariant s)) c.release.ensures in
-    caller-saw-more _ _ turn _ _ c.caller.invariant c.caller.view_is (ap (own_in c.caller.inside.seat.me.0.number) c.in-Err.ensures.nothing)
-
-pub returns-in-Err-clause-unwritten : goal.returns-in-Err-clause-unwritten
-returns-in-Err-clause-unwritten g c =
-    let s = c.submit-answer.ensures in
-    let turn = turned (acted c.caller.inside.seat.me c.submit-answer.new.self (c.deref_mut.ensures.value ∙ c.state.view_is) c.take-state.ensures (submission-moved _ _ _ _ c.submit-answer.result _ s) (λ fits. submission-may _ _ _ _ _ _ _ c.submit-answer.result _ fits c.caller.invariant s)) c.release.ensures in
-    caller-wrote-none _ _ turn _ _ c.caller.invariant c.caller.view_is c.in-Err.ensures.nothing
+    let none = ap (own_in c.caller.inside.seat.me.0.number) c.in-Err.ensures.nothing in record {
+      caller = record { source = same-source _ _ turn (c.release.ensures.source ∙ c.take-state.ensures.source) ∙ ap (λ (x : CallerView). x.source) c.caller.view_is; number = ap (λ (x : CallerView). x.number) c.caller.view_is };
+      number = tt;
+      receipt = tt;
+      seen = tt;
+      own = (caller-same turn _ _ c.caller.invariant none).own ∙ ap (map (submission_of c.caller.inside.number)) (sym c.reserve.ensures.items);
+      wrote = tt;
+      refused = c.memory_of.ensures;
+      unchanged = c.reserve.ensures.items ∙ ap (λ (x : CallerView). x.receipts) c.caller.view_is;
+      unseen = caller-saw-more _ _ turn _ _ c.caller.invariant c.caller.view_is none;
+      unwritten = caller-wrote-none _ _ turn _ _ c.caller.invariant c.caller.view_is c.in-Err.ensures.nothing;
+      job_back = search rules;
+    }
