@@ -25,8 +25,7 @@ use Rattle.resil_pool.specs.declared.receipt.Receipt.{Receipt}
 use Rattle.resil_pool.specs.Lock.LoggedEvent.{NamesCaller, AllNameCallers, events_in, closer_number, is_own_note, event_of, accepted_of, own_in, plans_in, plan_entry, MatchesLog}
 use Rattle.resil_pool.specs.Parts.{CallerView, submit_of, submission_of}
 use Rattle.resil_pool.specs.Draining.Report.{receipts_at}
-use Rattle.resil_pool.specs.Draining.Callers.{AreLogged, IsGathered}
-use Rattle.resil_pool.specs.Draining.Receipts.{IsOfPlanOn, HasReceipt, AgreeWithReceipts}
+use Rattle.resil_pool.specs.Draining.Receipts.{AreLogged, IsGathered, IsOfPlanOn, HasReceipt, AgreeWithReceipts}
 use Rattle.resil_pool.specs.Draining.Remaining.{with_runs}
 use Rattle.resil_pool.specs.NamedCallers.{KeepsNames}
 use Rattle.resil_pool.proofs.Logs.{own_in-append, events_in-append}
@@ -127,11 +126,13 @@ rows_have lists (job ∷ jobs) (row ∷ rows) h all =
     let same : job.id ≡ row.id = sym h.0.id in
     All-cons (HasReceipt lists) row rows
     (record {
-      from = subst (λ (i : Id). 1 ≤ i.caller) same e.from;
-      counted = subst (λ (i : Id). 1 ≤ i.number) same e.counted;
-      receipt = e.receipt;
-      there = subst (λ (i : Id). slice_get (receipts_at lists i.caller) (i.number - 1) ≡ Some e.receipt) same e.there;
-      number = e.number ∙ ap (λ (i : Id). i.number) same;
+      numbered = record {
+        from = subst (λ (i : Id). 1 ≤ i.caller) same e.from;
+        counted = subst (λ (i : Id). 1 ≤ i.number) same e.counted;
+        receipt = e.receipt;
+        there = subst (λ (i : Id). slice_get (receipts_at lists i.caller) (i.number - 1) ≡ Some e.receipt) same e.there;
+        number = e.number ∙ ap (λ (i : Id). i.number) same;
+      };
       plan = h.0.plan ∙ same_Some job.plan e.receipt.plan e.plan;
     })
     (rows_have lists jobs rows h.1 (All-tail (EntryHasReceipt lists) (plan_entry job) (map plan_entry jobs) all))
@@ -139,7 +140,7 @@ rows_have lists _ _ h all = absurd h
 
 -- a result with a receipt is of the plan on it
 of_its_plan : (lists : List (List Receipt)) (row : Row) → HasReceipt lists row → IsOfPlanOn lists row
-of_its_plan lists row has receipt there = has.plan ∙ ap (λ (r : Receipt). r.plan) (same_Some has.receipt receipt (sym has.there ∙ there))
+of_its_plan lists row has receipt there = has.plan ∙ ap (λ (r : Receipt). r.plan) (same_Some has.numbered.receipt receipt (sym has.numbered.there ∙ there))
 
 pub of_their_plans : (lists : List (List Receipt)) (rows : List Row) → All (HasReceipt lists) rows → All (IsOfPlanOn lists) rows
 of_their_plans lists rows all = λ k d within. of_its_plan lists (get_or rows k d) (all k d within)

@@ -12,7 +12,7 @@ use Rattle.resil_pool.specs.declared.lock.opening.Opening.{Opening}
 use Rattle.resil_pool.specs.declared.lock.state.State.{State}
 use Rattle.resil_pool.specs.Lock.LoggedEvent.{is_own_note, is_own, own_in}
 use Rattle.resil_pool.specs.Lock.Protocol.{View, StandsFor, MayHaveWritten}
-use Rattle.resil_pool.proofs.SeatLaws.{numbering}
+use Rattle.resil_pool.proofs.Logs.{numbering}
 use Rattle.resil_pool.specs.BetweenTurns.{StandWithTheirCallers, HoldsBetweenTurns}
 
 -- the holder of the turn is there

@@ -14,7 +14,7 @@ use Rattle.resil_pool.specs.declared.lock.logged_event.LoggedEvent.{LoggedEvent}
 use Rattle.resil_pool.specs.declared.receipt.Receipt.{Receipt}
 use Rattle.resil_pool.specs.Parts.{CallerView, submission_of}
 use Rattle.resil_pool.specs.Draining.Report.{AreNumbered, AreSubmissions, receipts_at}
-use Rattle.resil_pool.specs.Draining.Callers.{AreLogged, IsGathered}
+use Rattle.resil_pool.specs.Draining.Receipts.{AreLogged, IsGathered}
 use Rattle.std.proofs.lemmas.List.Folds.{list_any-append}
 use Rattle.resil_rule.specs.History.{is_close, is_closed, submissions}
 use Rattle.resil_rule.specs.declared.event.Event.{Event}

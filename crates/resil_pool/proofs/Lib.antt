@@ -9,5 +9,4 @@ pub mod ReceiptLaws
 pub mod HoldLaws
 pub mod Agreement
 pub mod BetweenTurns
-pub mod SeatLaws
 pub mod NamedCallers

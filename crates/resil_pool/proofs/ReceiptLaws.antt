@@ -60,12 +60,10 @@ agrees_at f history xs place x own within is same all =
 
 -- a result whose receipt has its number, and which is of the plan there, has its receipt
 pub with_plans : (lists : List (List Receipt)) (rows : List Row) → All (HasNumberedReceipt lists) rows → All (IsOfPlanOn lists) rows → All (HasReceipt lists) rows
-with_plans lists rows all plans = λ k d within.
-    let n = all k d within in record { from = n.from; counted = n.counted; receipt = n.receipt; there = n.there; number = n.number; plan = plans k d within n.receipt n.there }
+with_plans lists rows all plans = λ k d within. let n = all k d within in record { numbered = n; plan = plans k d within n.receipt n.there }
 
 pub without_plans : (lists : List (List Receipt)) (rows : List Row) → All (HasReceipt lists) rows → All (HasNumberedReceipt lists) rows
-without_plans lists rows all = λ k d within.
-    let h = all k d within in record { from = h.from; counted = h.counted; receipt = h.receipt; there = h.there; number = h.number }
+without_plans lists rows all = λ k d within. (all k d within).numbered
 
 -- the results of jobs, one by one
 ids_same : (jobs : List Accepted) (rows : List Row) → AreResultsOf jobs rows → map (λ row. row.id) rows ≡ ids_of jobs
@@ -82,7 +80,7 @@ values _ _ h k d within = absurd h
 pub collected : (history : List Event) (lists : List (List Receipt)) (jobs : List Accepted) (rows : List Row) → AreResultsOf jobs rows → ids_of jobs ≡ accepted history → All (HasReceipt lists) rows → AreCollected history lists rows
 collected history lists jobs rows results ids told = record {
   once = ids_same jobs rows results ∙ ids;
-  each = λ k d within. let r = told k d within in record { value = values jobs rows results k d within; receipt = r.receipt; there = r.there; number = r.number; plan = r.plan };
+  each = λ k d within. let r = told k d within in record { value = values jobs rows results k d within; receipt = r.numbered.receipt; there = r.numbered.there; number = r.numbered.number; plan = r.plan };
 }
 
 -- jobs have one list of results

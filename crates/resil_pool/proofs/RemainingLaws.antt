@@ -31,7 +31,7 @@ use Rattle.resil_pool.specs.Worker.{asked_in}
 use Rattle.resil_pool.specs.Draining.Remaining.{with_runs, picks, HasRunOn, Ran, RanInDrain}
 use Rattle.resil_pool.proofs.MachineCalls.{out_runs}
 use Rattle.resil_pool.proofs.NamedCallers.{pick_names, finish_names}
-use Rattle.resil_pool.proofs.SeatLaws.{due-out, take-next}
+use Rattle.resil_pool.proofs.Logs.{due-out, take-next}
 
 -- what the pick of a job leaves
 pub record LeftByPick (old new : MachineView) (id : Id) : Type 0 where

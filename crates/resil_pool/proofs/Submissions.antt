@@ -1,12 +1,9 @@
 -- A caller's turns: a submission, and a resize.
 use Rattle.std.proofs.Common.{◌≡◌, ◌≢◌, ne_eqb, ℕ, ◌+◌, ◌≤◌, suc, Bool, true, false, cond, List, [], ◌∷◌, ◌++◌, map, length, refl, sym, ap, ◌∙◌, subst, arith, append-nil, Some, None, Result, Ok, Err, OnOk, OnErr, eq-eqb}
-use Rattle.std.specs.Prelude.{◌↔◌, IfErr}
-use Rattle.std.specs.Result.{IsErrOf}
 use Rattle.std.specs.List.{cons_option}
 use Rattle.std.proofs.lemmas.List.{map-append, length-map}
 use Rattle.atomic_table.specs.Seated.{TableId}
 use Rattle.resil_decor.specs.Plan.{PlanView}
-use Rattle.resil_rule.specs.Limits.{Sizes, IsCore, AreSizesWithin}
 use Rattle.resil_rule.specs.History.{is_submit_of, submissions, next_number}
 use Rattle.resil_rule.specs.Admission.{IsLegal}
 use Rattle.resil_admission.specs.MachineView.{MachineView, IsSubmitRefusal}
@@ -24,9 +21,7 @@ use Rattle.resil_pool.specs.declared.receipt.Receipt.{Receipt}
 use Rattle.resil_pool.specs.Lock.LoggedEvent.{log_event, event_of, events_in, closer_number, is_own_event, is_own_note, own_in, SeesMore, SeesOwn}
 use Rattle.resil_pool.specs.Lock.Protocol.{LockSeatState, MayHaveWritten}
 use Rattle.resil_pool.specs.Lock.Turn.{IsMoved}
-use Rattle.resil_pool.specs.declared.resize.ResizeError.{ResizeError}
-use Rattle.resil_pool.specs.declared.resize.ResizeError.TheVariants as refused
-use Rattle.resil_pool.specs.Resize.{SeesResize, IsResizeError}
+use Rattle.resil_pool.specs.Resize.{SeesResize}
 use Rattle.resil_pool.specs.Submit.{AnswersSubmission}
 use Rattle.resil_pool.proofs.Logs.{own_in-append}
 use Rattle.resil_pool.specs.Parts.{CallerView, caller_view, submission_id, submit_of, submission_of, IsCaller}
@@ -169,16 +164,3 @@ sees-resize {old} {entries = entries} core max t is =
       same_own = ap (own_in old.0.number) now
           ∙ (own_in-append old.0.number t.me.0.seen entries ∙ (ap (λ (xs : List LoggedEvent). own_in old.0.number t.me.0.seen ++ own_in old.0.number xs) is ∙ (append-nil (own_in old.0.number t.me.0.seen) ∙ t.acted.took.same_own)));
     }
-
--- why a pool isn't resized
-pub resize-core : (limits : Sizes) (core max : ℕ) (r : Result (Unit {0}) ResizeError) → OnOk r (IsCore core) → IfErr r (IsResizeError limits core max) → IsErrOf r refused.CoreOutOfRange ↔ ¬ IsCore core
-resize-core limits core max (Ok u) is why = (λ e. absurd (cc e), λ not. absurd (not is))
-resize-core limits core max (Err refused.CoreOutOfRange) is why = (λ e. why, λ not. refl)
-resize-core limits core max (Err refused.MaxOutOfRange) is why = (λ e. absurd (cc e), λ not. absurd (not why.0))
-resize-core limits core max (Err refused.Memory) is why = (λ e. absurd (cc e), λ not. absurd (not why.0))
-
-pub resize-max : (limits : Sizes) (core max : ℕ) (r : Result (Unit {0}) ResizeError) → OnOk r (AreSizesWithin limits core max) → IfErr r (IsResizeError limits core max) → IsErrOf r refused.MaxOutOfRange ↔ (IsCore core × ¬ AreSizesWithin limits core max)
-resize-max limits core max (Ok u) is why = (λ e. absurd (cc e), λ not. absurd (not.1 is))
-resize-max limits core max (Err refused.CoreOutOfRange) is why = (λ e. absurd (cc e), λ not. absurd (why not.0))
-resize-max limits core max (Err refused.MaxOutOfRange) is why = (λ e. why, λ not. refl)
-resize-max limits core max (Err refused.Memory) is why = (λ e. absurd (cc e), λ not. absurd (not.1 why.1))

@@ -25,11 +25,10 @@ use Rattle.resil_pool.specs.Lock.LoggedEvent.{NamesCaller, AllNameCallers, log_e
 use Rattle.resil_pool.specs.Lock.Protocol.{View, LockSeatState, IsMachineOf, MayHaveWritten, starts_of, told, IsDue, Tallies, EndsOnlyPicked}
 use Rattle.resil_pool.specs.Lock.Turn.{IsResting, MayWrite, IsStep, IsMoved, Takes, WritesAtMost, SeesClosing, WroteCloseAtMost, TookATurn}
 use Rattle.atomic_table.specs.Seated.{TableId}
-use Rattle.resil_pool.specs.Parts.{SeatView, IsCloser, source_of, seat_view}
+use Rattle.resil_pool.specs.Parts.{IsCloser, source_of}
 use Rattle.resil_pool.specs.Worker.{takes_in}
-use Rattle.resil_pool.proofs.Logs.{own_in-append, events_in-append, starts_in-append, plans_in-append, runs_in-append, takes_in-append, picked-more, ended-more}
+use Rattle.resil_pool.proofs.Logs.{own_in-append, events_in-append, starts_in-append, plans_in-append, runs_in-append, takes_in-append, picked-more, ended-more, numbering, few-job, due-job, take-next}
 use Rattle.resil_pool.proofs.NamedCallers.{written_names}
-use Rattle.resil_pool.proofs.SeatLaws.{numbering, few-job, due-job, take-next}
 
 -- the seat of this number may write these
 abbrev MayWriteNote : ℕ → ℕ → Note → Type 0
@@ -299,14 +298,6 @@ closing-more limits old new seen = ⊎_elim
     (λ (s : SeesMore limits closer_number old new). (s.legal, s.begins))
     (λ (s : SeesOwn limits closer_number old (log_event None Close) new). (s.legal, s.begins))
     seen
-
--- what a closing shows a closer
-module _ {old : LockSeatState} {m : MachineView} {entries : List LoggedEvent} {m' : MachineView} {new : LockSeatState} (t : Turned old m entries m' new) (closer : SeatView) (table : TableId) (same : seat_view table old ≡ closer) (first : old.0.number ≡ closer_number) (closes : WritesAtMost Close entries) where
-  pub closer-seen : SeesClosing closer.source.limits closer.seen new.0.seen
-  closer-seen = subst (λ (k : SeatView). SeesClosing k.source.limits k.seen new.0.seen) same (sees-closing t first closes)
-
-  pub closer-wrote : WroteCloseAtMost closer.wrote new.0.own
-  closer-wrote = subst (λ (k : SeatView). WroteCloseAtMost k.wrote new.0.own) same (wrote-closing t first closes)
 
 pub closer-stays : {old : LockSeatState} {m : MachineView} {entries : List LoggedEvent} {m' : MachineView} {new : LockSeatState} → Turned old m entries m' new → IsCloser old → IsCloser new
 closer-stays {new = new} t is = record {

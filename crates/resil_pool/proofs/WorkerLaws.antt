@@ -3,7 +3,7 @@ use Rattle.std.proofs.Common.{◌≡◌, ◌≤◌, ◌+◌, ⊎_elim, inl, inr,
 use Rattle.std.specs.Prelude.{option_map, find, All, Contains}
 use Rattle.std.specs.Option.{option_or}
 use Rattle.std.proofs.lemmas.List.Folds.{find-append}
-use Rattle.std.proofs.lemmas.List.{map-append, get_or_append_left, get_or_push}
+use Rattle.std.proofs.lemmas.List.{map-append, get_or_append_left, get_or_push, map_push}
 use Rattle.std.proofs.lemmas.List.Concat.{flat_map-append}
 use Rattle.std.proofs.lemmas.List.Elements.{All-nil, All-push, Contains-append_left, Contains-push, filter-append}
 use Rattle.resil_decor.specs.Plan.{PlanView}
@@ -122,20 +122,17 @@ option_map-or f None y = refl
 option_map-or f (Some x) y = refl
 
 -- each job that was taken is among those that were run
-ids_more : (made : List (Row × Bool)) (last : Row × Bool) → map (λ (m : Row × Bool). m.0.id) (made ++ last ∷ []) ≡ map (λ (m : Row × Bool). m.0.id) made ++ last.0.id ∷ []
-ids_more made last = map-append (λ (m : Row × Bool). m.0.id) made (last ∷ [])
-
 takes-more : (before between after : List Id) (made : List (Row × Bool)) (last : Row × Bool) → RunsItsTakes before between made → TakesAtMost last.0.id between after → RunsItsTakes before after (made ++ last ∷ [])
 takes-more before between after made last so_far most =
     let ids = map (λ (m : Row × Bool). m.0.id) made in
     let kept : All (λ id. Contains (map (λ (m : Row × Bool). m.0.id) (made ++ last ∷ [])) id) so_far.0 =
-    λ k d within. subst (λ (xs : List Id). Contains xs (get_or so_far.0 k d)) (sym (ids_more made last)) (Contains-append_left ids (last.0.id ∷ []) (get_or so_far.0 k d) (so_far.2 k d within)) in
+    λ k d within. subst (λ (xs : List Id). Contains xs (get_or so_far.0 k d)) (sym (map_push (λ (m : Row × Bool). m.0.id) made last)) (Contains-append_left ids (last.0.id ∷ []) (get_or so_far.0 k d) (so_far.2 k d within)) in
     ⊎_elim
     (λ (e : after ≡ between). (so_far.0, e ∙ so_far.1, kept))
     (λ (e : after ≡ between ++ last.0.id ∷ []). (
       so_far.0 ++ last.0.id ∷ [],
       e ∙ (ap (λ (xs : List Id). xs ++ last.0.id ∷ []) so_far.1 ∙ append_assoc before so_far.0 (last.0.id ∷ [])),
-      All-push (λ id. Contains (map (λ (m : Row × Bool). m.0.id) (made ++ last ∷ [])) id) so_far.0 last.0.id kept (subst (λ (xs : List Id). Contains xs last.0.id) (sym (ids_more made last)) (Contains-push ids last.0.id)),
+      All-push (λ id. Contains (map (λ (m : Row × Bool). m.0.id) (made ++ last ∷ [])) id) so_far.0 last.0.id kept (subst (λ (xs : List Id). Contains xs last.0.id) (sym (map_push (λ (m : Row × Bool). m.0.id) made last)) (Contains-push ids last.0.id)),
     ))
     most
 
@@ -186,7 +183,10 @@ module _ {P H : Type 0} (Between : P → List Asked → P → Type 0) (held : P 
       seat = refl;
       permitter = refl;
       table = refl;
-      made = record { limits = refl; begins = ([], append-nil _); took = run_takes-none Between _ _ _ (none _); holds = λ id. refl };
+      limits = refl;
+      begins = ([], append-nil _);
+      took = run_takes-none Between _ _ _ (none _);
+      holds = λ id. refl;
     }
 
     both : (x y z : AtWork P H) → HasWorked Between held x y → HasGone y z → HasWorked Between held x z
@@ -195,18 +195,16 @@ module _ {P H : Type 0} (Between : P → List Asked → P → Type 0) (held : P 
       seat = b.1 ∙ a.seat;
       permitter = b.2 ∙ a.permitter;
       table = b.3 ∙ a.table;
-      made = record {
-        limits = b.4.limits ∙ a.made.limits;
-        begins = prefix_trans _ _ _ a.made.begins b.4.begins;
-        took = ⊎_elim
-            (λ (n : HasRunNone y.permitter.now z.permitter.now (runs_in y.seat.now.me.0.own) (runs_in z.seat.now.me.0.own) (takes_in y.seat.now.me.0.own) (takes_in z.seat.now.me.0.own)).
-            subst (λ (t : P × (List Row × List Id)). HasRunTakes Between x.permitter.now t.0 (runs_in x.seat.now.me.0.own) t.1.0 (takes_in x.seat.now.me.0.own) t.1.1 None)
-            (λ j. (sym n.unasked j, (sym n.ended j, sym n.took_none j))) a.made.took)
-            (λ (o : HasRunOne Between y.permitter.now z.permitter.now (runs_in y.seat.now.me.0.own) (runs_in z.seat.now.me.0.own) (takes_in y.seat.now.me.0.own) (takes_in z.seat.now.me.0.own)).
-            run_takes-more Between _ _ _ _ _ _ _ _ _ o.id o.job append a.made.took o.ran o.took)
-            b.4.ran;
-        holds = λ id. b.4.holds id ∙ a.made.holds id;
-      };
+      limits = b.4.limits ∙ a.limits;
+      begins = prefix_trans _ _ _ a.begins b.4.begins;
+      took = ⊎_elim
+          (λ (n : HasRunNone y.permitter.now z.permitter.now (runs_in y.seat.now.me.0.own) (runs_in z.seat.now.me.0.own) (takes_in y.seat.now.me.0.own) (takes_in z.seat.now.me.0.own)).
+          subst (λ (t : P × (List Row × List Id)). HasRunTakes Between x.permitter.now t.0 (runs_in x.seat.now.me.0.own) t.1.0 (takes_in x.seat.now.me.0.own) t.1.1 None)
+          (λ j. (sym n.unasked j, (sym n.ended j, sym n.took_none j))) a.took)
+          (λ (o : HasRunOne Between y.permitter.now z.permitter.now (runs_in y.seat.now.me.0.own) (runs_in z.seat.now.me.0.own) (takes_in y.seat.now.me.0.own) (takes_in z.seat.now.me.0.own)).
+          run_takes-more Between _ _ _ _ _ _ _ _ _ o.id o.job append a.took o.ran o.took)
+          b.4.ran;
+      holds = λ id. b.4.holds id ∙ a.holds id;
     }
 
     pub went : (rounds : ℕ) (x y : AtWork P H) → AfterRounds HasGone rounds x y → HasWorked Between held x y

@@ -1,6 +1,5 @@
 -- When a pool isn't drained, and what comes back.
 pub mod Report
-pub mod Callers
 pub mod Receipts
 pub mod Remaining
 use Rattle.std.specs.Prelude.{◌≡◌, ◌⊎◌, ◌↔◌, ℕ, Bool, true, false, List, All, Any, IsSome, Result, Ok, Err, length}

@@ -144,17 +144,13 @@ pub record HasMadeRound {P : Type 0} (Between : P → List Asked → P → Type 
   pub ran : HasRunNone permitter permitter' (runs_in before.own) (runs_in after.own) (takes_in before.own) (takes_in after.own) ⊎ HasRunOne Between permitter permitter' (runs_in before.own) (runs_in after.own) (takes_in before.own) (takes_in after.own)
   pub holds : (id : ℕ) → held permitter' id ≡ held permitter id
 
--- What all rounds of a worker leave: its seat has seen more, jobs were run with the permitter, which holds what it held, and no run was refused.
-pub record HasMadeRounds {P : Type 0} (Between : P → List Asked → P → Type 0) (held : P → ℕ → ℕ) (permitter permitter' : P) (before after : View) : Type 0 where
-  pub limits : after.key ≡ before.key
-  pub begins : IsPrefix before.seen after.seen
-  pub took : HasRunTakes Between permitter permitter' (runs_in before.own) (runs_in after.own) (takes_in before.own) (takes_in after.own) None
-  pub holds : (id : ℕ) → held permitter' id ≡ held permitter id
-
--- what all rounds of a worker at work leave of it
+-- What all rounds of a worker at work leave of it: its seat has seen more, jobs were run with the permitter, which holds what it held, and no run was refused.
 pub record HasWorked {P H : Type 0} (Between : P → List Asked → P → Type 0) (held : P → ℕ → ℕ) (x y : AtWork P H) : Type 0 where
   pub pool : y.pool ≡ x.pool
   pub seat : y.seat.ghost_name ≡ x.seat.ghost_name
   pub permitter : y.permitter.ghost_name ≡ x.permitter.ghost_name
   pub table : y.seat.now.table_id ≡ x.seat.now.table_id
-  pub made : HasMadeRounds Between held x.permitter.now y.permitter.now x.seat.now.me.0 y.seat.now.me.0
+  pub limits : y.seat.now.me.0.key ≡ x.seat.now.me.0.key
+  pub begins : IsPrefix x.seat.now.me.0.seen y.seat.now.me.0.seen
+  pub took : HasRunTakes Between x.permitter.now y.permitter.now (runs_in x.seat.now.me.0.own) (runs_in y.seat.now.me.0.own) (takes_in x.seat.now.me.0.own) (takes_in y.seat.now.me.0.own) None
+  pub holds : (id : ℕ) → held y.permitter.now id ≡ held x.permitter.now id

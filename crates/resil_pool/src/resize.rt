@@ -2,14 +2,14 @@
 //!
 //! A resize is one event of the history. Submissions and idle ends after it are judged by its sizes.
 
-ghost use Rattle.std.specs.Prelude.{◌≡◌, ◌↔◌, ◌++◌, ◌∷◌, [], None, map, IfErr, OnOk, OnErr};
+ghost use Rattle.std.specs.Prelude.{◌≡◌, ◌↔◌, ◌++◌, ◌∷◌, [], None, map, OnOk, OnErr};
 ghost use Rattle.std.specs.Result.{IsErrOf};
 ghost use Rattle.resil_rule.specs.Limits.{IsCore, AreSizesWithin};
 ghost use Rattle.resil_pool.specs.Lock.LoggedEvent.{log_event, own_in, SeesMore};
 ghost use Rattle.resil_pool.specs.Lock.Protocol.{told};
 ghost use Rattle.resil_pool.specs.Lock.Turn.{IsMoved};
 ghost use Rattle.resil_pool.specs.Parts.{IsSameCaller, submission_of};
-ghost use Rattle.resil_pool.specs.Resize.{IsResizeError, SeesResize};
+ghost use Rattle.resil_pool.specs.Resize.{SeesResize};
 
 use crate::lock::{Note, State, note_if};
 use crate::parts::Caller;
@@ -93,9 +93,8 @@ impl State {
         ensures wrote { IsMoved self.old.machine (told self.new) self.new.machine }
         ensures resized { OnOk result (told self.new ≡ log_event None (Event.Resized core max) ∷ []) }
         ensures nothing { OnErr result (told self.new ≡ []) }
-        ensures core { OnOk result (IsCore core) }
-        ensures max { OnOk result (AreSizesWithin self.old.machine.limits core max) }
-        ensures refused { IfErr result (IsResizeError self.old.machine.limits core max) }
+        ensures core { IsErrOf result ResizeError.CoreOutOfRange ↔ ¬ IsCore core }
+        ensures max { IsErrOf result ResizeError.MaxOutOfRange ↔ (IsCore core × ¬ AreSizesWithin self.old.machine.limits core max) }
     {
         self.last = None;
         if core < 1 || core > Limits::MAX_WORKERS {

@@ -1,10 +1,25 @@
--- What is compared when a pool is drained: the history and the results with the receipts.
-use Rattle.std.specs.Prelude.{◌≡◌, ◌-◌, ◌≤◌, ℕ, List, Some, All, slice_get}
+-- What the callers hand in when a pool is drained, and what is compared with their receipts: the history and the results.
+use Rattle.std.specs.Prelude.{◌≡◌, ◌-◌, ◌≤◌, ℕ, List, Some, All, length, map, slice_get}
+use mathlib.Core.List.{IsPrefix}
 use Rattle.resil_rule.specs.declared.event.Event.{Event}
 use Rattle.resil_admission.specs.declared.row.Row.{Row}
+use Rattle.resil_pool.specs.declared.lock.logged_event.LoggedEvent.{LoggedEvent}
 use Rattle.resil_pool.specs.declared.receipt.Receipt.{Receipt}
-use Rattle.resil_pool.specs.Lock.LoggedEvent.{NamesCaller}
-use Rattle.resil_pool.specs.Draining.Report.{receipts_at, AreSubmissions}
+use Rattle.resil_pool.specs.Lock.LoggedEvent.{NamesCaller, events_in, own_in}
+use Rattle.resil_pool.specs.Parts.{CallerView, submission_of}
+use Rattle.resil_pool.specs.Draining.Report.{receipts_at, AreReceiptsOf, AreSubmissions}
+
+-- for each caller, from 1 on, its own entries in the log are its submissions with their plans, which are those on its receipts
+abbrev pub AreLogged : List LoggedEvent → List (List Receipt) → Type 0
+AreLogged seen receipts = (caller : ℕ) → 1 ≤ caller → caller ≤ length receipts → own_in caller seen ≡ map (submission_of caller) (receipts_at receipts caller)
+
+-- their receipts, in order of their numbers; what each has seen is a prefix of what the closer has seen; and the submissions of each in what the closer has seen
+-- are those on its receipts
+pub record IsGathered (callers : List CallerView) (seen : List LoggedEvent) (receipts : List (List Receipt)) : Type 0 where
+  pub told : AreReceiptsOf callers receipts
+  pub begins : All (λ c. IsPrefix c.seen seen) callers
+  pub submissions : AreSubmissions (events_in seen) receipts
+  pub logged : AreLogged seen receipts
 
 -- the plan that was run is the one on the receipt at the number of the submission, where there is one
 abbrev pub IsOfPlanOn : List (List Receipt) → Row → Type 0
@@ -18,14 +33,10 @@ pub record HasNumberedReceipt (receipts : List (List Receipt)) (row : Row) : Typ
   pub there : slice_get (receipts_at receipts row.id.caller) (row.id.number - 1) ≡ Some receipt
   pub number : receipt.number ≡ row.id.number
 
--- the receipt of the submission has its number, and the plan that was run
+-- it has the plan that was run too
 pub record HasReceipt (receipts : List (List Receipt)) (row : Row) : Type 0 where
-  pub from : 1 ≤ row.id.caller
-  pub counted : 1 ≤ row.id.number
-  pub receipt : Receipt
-  pub there : slice_get (receipts_at receipts row.id.caller) (row.id.number - 1) ≡ Some receipt
-  pub number : receipt.number ≡ row.id.number
-  pub plan : row.run.plan ≡ receipt.plan
+  pub numbered : HasNumberedReceipt receipts row
+  pub plan : row.run.plan ≡ numbered.receipt.plan
 
 -- the history and the results are what the receipts of this many callers say
 pub record AgreeWithReceipts (callers : ℕ) (history : List Event) (rows : List Row) (receipts : List (List Receipt)) : Type 0 where

@@ -7,7 +7,7 @@ ghost use Rattle.std.specs.Prelude.{◌≡◌, ◌≢◌, ◌≤◌, ◌<◌, �
 ghost use Rattle.resil_lock.specs.declared.protocol.Phase.TheVariants.{Holding};
 ghost use Rattle.resil_pool.specs.Parts.{CallerView};
 ghost use Rattle.resil_pool.specs.Draining.Report.{AreNumbered};
-ghost use Rattle.resil_pool.specs.Draining.Callers.{IsGathered};
+ghost use Rattle.resil_pool.specs.Draining.Receipts.{IsGathered};
 
 use crate::lock::{Lock, LockSeat};
 use crate::parts::Caller;

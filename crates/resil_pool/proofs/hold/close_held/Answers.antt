@@ -3,8 +3,9 @@ use Rattle.std.proofs.Common.{rules, sym, ap, ◌∙◌, subst}
 use Rattle.resil_rule.specs.History.{is_closed}
 use Rattle.resil_pool.specs.Parts.{SeatView}
 use Rattle.resil_pool.specs.Hold.{TellsOfRows}
+use Rattle.resil_pool.specs.Lock.Turn.{SeesClosing, WroteCloseAtMost}
 use Rattle.resil_pool.proofs.HoldLaws.{begins_after, told_of_rows}
-use Rattle.resil_pool.proofs.TurnLaws.{acted, gives, turned, may-close, home-now, closer-seen, closer-wrote, closer-stays, same-source}
+use Rattle.resil_pool.proofs.TurnLaws.{acted, gives, turned, may-close, home-now, sees-closing, wrote-closing, closer-stays, same-source}
 use Rattle.resil_pool.proofs.hold.close_held.Goals as goal
 
 pub release-requires : goal.release-requires
@@ -23,8 +24,8 @@ returns g c =
     let turn = turned (acted c.closer.inside.seat.me c.close_after_rows-in_order.new.self (c.deref_mut.ensures.value ∙ c.state.view_is) c.take-state.ensures k.wrote (λ fits. may-close _ _ fits c.closer.invariant.first k.closes)) c.release.ensures in
     let closed = ap is_closed (sym (home-now turn).home.history) ∙ k.closed in record {
       source = same-source _ _ turn (c.release.ensures.source ∙ c.take-state.ensures.source) ∙ ap (λ (x : SeatView). x.source) c.closer.view_is;
-      seen = closer-seen turn _ _ c.closer.view_is c.closer.invariant.first k.closes;
-      wrote = closer-wrote turn _ _ c.closer.view_is c.closer.invariant.first k.closes;
+      seen = subst (λ (x : SeatView). SeesClosing x.source.limits x.seen c.release.new.seat.me.0.seen) c.closer.view_is (sees-closing turn c.closer.invariant.first k.closes);
+      wrote = subst (λ (x : SeatView). WroteCloseAtMost x.wrote c.release.new.seat.me.0.own) c.closer.view_is (wrote-closing turn c.closer.invariant.first k.closes);
       closed = closed;
       begins = begins_after c.close_after_rows-in_order.result c.args.rows.now turn k.closes k.in_order closed;
       told = subst (λ (x : SeatView). TellsOfRows c.close_after_rows-in_order.result c.args.rows.now x.source.limits x.seen c.release.new.seat.me.0.seen) c.closer.view_is (told_of_rows c.close_after_rows-in_order.result c.args.rows.now turn k.closes k.in_order c.closer.invariant.first);

@@ -1,7 +1,7 @@
 -- One more caller gets the next number.
 use Rattle.std.proofs.Common.{◌≡◌, ◌+◌, ℕ, [], ◌∷◌, ◌++◌, length, refl, inr, sym, ap, ◌∙◌, arith}
 use Rattle.std.proofs.lemmas.List.FromFn.{length-map-range_with_len, map-range_with_len_more}
-use Rattle.resil_pool.specs.Parts.{CallerView, new_caller}
+use Rattle.resil_pool.specs.Parts.{caller_view, new_caller}
 use Rattle.resil_lock.specs.Lock.{made_one, member_view}
 use Rattle.resil_pool.specs.Lock.Protocol.{LockSeatState, closer_view}
 use Rattle.resil_pool.specs.Lock.Turn.{pool_id}
@@ -32,8 +32,7 @@ loop-made-preserved c =
     let made = c.loop-made.made in
     let table = c.admit.ensures.source in
     let me : c.admit.result.me ≡ (member_view (closer_view opening (1 + made)), []) = c.admit.ensures.me ∙ ap (λ (k : LockSeatState). (member_view k.0, [])) i.closer in
-    let value : (λ (k : CallerView). k) (record { source = record { table_id = c.admit.result.table_id; limits = c.admit.result.me.0.key.limits; callers = c.admit.result.me.0.key.callers }; number = made + 1; receipts = c.new.result.items; seen = c.admit.result.me.0.seen; wrote = c.admit.result.me.0.own }) ≡ new_caller pool (made + 1) =
-    λ j. record { source = record { table_id = table j; limits = (me j).0.key.limits; callers = (me j).0.key.callers }; number = made + 1; receipts = c.new.ensures.items j; seen = (me j).0.seen; wrote = (me j).0.own } in record {
+    let value : caller_view c.admit.result.table_id c.admit.result.me (made + 1) c.new.result.items ≡ new_caller pool (made + 1) = λ j. caller_view (table j) (me j) (made + 1) (c.new.ensures.items j) in record {
       table = c.admit.ensures.opener.0 ∙ i.table;
       closer = c.admit.ensures.opener.1 ∙ (ap (λ (k : LockSeatState). (made_one k.0, k.1)) i.closer ∙ ap (λ (n : ℕ). (closer_view opening n, [])) (omega arith));
       callers = c.push_reserved.ensures.items ∙ ((λ j. i.callers j ++ value j ∷ []) ∙ sym (map-range_with_len_more (new_caller pool) 1 made (made + 1) (omega arith)));

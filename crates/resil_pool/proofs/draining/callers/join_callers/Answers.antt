@@ -8,7 +8,7 @@ use Rattle.resil_pool.specs.Lock.LoggedEvent.{own_in}
 use Rattle.resil_pool.specs.Lock.Protocol.{LockSeatState}
 use Rattle.resil_pool.specs.Parts.{CallerView}
 use Rattle.resil_pool.proofs.JoinedCallers.{HasItsSubmissions, SoFar, so_far_next, still_there, all_gathered, list_count, all_left, mapped_push}
-use Rattle.resil_pool.proofs.SeatLaws.{numbering}
+use Rattle.resil_pool.proofs.Logs.{numbering}
 use Rattle.resil_pool.proofs.Submissions.{entries_of_caller}
 use Rattle.resil_pool.proofs.draining.callers.join_callers.Goals as goal
 

@@ -6,7 +6,7 @@ use Rattle.resil_admission.specs.MachineView.{AreResultsOf}
 use Rattle.resil_admission.specs.declared.row.Row.{Row}
 use Rattle.resil_rule.specs.declared.event.Event.{Event}
 use Rattle.resil_pool.specs.declared.receipt.Receipt.{Receipt}
-use Rattle.resil_pool.specs.Draining.Receipts.{IsOfPlanOn, AgreeWithReceipts}
+use Rattle.resil_pool.specs.Draining.Receipts.{IsOfPlanOn, HasReceipt, AgreeWithReceipts}
 use Rattle.resil_pool.proofs.ReceiptLaws.{collected, differ}
 use Rattle.resil_pool.proofs.draining.report.into_report.Goals as goal
 
@@ -20,7 +20,9 @@ agree_with_receipts-requires c = record {
 
 pub returns-then-agree_with_receipts-clause-collected_exactly_once :
     goal.returns-then-agree_with_receipts-clause-collected_exactly_once
-returns-then-agree_with_receipts-clause-collected_exactly_once c = collected _ _ _ _ c.in-Ok.ensures.results (c.in-Ok.ensures.accepted ∙ ap accepted (sym c.in-Ok.ensures.history)) (search rules)
+returns-then-agree_with_receipts-clause-collected_exactly_once c =
+    collected _ _ _ _ c.in-Ok.ensures.results (c.in-Ok.ensures.accepted ∙ ap accepted (sym c.in-Ok.ensures.history))
+    (subst (λ (y : List Row × List (List Receipt)). All (HasReceipt y.1) y.0) (λ i. (c.as_slice-2.ensures.value i, ap (map (λ own. own.items)) c.as_slice-3.ensures.value i)) (c.if-agree_with_receipts.ensures.0 refl).results)
 
 pub returns-clause-receipts_differ : goal.returns-clause-receipts_differ
 returns-clause-receipts_differ c = (

@@ -1,15 +1,17 @@
 -- The turn of a resize.
 use Rattle.std.proofs.Common.{◌++◌, ◌∷◌, [], None, ℕ, ap, ◌∙◌, subst, rules}
-use Rattle.std.specs.Prelude.{OnOk, IfErr}
+use Rattle.std.specs.Prelude.{◌↔◌}
+use Rattle.std.specs.Result.{IsErrOf}
 use Rattle.std.proofs.lemmas.Result.{on_ok_weaker, on_err_weaker}
-use Rattle.resil_rule.specs.Limits.{Sizes, AreSizesWithin}
+use Rattle.resil_rule.specs.Limits.{Sizes, IsCore, AreSizesWithin}
 use Rattle.resil_rule.specs.declared.event.Event.TheVariants.{Resized}
 use Rattle.resil_pool.specs.Lock.LoggedEvent.{log_event}
 use Rattle.resil_pool.specs.Lock.Turn.{PoolId}
 use Rattle.resil_pool.specs.Parts.{CallerView}
-use Rattle.resil_pool.specs.Resize.{SeesResize, IsResizeError}
+use Rattle.resil_pool.specs.declared.resize.ResizeError.TheVariants as refused
+use Rattle.resil_pool.specs.Resize.{SeesResize}
 use Rattle.resil_pool.proofs.TurnLaws.{has-turn, acted, gives, turned, wrote-one, same-source}
-use Rattle.resil_pool.proofs.Submissions.{is_not_closer, caller-same, caller-saw-more, caller-wrote-none, resize-may, resize-own, sees-resize, resize-core, resize-max}
+use Rattle.resil_pool.proofs.Submissions.{is_not_closer, caller-same, caller-saw-more, caller-wrote-none, resize-may, resize-own, sees-resize}
 use Rattle.resil_pool.proofs.pool.Pool.resize.Goals as goal
 
 pub release-requires : goal.release-requires
@@ -37,8 +39,8 @@ returns g c =
       seen = on_ok_weaker r (λ e. subst (λ (x : CallerView). SeesResize x.source.limits x.number x.seen c.args.core c.args.max c.release.new.seat.me.0.seen) c.caller.view_is (subst (λ (j : ℕ). SeesResize old.key.limits j old.seen c.args.core c.args.max c.release.new.seat.me.0.seen) c.caller.invariant.numbered (sees-resize c.args.core c.args.max turn e))) a.resized;
       own = (caller-same turn _ _ c.caller.invariant quiet).own;
       wrote = on_ok_weaker r (λ e. wrote-one turn _ e ∙ ap (λ (x : CallerView). x.wrote ++ log_event None (Resized c.args.core c.args.max) ∷ []) c.caller.view_is) a.resized;
-      core = resize-core c.deref_mut.result.now.machine.limits _ _ r a.core a.refused;
-      max = resize-max c.args.self.now.source.limits _ _ r (subst (λ (s : Sizes). OnOk r (AreSizesWithin s c.args.core c.args.max)) limits a.max) (subst (λ (s : Sizes). IfErr r (IsResizeError s c.args.core c.args.max)) limits a.refused);
+      core = a.core;
+      max = subst (λ (s : Sizes). IsErrOf r refused.MaxOutOfRange ↔ (IsCore c.args.core × ¬ AreSizesWithin s c.args.core c.args.max)) limits a.max;
       unseen = on_err_weaker r (λ e. caller-saw-more _ _ turn _ _ c.caller.invariant c.caller.view_is quiet) a.nothing;
       unwritten = on_err_weaker r (λ e. caller-wrote-none _ _ turn _ _ c.caller.invariant c.caller.view_is e) a.nothing;
     }
