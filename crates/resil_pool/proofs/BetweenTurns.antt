@@ -4,7 +4,7 @@ use Rattle.std.proofs.lemmas.List.Elements.{All-contains, All-contains_itself, A
 use mathlib.Core.Option as m
 use lib.ListN.{get_elem?}
 use Rattle.resil_lock.specs.declared.protocol.Phase.{Phase}
-use Rattle.resil_lock.specs.declared.protocol.Phase.TheVariants.{Idle, Holding, Joining, Joined}
+use Rattle.resil_lock.specs.declared.protocol.Phase.TheVariants.{Joined}
 use Rattle.resil_lock.specs.Lock.{holds_lock, is_there}
 use Rattle.resil_lock.specs.BetweenSteps.{IsSeatAt, HoldsBetweenSteps}
 use Rattle.resil_pool.specs.declared.lock.logged_event.LoggedEvent.{LoggedEvent}
@@ -17,10 +17,8 @@ use Rattle.resil_pool.specs.BetweenTurns.{StandWithTheirCallers, HoldsBetweenTur
 
 -- the holder of the turn is there
 holder_there : (p : Phase LoggedEvent) → holds_lock p ≡ true → is_there p ≡ true
-holder_there Idle holds = refl
-holder_there Holding holds = refl
-holder_there (Joining number other) holds = refl
 holder_there Joined holds = holds
+holder_there _ holds = refl
 
 module _ {A : Type 0} where
   -- a list has an element at an index, or ends before it

@@ -1,5 +1,5 @@
 -- Taking the callers out of their list, one after the other.
-use Rattle.std.proofs.Common.{◌≡◌, ◌≢◌, ℕ, zero, suc, Bool, true, ◌||◌, ◌+◌, ◌-◌, ◌<◌, List, [], ◌∷◌, ◌++◌, map, length, get_or, refl, sym, ap, ◌∙◌, subst, arith, append-nil, append_assoc, length-append, Result, IfOk}
+use Rattle.std.proofs.Common.{◌≡◌, ◌≢◌, ℕ, zero, suc, Bool, true, ◌||◌, ◌+◌, ◌-◌, ◌<◌, List, [], ◌∷◌, ◌++◌, map, length, get_or, refl, sym, ap, ◌∙◌, subst, arith, append_assoc, length-append, Result, IfOk}
 use Rattle.std.specs.Prelude.{All, swap_remove}
 use Rattle.std.specs.List.{range_with_len}
 use Rattle.std.specs.List.Sorted.{IsPermutation}
@@ -8,7 +8,7 @@ use Rattle.std.proofs.lemmas.List.{map-append, map-id, length-map, nil_from_leng
 use Rattle.std.proofs.Math.ListN.{get_or-map}
 use Rattle.std.proofs.lemmas.List.Elements.{All-append, All-nil, All-push}
 use Rattle.std.proofs.lemmas.List.FromFn.{length-range_with_len, get_or-range_with_len, map-range_with_len_more}
-use Rattle.std.proofs.lemmas.List.Sorted.{IsPermutation-refl, IsPermutation-sym, IsPermutation-trans, IsPermutation-to_front, IsPermutation-append_left, IsPermutation-swap_remove, All-permutation, length_permutation}
+use Rattle.std.proofs.lemmas.List.Sorted.{IsPermutation-sym, IsPermutation-trans, IsPermutation-to_front, IsPermutation-append_left, IsPermutation-swap_remove, All-permutation, length_permutation}
 use mathlib.Core.List.{IsPrefix}
 use Rattle.resil_pool.specs.declared.lock.logged_event.LoggedEvent.{LoggedEvent}
 use Rattle.resil_pool.specs.declared.receipt.Receipt.{Receipt}

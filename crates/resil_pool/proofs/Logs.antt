@@ -1,14 +1,13 @@
 -- Lemmas on logs, and what the lock's log tells a seat of the jobs that its own turns picked and ended.
-use Rattle.std.proofs.Common.{◌≡◌, ◌+◌, ℕ, List, ◌++◌, ap, ◌∙◌, arith, ◌≤◌, ◌<◌, zero, suc, Bool, true, cond, [], ◌∷◌, take, drop, length, refl, sym, subst, Some}
+use Rattle.std.proofs.Common.{◌≡◌, ◌+◌, ℕ, List, ◌++◌, ap, ◌∙◌, arith, ◌≤◌, ◌<◌, zero, suc, true, [], ◌∷◌, take, drop, refl, sym, subst, Some}
 use Rattle.std.proofs.lemmas.List.Elements.{filter-append, filter_map-append}
 use Rattle.std.specs.Prelude.{slice_get}
 use Rattle.std.proofs.lemmas.List.{take-append-drop}
 use Rattle.resil_rule.specs.History.{taken, taken_id, finished, finished_id, times, is_among, started}
 use Rattle.resil_rule.specs.declared.event.Id.{Id}
-use Rattle.resil_rule.proofs.TimesLaws.{times-append, times-one, times-left, among-some}
+use Rattle.resil_rule.proofs.TimesLaws.{times-append, times-left, among-some}
 use Rattle.resil_rule.specs.Admission.{IsLegal}
 use Rattle.resil_rule.specs.Limits.{Sizes}
-use Rattle.resil_rule.proofs.IdLaws.{same_id-self}
 use Rattle.resil_rule.proofs.ConservationLaws.{accepted-parts, tracked}
 use Rattle.resil_rule.proofs.EventLaws.{not-among}
 use Rattle.resil_admission.specs.MachineView.{MachineView, jobs_in_flight}
@@ -17,7 +16,7 @@ use Rattle.resil_lock.specs.Lock.{weigh, IsCovered, IsNumbering}
 use Rattle.resil_pool.specs.declared.lock.logged_event.LoggedEvent.{LoggedEvent}
 use Rattle.resil_pool.specs.Lock.LoggedEvent.{event_of, started_of, events_in, starts_in, picked_in, ended_in, is_own, own_in, plans_in, logged_plan, runs_in}
 use Rattle.resil_pool.specs.declared.lock.opening.Opening.{Opening}
-use Rattle.resil_pool.specs.Lock.Protocol.{IsMachineOf, MayHaveWritten, starts_of, EndsOnlyPicked, IsDue, IsSettled, Tallies}
+use Rattle.resil_pool.specs.Lock.Protocol.{IsMachineOf, MayHaveWritten, starts_of, EndsOnlyPicked, IsDue}
 
 pub own_in-append : (c : ℕ) (xs ys : List LoggedEvent) → own_in c (xs ++ ys) ≡ own_in c xs ++ own_in c ys
 own_in-append c xs ys = filter-append (is_own c) xs ys

@@ -1,5 +1,5 @@
 -- A caller's turns: a submission, and a resize.
-use Rattle.std.proofs.Common.{◌≡◌, ◌≢◌, ne_eqb, ℕ, ◌+◌, ◌≤◌, suc, Bool, true, false, cond, List, [], ◌∷◌, ◌++◌, map, length, refl, sym, ap, ◌∙◌, subst, arith, append-nil, Some, None, Result, Ok, Err, OnOk, OnErr, eq-eqb}
+use Rattle.std.proofs.Common.{◌≡◌, ◌≢◌, ne_eqb, ℕ, ◌+◌, ◌≤◌, Bool, true, false, cond, List, [], ◌∷◌, ◌++◌, map, length, refl, sym, ap, ◌∙◌, subst, arith, append-nil, Some, None, Result, Ok, Err, OnOk, OnErr, eq-eqb}
 use Rattle.std.specs.List.{cons_option}
 use Rattle.std.proofs.lemmas.List.{map-append, length-map}
 use Rattle.atomic_table.specs.Seated.{TableId}
@@ -32,10 +32,6 @@ use Rattle.resil_pool.proofs.TurnLaws.{HasTurn, MayHave, Turned, ends-none, saw,
 pub is_not_closer : (me : LockSeatState) (number : ℕ) (receipts : List Receipt) → IsCaller me number receipts → me.0.number ≢ closer_number
 is_not_closer me number receipts is first = is.not_closer (sym is.numbered ∙ first)
 
--- a caller's number is one of the pool's callers
-pub is_within : (me : LockSeatState) (number : ℕ) (receipts : List Receipt) → IsCaller me number receipts → me.0.number ≤ me.0.key.callers
-is_within me number receipts is = subst (λ (n : ℕ). n ≤ me.0.key.callers) (sym is.numbered) is.within
-
 -- what a submission leaves may be given back
 pub submission-moved : (old new : MachineView) (id : Id) (job : PlanView) (answer : Result Reply (AdmitError × PlanView)) (entries : List LoggedEvent) → AnswersSubmission old id job answer entries new → IsMoved old entries new
 submission-moved old new id job (Ok reply) entries s = subst (λ (xs : List LoggedEvent). IsMoved old xs new) (sym s.told) (submission-step old new id reply job s.allowed s.event)
@@ -45,7 +41,7 @@ pub submission-may : (seat : LockSeatState) (number next : ℕ) (receipts : List
     → AnswersSubmission old (submission_id number next) job answer entries new → MayHave seat entries
 submission-may seat number next receipts old new job (Ok reply) entries fits is s =
     let event : LoggedEvent = log_event (Some job) (Submit (submission_id number next) reply) in
-    subst (MayHave seat) (sym s.told) (ends-none seat (event ∷ []) fits ((sym is.numbered, is_not_closer seat number receipts is, is_within seat number receipts is), tt) refl)
+    subst (MayHave seat) (sym s.told) (ends-none seat (event ∷ []) fits ((sym is.numbered, is_not_closer seat number receipts is, subst (λ (n : ℕ). n ≤ seat.0.key.callers) (sym is.numbered) is.within), tt) refl)
 submission-may seat number next receipts old new job (Err e) entries fits is s = subst (MayHave seat) (sym s.nothing) (ends-none seat [] fits tt refl)
 
 pub own-submission : (number : ℕ) (receipt : Receipt) → own_in number (submission_of number receipt ∷ []) ≡ submission_of number receipt ∷ []
@@ -67,29 +63,31 @@ module _ {old : LockSeatState} {m : MachineView} {entries : List LoggedEvent} {m
   mine : own_in old.0.number old.0.seen ≡ map (submission_of number) receipts
   mine = ap (λ (j : ℕ). own_in j old.0.seen) is.numbered ∙ is.own
 
+  -- what it sees of a submission of its own
+  sees-submission : (receipt : Receipt) → entries ≡ submission_of number receipt ∷ [] → SeesOwn old.0.key.limits old.0.number old.0.seen (submission_of number receipt) new.0.seen
+  sees-submission receipt told = sees-own t (submission_of number receipt) told (subst (λ (j : ℕ). own_in j (submission_of number receipt ∷ []) ≡ submission_of number receipt ∷ []) (sym is.numbered) (own-submission number receipt))
+
   pub caller-after : (receipt : Receipt) → entries ≡ submission_of number receipt ∷ [] → IsCaller new number (receipts ++ receipt ∷ [])
   caller-after receipt told =
-      let sees = sees-own t (submission_of number receipt) told (subst (λ (j : ℕ). own_in j (submission_of number receipt ∷ []) ≡ submission_of number receipt ∷ []) (sym is.numbered) (own-submission number receipt)) in
+      let sees = sees-submission receipt told in
       caller-now (receipts ++ receipt ∷ []) sees.legal (sees.more_own ∙ (ap (λ (xs : List LoggedEvent). xs ++ submission_of number receipt ∷ []) mine ∙ sym (map-append (submission_of number) receipts (receipt ∷ []))))
 
   pub caller-same : own_in old.0.number entries ≡ [] → IsCaller new number receipts
   caller-same none = let sees = sees-more t none in caller-now receipts sees.legal (sees.same_own ∙ mine)
 
--- what a turn shows a caller
-module _ (caller : CallerView) (table : TableId) {old : LockSeatState} {m : MachineView} {entries : List LoggedEvent} {m' : MachineView} {new : LockSeatState} (t : Turned old m entries m' new) (number : ℕ) (receipts : List Receipt) (is : IsCaller old number receipts)
-    (same : caller_view table old number receipts ≡ caller) where
-  pub caller-saw-more : own_in old.0.number entries ≡ [] → SeesMore caller.source.limits caller.number caller.seen new.0.seen
-  caller-saw-more none = subst (λ (k : CallerView). SeesMore k.source.limits k.number k.seen new.0.seen) same (subst (λ (j : ℕ). SeesMore old.0.key.limits j old.0.seen new.0.seen) is.numbered (sees-more t none))
+  -- what it shows a caller
+  module _ (caller : CallerView) (table : TableId) (same : caller_view table old number receipts ≡ caller) where
+    pub caller-saw-more : own_in old.0.number entries ≡ [] → SeesMore caller.source.limits caller.number caller.seen new.0.seen
+    caller-saw-more none = subst (λ (k : CallerView). SeesMore k.source.limits k.number k.seen new.0.seen) same (subst (λ (j : ℕ). SeesMore old.0.key.limits j old.0.seen new.0.seen) is.numbered (sees-more t none))
 
-  pub caller-saw : (receipt : Receipt) → entries ≡ submission_of number receipt ∷ [] → SeesOwn caller.source.limits caller.number caller.seen (submission_of caller.number receipt) new.0.seen
-  caller-saw receipt told = subst (λ (k : CallerView). SeesOwn k.source.limits k.number k.seen (submission_of k.number receipt) new.0.seen) same (subst (λ (j : ℕ). SeesOwn old.0.key.limits j old.0.seen (submission_of number receipt) new.0.seen) is.numbered
-      (sees-own t (submission_of number receipt) told (subst (λ (j : ℕ). own_in j (submission_of number receipt ∷ []) ≡ submission_of number receipt ∷ []) (sym is.numbered) (own-submission number receipt))))
+    pub caller-saw : (receipt : Receipt) → entries ≡ submission_of number receipt ∷ [] → SeesOwn caller.source.limits caller.number caller.seen (submission_of caller.number receipt) new.0.seen
+    caller-saw receipt told = subst (λ (k : CallerView). SeesOwn k.source.limits k.number k.seen (submission_of k.number receipt) new.0.seen) same (subst (λ (j : ℕ). SeesOwn old.0.key.limits j old.0.seen (submission_of number receipt) new.0.seen) is.numbered (sees-submission receipt told))
 
-  pub caller-wrote : (receipt : Receipt) → entries ≡ submission_of number receipt ∷ [] → new.0.own ≡ caller.wrote ++ submission_of caller.number receipt ∷ []
-  caller-wrote receipt told = wrote-one t (submission_of number receipt) told ∙ ap (λ (k : CallerView). k.wrote ++ submission_of k.number receipt ∷ []) same
+    pub caller-wrote : (receipt : Receipt) → entries ≡ submission_of number receipt ∷ [] → new.0.own ≡ caller.wrote ++ submission_of caller.number receipt ∷ []
+    caller-wrote receipt told = wrote-one t (submission_of number receipt) told ∙ ap (λ (k : CallerView). k.wrote ++ submission_of k.number receipt ∷ []) same
 
-  pub caller-wrote-none : entries ≡ [] → new.0.own ≡ caller.wrote
-  caller-wrote-none told = wrote-none t told ∙ ap (λ (k : CallerView). k.wrote) same
+    pub caller-wrote-none : entries ≡ [] → new.0.own ≡ caller.wrote
+    caller-wrote-none told = wrote-none t told ∙ ap (λ (k : CallerView). k.wrote) same
 
 -- a caller's own events are its submissions
 own_submissions : (c : ℕ) (e : Event) → c ≢ closer_number → is_own_event c e ≡ is_submit_of c e

@@ -10,7 +10,7 @@ use Rattle.resil_rule.specs.Admission.{IsAllowed, IsLegal}
 use Rattle.resil_rule.specs.History.{is_among, started, started_id, times}
 use Rattle.resil_rule.specs.declared.event.Id.{Id}
 use Rattle.resil_rule.specs.declared.event.Event.{Event}
-use Rattle.resil_rule.specs.declared.event.Event.TheVariants.{Submit, Take, IdleEnd, Close}
+use Rattle.resil_rule.specs.declared.event.Event.TheVariants.{Submit, IdleEnd, Close}
 use Rattle.resil_rule.proofs.LegalLaws.{legal-push}
 use Rattle.resil_admission.specs.MachineView.{MachineView, jobs_in_flight}
 use Rattle.resil_admission.specs.declared.row.Row.{Row}
@@ -21,7 +21,7 @@ use Rattle.resil_pool.specs.declared.lock.logged_event.Note.{Note}
 use Rattle.resil_pool.specs.declared.lock.logged_event.Note.TheVariants as note
 use Rattle.resil_pool.specs.declared.lock.opening.Opening.{Opening}
 use Rattle.resil_pool.specs.declared.lock.state.State.{State}
-use Rattle.resil_pool.specs.Lock.LoggedEvent.{NamesCaller, AllNameCallers, log_event, start_of, events_in, starts_in, picked_in, ended_in, closer_number, is_own_note, is_own, own_in, plans_in, plan_entry, runs_in, SeesMore, SeesOwn}
+use Rattle.resil_pool.specs.Lock.LoggedEvent.{NamesCaller, AllNameCallers, log_event, events_in, starts_in, picked_in, ended_in, closer_number, is_own_note, is_own, own_in, plans_in, plan_entry, runs_in, SeesMore, SeesOwn}
 use Rattle.resil_pool.specs.Lock.Protocol.{View, LockSeatState, IsMachineOf, MayHaveWritten, starts_of, told, IsDue, Tallies, EndsOnlyPicked}
 use Rattle.resil_pool.specs.Lock.Turn.{IsResting, MayWrite, IsStep, IsMoved, Takes, WritesAtMost, SeesClosing, WroteCloseAtMost, TookATurn}
 use Rattle.atomic_table.specs.Seated.{TableId}

@@ -1,9 +1,9 @@
 -- What a worker's turns tell of the log that its seat has seen, and what all its rounds leave.
-use Rattle.std.proofs.Common.{◌≡◌, ◌≤◌, ◌+◌, ⊎_elim, inl, inr, ℕ, get_or, Bool, true, false, not, cond, List, [], ◌∷◌, ◌++◌, map, filter, length, refl, sym, ap, ◌∙◌, subst, append-nil, append_assoc, length-append, arith, Option, Some, None}
+use Rattle.std.proofs.Common.{◌≡◌, ◌≤◌, ◌+◌, ⊎_elim, inl, inr, ℕ, get_or, Bool, true, false, not, cond, List, [], ◌∷◌, ◌++◌, map, filter, refl, sym, ap, ◌∙◌, subst, append-nil, append_assoc, arith, Option, Some, None}
 use Rattle.std.specs.Prelude.{option_map, find, All, Contains}
 use Rattle.std.specs.Option.{option_or}
 use Rattle.std.proofs.lemmas.List.Folds.{find-append}
-use Rattle.std.proofs.lemmas.List.{map-append, get_or_append_left, get_or_push, map_push}
+use Rattle.std.proofs.lemmas.List.{map-append, map_push}
 use Rattle.std.proofs.lemmas.List.Concat.{flat_map-append}
 use Rattle.std.proofs.lemmas.List.Elements.{All-nil, All-push, Contains-append_left, Contains-push, filter-append}
 use Rattle.resil_decor.specs.Plan.{PlanView}
@@ -23,7 +23,7 @@ use Rattle.resil_pool.specs.declared.worker.AtWork.{AtWork}
 use Rattle.resil_admission.specs.declared.row.Row.{Row}
 use Rattle.resil_pool.specs.declared.lock.logged_event.LoggedEvent.{LoggedEvent}
 use Rattle.resil_pool.specs.declared.worker.Look.{Look}
-use Rattle.resil_pool.specs.declared.worker.Look.TheVariants.{Found, NoJob, Exit}
+use Rattle.resil_pool.specs.declared.worker.Look.TheVariants.{Found, Exit}
 use Rattle.resil_pool.specs.Lock.LoggedEvent.{log_event, start_of, finish_of, picked_in, ended_in, plans_in, plan_entry, runs_in}
 use Rattle.resil_pool.specs.Lock.Protocol.{LockSeatState, MayHaveWritten, IsDue, Tallies}
 use Rattle.resil_pool.specs.Lock.Turn.{Takes, WritesAtMost}
@@ -39,7 +39,7 @@ plan_beside id (job ∷ jobs) = here (is_same_id id job.id) (plan_beside id jobs
   where
     here : (b : Bool) → option_map (λ (entry : Id × Option PlanView). entry.1) (find (λ (entry : Id × Option PlanView). is_same_id id entry.0) (map plan_entry jobs)) ≡ option_map (λ (plan : PlanView). Some plan) (plan_of jobs id)
         → option_map (λ (entry : Id × Option PlanView). entry.1) (cond b (Some (plan_entry job)) (find (λ (entry : Id × Option PlanView). is_same_id id entry.0) (map plan_entry jobs)))
-            ≡ option_map (λ (plan : PlanView). Some plan) (option_map (λ (j : Accepted). j.plan) (cond b (Some job) (find (λ (j : Accepted). is_same_id id j.id) jobs)))
+        ≡ option_map (λ (plan : PlanView). Some plan) (option_map (λ (j : Accepted). j.plan) (cond b (Some job) (find (λ (j : Accepted). is_same_id id j.id) jobs)))
     here true rest = refl
     here false rest = rest
 

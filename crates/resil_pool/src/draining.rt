@@ -46,7 +46,7 @@ use std::sync::Wait;
 fn run_remaining<R: Wait, P: Permitter>(rt: &R, machine: &mut Machine, permitter: &mut P)
     requires legal { IsLegal machine.old.limits machine.old.history }
     requires few { EndsOnlyPicked machine.old }
-    ensures even { HasRunOn machine.old machine.new }
+    ensures ran_on { HasRunOn machine.old machine.new }
     ensures ran { (made : List Row) × Ran P.AnsweredBetween permitter.old machine.old made permitter.new machine.new }
     ensures none_left { HasNoneToPick machine.new }
     ensures held { (id : ℕ) → P.held permitter.new id ≡ P.held permitter.old id }

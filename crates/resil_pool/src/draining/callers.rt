@@ -3,7 +3,7 @@
 //! Callers may be handed in in any order. Each is found by its number and joined away into the closer, which holds
 //! the turn. The closer has seen the whole history, and in it the submissions of each caller are those on its receipts.
 
-ghost use Rattle.std.specs.Prelude.{◌≡◌, ◌≢◌, ◌≤◌, ◌<◌, ◌↔◌, ℕ, [], All, Any, IfSome, IfNone, IsTrue, None, length, map, slice_index_or, vec_capacity};
+ghost use Rattle.std.specs.Prelude.{◌≡◌, ◌≢◌, ◌≤◌, ◌<◌, ◌↔◌, [], All, IfSome, IfNone, IsTrue, None, length, map, slice_index_or, vec_capacity};
 ghost use Rattle.resil_lock.specs.declared.protocol.Phase.TheVariants.{Holding};
 ghost use Rattle.resil_pool.specs.Parts.{CallerView};
 ghost use Rattle.resil_pool.specs.Draining.Report.{AreNumbered};
@@ -31,13 +31,9 @@ fn find_caller(callers: &[Caller], number: u16) -> Option<usize>
 pub(crate) fn are_numbered(callers: &[Caller], count: u16) -> bool
     ensures { IsTrue result ↔ AreNumbered count callers.now }
 {
-    callers.len() == usize::from(count) && has_each(callers, count)
-}
-
-// Whether each number from 1 to `count` is some caller's.
-fn has_each(callers: &[Caller], count: u16) -> bool
-    ensures { IsTrue result ↔ ((number : ℕ) → 1 ≤ number → number ≤ count → Any (λ c. c.number ≡ number) callers.now) }
-{
+    if callers.len() != usize::from(count) {
+        return false;
+    }
     for below in 0..count {
         let Some(_place) = find_caller(callers, below + 1) else {
             return false;

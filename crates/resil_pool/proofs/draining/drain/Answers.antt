@@ -1,8 +1,7 @@
 -- The history begins with what the closer had seen when it held the turn and the callers were joined into it, and what was left was run with the permitter.
-use Rattle.std.proofs.Common.{◌≡◌, ℕ, true, false, List, refl, sym, ap, ◌∙◌, subst, arith, rules}
+use Rattle.std.proofs.Common.{◌≡◌, ℕ, true, false, refl, sym, ap, ◌∙◌, subst, arith, rules}
 use Rattle.std.specs.Prelude.{All}
 use mathlib.Core.List.{IsPrefix}
-use Rattle.resil_pool.specs.declared.lock.logged_event.LoggedEvent.{LoggedEvent}
 use Rattle.resil_rule.specs.History.{is_closed}
 use Rattle.resil_pool.specs.Lock.LoggedEvent.{AllNameCallers, events_in}
 use Rattle.resil_pool.specs.Lock.Turn.{PoolId}
@@ -35,7 +34,7 @@ into_report-requires g c =
     ap (λ (k : SeatView). k.source.callers) c.closer.view_is ∙ (ap (λ (s : PoolId). s.callers) (c.close.ensures.source ∙ c.requires.closer) ∙ (sym (ap (λ (p : PoolView). p.source.callers) c.pool.view_is) ∙ c.pool.invariant.1)) in record {
       few = omega (arith, many, few);
       plans = λ rows results. of_their_plans _ rows
-          (agreed _ _ _ _ _ _ c.run_remaining.new.machine ran.0 rows (lists ∙ many) c.join_callers-receipts.ensures.gathered took.home.legal (subst (λ (count : ℕ). AllNameCallers count (events_in c.take-state.new.seat.me.0.seen)) callers took.home.names) took.home.home (c.run_remaining.ensures.even.names _) c.run_remaining.ensures.even.submissions
+          (agreed _ _ _ _ _ _ c.run_remaining.new.machine ran.0 rows (lists ∙ many) c.join_callers-receipts.ensures.gathered took.home.legal (subst (λ (count : ℕ). AllNameCallers count (events_in c.take-state.new.seat.me.0.seen)) callers took.home.names) took.home.home (c.run_remaining.ensures.ran_on.names _) c.run_remaining.ensures.ran_on.submissions
           ran.1.jobs results).results;
     }
 
@@ -43,26 +42,26 @@ pub returns-clause-begins : goal.returns-clause-begins
 returns-clause-begins g c =
     let took = has-turn c.closer.inside.seat.me (c.into_inner-inner.ensures ∙ c.state.view_is) c.take-state.ensures in
     of_report (λ r. r.history.items) c.into_report.result (λ h. All (λ k. IsPrefix (events_in k.seen) h) c.args.callers.items)
-    (each_begins _ _ _ _ c.join_callers-receipts.ensures.gathered.begins took.home.home.history c.run_remaining.ensures.even.begins) c.into_report.ensures.history
+    (each_begins _ _ _ _ c.join_callers-receipts.ensures.gathered.begins took.home.home.history c.run_remaining.ensures.ran_on.begins) c.into_report.ensures.history
 
 pub returns-clause-begins_with_closers : goal.returns-clause-begins_with_closers
 returns-clause-begins_with_closers g c =
     let took = has-turn c.closer.inside.seat.me (c.into_inner-inner.ensures ∙ c.state.view_is) c.take-state.ensures in
     let closing = subst (λ (k : SeatView). IsPrefix c.args.closer.seen k.seen) (sym c.closer.view_is) c.close.ensures.begins in
     of_report (λ r. r.history.items) c.into_report.result (λ h. IsPrefix (events_in c.args.closer.seen) h)
-    (events_begin _ _ _ _ (prefix_trans _ _ _ closing took.begins) took.home.home.history c.run_remaining.ensures.even.begins) c.into_report.ensures.history
+    (events_begin _ _ _ _ (prefix_trans _ _ _ closing took.begins) took.home.home.history c.run_remaining.ensures.ran_on.begins) c.into_report.ensures.history
 
 pub returns-clause-closed : goal.returns-clause-closed
 returns-clause-closed g c =
     let took = has-turn c.closer.inside.seat.me (c.into_inner-inner.ensures ∙ c.state.view_is) c.take-state.ensures in
     let shut = subst (λ (k : SeatView). is_closed (events_in k.seen) ≡ true) (sym c.closer.view_is) c.close.ensures.closed in
     of_report (λ r. r.history.items) c.into_report.result (λ h. is_closed h ≡ true)
-    (still_closed _ _ (events_begin _ _ _ _ took.begins took.home.home.history c.run_remaining.ensures.even.begins) shut) c.into_report.ensures.history
+    (still_closed _ _ (events_begin _ _ _ _ took.begins took.home.home.history c.run_remaining.ensures.ran_on.begins) shut) c.into_report.ensures.history
 
 pub returns-clause-ran : goal.returns-clause-ran
 returns-clause-ran g c =
     let ran = c.run_remaining.ensures.ran in
-    ran_where_ok g.P.Permitter.AnsweredBetween _ _ _ _ ran.0 (λ r. r.history.items) (λ r. r.results.items) c.into_report.result ran.1 c.run_remaining.ensures.even.begins c.into_report.ensures.history c.into_report.ensures.results
+    ran_where_ok g.P.Permitter.AnsweredBetween _ _ _ _ ran.0 (λ r. r.history.items) (λ r. r.results.items) c.into_report.result ran.1 c.run_remaining.ensures.ran_on.begins c.into_report.ensures.history c.into_report.ensures.results
 
 pub returns-then-has_refused-clause-none_refused : goal.returns-then-has_refused-clause-none_refused
 returns-then-has_refused-clause-none_refused g c _ = absurd (c.has_refused.ensures.none (c.if-has_refused.ensures.any.0 refl))
@@ -74,8 +73,8 @@ pub returns-clause-none_refused : goal.returns-clause-none_refused
 returns-clause-none_refused g c _ =
     let took = has-turn c.closer.inside.seat.me (c.into_inner-inner.ensures ∙ c.state.view_is) c.take-state.ensures in
     let shut = subst (λ (k : SeatView). is_closed (events_in k.seen) ≡ true) (sym c.closer.view_is) c.close.ensures.closed in
-    let closed = still_closed _ _ (events_begin _ _ _ _ took.begins took.home.home.history c.run_remaining.ensures.even.begins) shut in
-    let limits = c.run_remaining.ensures.even.limits ∙ (took.home.home.sized ∙ (ap (λ (k : SeatView). k.source.limits) c.closer.view_is ∙ ap (λ (s : PoolId). s.limits) (c.close.ensures.source ∙ c.requires.closer))) in
+    let closed = still_closed _ _ (events_begin _ _ _ _ took.begins took.home.home.history c.run_remaining.ensures.ran_on.begins) shut in
+    let limits = c.run_remaining.ensures.ran_on.limits ∙ (took.home.home.sized ∙ (ap (λ (k : SeatView). k.source.limits) c.closer.view_is ∙ ap (λ (s : PoolId). s.limits) (c.close.ensures.source ∙ c.requires.closer))) in
     let inside = limits ∙ sym (ap (λ (p : PoolView). p.source.limits) c.pool.view_is) in
     let none : ¬ HasRefused c.args.ends.items = λ held. c.has_refused.ensures.none (subst HasRefused (sym c.as_slice-3.ensures.value) held) in
     subst (λ (p : PoolView). (how : Ended p c.args.callers.items c.args.ends.items c.into_report.result) × (how.all_accepted ≡ true) × ¬ HasRefused c.args.ends.items) c.pool.view_is (
@@ -88,8 +87,8 @@ returns-clause-none_refused g c _ =
         none_left = λ _. c.run_remaining.ensures.none_left;
         refused = λ e. let no : true ≡ false = e in absurd (cc);
         handed_in = c.join_callers-receipts.ensures.gathered.told;
-        begins = each_begins _ _ _ _ c.join_callers-receipts.ensures.gathered.begins took.home.home.history c.run_remaining.ensures.even.begins;
-        submissions = still_submissions c.take-state.new.seat.me.0.seen _ c.run_remaining.new.machine.history _ c.join_callers-receipts.ensures.gathered.submissions took.home.home.history c.run_remaining.ensures.even.submissions;
+        begins = each_begins _ _ _ _ c.join_callers-receipts.ensures.gathered.begins took.home.home.history c.run_remaining.ensures.ran_on.begins;
+        submissions = still_submissions c.take-state.new.seat.me.0.seen _ c.run_remaining.new.machine.history _ c.join_callers-receipts.ensures.gathered.submissions took.home.home.history c.run_remaining.ensures.ran_on.submissions;
         stranger = stranger_causes _ _ _ _ c.into_report.ensures.stranger (inside ∙ c.pool.invariant.0) none;
         receipts_differ = differ_causes _ _ _ _ _ c.into_report.ensures.receipts_differ (inside ∙ c.pool.invariant.0) none;
       },
@@ -110,7 +109,7 @@ returns-clause-receipts_agree g c differs =
     let compared = c.into_report.ensures.compared differs in
     let callers : c.closer.inside.seat.me.0.key.callers ≡ c.pool.inside.callers =
     ap (λ (k : SeatView). k.source.callers) c.closer.view_is ∙ (ap (λ (s : PoolId). s.callers) (c.close.ensures.source ∙ c.requires.closer) ∙ (sym (ap (λ (p : PoolView). p.source.callers) c.pool.view_is) ∙ c.pool.invariant.1)) in
-    compared.2 (agreed _ _ _ _ _ _ c.run_remaining.new.machine ran.0 compared.0 (lists ∙ many) c.join_callers-receipts.ensures.gathered took.home.legal (subst (λ (count : ℕ). AllNameCallers count (events_in c.take-state.new.seat.me.0.seen)) callers took.home.names) took.home.home (c.run_remaining.ensures.even.names _) c.run_remaining.ensures.even.submissions
+    compared.2 (agreed _ _ _ _ _ _ c.run_remaining.new.machine ran.0 compared.0 (lists ∙ many) c.join_callers-receipts.ensures.gathered took.home.legal (subst (λ (count : ℕ). AllNameCallers count (events_in c.take-state.new.seat.me.0.seen)) callers took.home.names) took.home.home (c.run_remaining.ensures.ran_on.names _) c.run_remaining.ensures.ran_on.submissions
     ran.1.jobs compared.1)
 
 pub returns-then-not-has_all_handles-clause-nothing_asked : goal.returns-then-not-has_all_handles-clause-nothing_asked

@@ -19,7 +19,7 @@ loop-preserved g c =
     let out = c.in-Ok.ensures.out.0 refl in record {
       iterator = (tt, tt);
       order = finished_out c.pick.new.self _ _ _ (picked_out c.loop.machine c.pick.new.self _ i.order c.in-Some-pick.ensures.picked) c.in-Ok.ensures.event;
-      even = ran_on _ c.loop.machine c.pick.new.self _ _ _ i.even c.in-Some-pick.ensures.picked c.in-Ok.ensures.event;
+      ran_on = ran_on _ c.loop.machine c.pick.new.self _ _ _ i.ran_on c.in-Some-pick.ensures.picked c.in-Ok.ensures.event;
       ran = (_, ran_one_more g.P.Permitter.AnsweredBetween _ _ _ _ _ _ _ _ _ _ _ g.met.P.Permitter.append_between i.ran.1 left out.0 out.1 c.in-Ok.ensures.event c.run-run.ensures.given);
       held = λ id. c.run-run.ensures.held id ∙ i.held id;
     }
@@ -31,5 +31,5 @@ unreachable-requires g c =
     let plan = ap (λ (jobs : List Accepted). plan_of jobs c.in-Some-pick.id) left.jobs ∙ (c.in-Some-pick.ensures.plan ∙ ap (λ (p : PlanView). Some p) (sym c.run-run.ensures.plan)) in
     let no : false ≡ true = c.in-Err.ensures.out.1 (is_out _ _ (picked_out c.loop.machine c.pick.new.self _ c.loop.invariant.order picked), plan) in cc
 
-pub returns-in_default-clause-even : goal.returns-in_default-clause-even
-returns-in_default-clause-even g c = subst (HasRunOn c.args.machine.now) (sym c.in_default.ensures.unchanged) c.loop.invariant.even
+pub returns-in_default-clause-ran_on : goal.returns-in_default-clause-ran_on
+returns-in_default-clause-ran_on g c = subst (HasRunOn c.args.machine.now) (sym c.in_default.ensures.unchanged) c.loop.invariant.ran_on

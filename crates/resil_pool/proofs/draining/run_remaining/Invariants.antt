@@ -10,6 +10,6 @@ invariant-loop g l = record {
   iterator : (goal.iterator-loop g).can_next l.iterator' × (goal.iterator-loop g).is_finite l.iterator';
   order : IsInOrder l.machine;
   ran : (made : List Row) × Ran g.P.Permitter.AnsweredBetween l.initial.permitter l.initial.machine made l.permitter l.machine;
-  even : HasRunOn l.initial.machine l.machine;
+  ran_on : HasRunOn l.initial.machine l.machine;
   held : (id : ℕ) → g.P.Permitter.held l.permitter id ≡ g.P.Permitter.held l.initial.permitter id;
 }

@@ -41,6 +41,6 @@ returns g c =
       wrote = on_ok_weaker r (λ e. wrote-one turn _ e ∙ ap (λ (x : CallerView). x.wrote ++ log_event None (Resized c.args.core c.args.max) ∷ []) c.caller.view_is) a.resized;
       core = a.core;
       max = subst (λ (s : Sizes). IsErrOf r refused.MaxOutOfRange ↔ (IsCore c.args.core × ¬ AreSizesWithin s c.args.core c.args.max)) limits a.max;
-      unseen = on_err_weaker r (λ e. caller-saw-more _ _ turn _ _ c.caller.invariant c.caller.view_is quiet) a.nothing;
-      unwritten = on_err_weaker r (λ e. caller-wrote-none _ _ turn _ _ c.caller.invariant c.caller.view_is e) a.nothing;
+      unseen = on_err_weaker r (λ e. caller-saw-more turn _ _ c.caller.invariant _ _ c.caller.view_is quiet) a.nothing;
+      unwritten = on_err_weaker r (λ e. caller-wrote-none turn _ _ c.caller.invariant _ _ c.caller.view_is e) a.nothing;
     }

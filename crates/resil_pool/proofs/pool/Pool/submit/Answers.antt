@@ -42,10 +42,10 @@ returns-in-Ok-answer g c =
       number = search rules;
       receipt = c.keep_receipt.ensures.kept ∙ (λ i. before i ++ receipt_of c.keep_receipt.result (plan i) ∷ []);
       seen = subst (λ (ticket : Ticket). SeesOwn k.source.limits k.number k.seen (submission_of k.number (receipt_of ticket c.args.job)) c.release.new.seat.me.0.seen) (sym c.keep_receipt.ensures.ticket)
-          (caller-saw _ _ turn _ _ c.caller.invariant c.caller.view_is receipt c.in-Ok-answer.ensures.told);
+          (caller-saw turn _ _ c.caller.invariant _ _ c.caller.view_is receipt c.in-Ok-answer.ensures.told);
       own = (caller-after turn _ _ c.caller.invariant receipt c.in-Ok-answer.ensures.told).own ∙ ap (map (submission_of c.caller.inside.number)) (sym items);
       wrote = subst (λ (ticket : Ticket). c.release.new.seat.me.0.own ≡ k.wrote ++ submission_of k.number (receipt_of ticket c.args.job) ∷ []) (sym c.keep_receipt.ensures.ticket)
-          (caller-wrote _ _ turn _ _ c.caller.invariant c.caller.view_is receipt c.in-Ok-answer.ensures.told);
+          (caller-wrote turn _ _ c.caller.invariant _ _ c.caller.view_is receipt c.in-Ok-answer.ensures.told);
       refused = tt;
       unchanged = tt;
       unseen = tt;
@@ -78,7 +78,7 @@ returns-in-Err g c =
       wrote = tt;
       refused = c.memory_of.ensures;
       unchanged = c.reserve.ensures.items ∙ ap (λ (x : CallerView). x.receipts) c.caller.view_is;
-      unseen = caller-saw-more _ _ turn _ _ c.caller.invariant c.caller.view_is none;
-      unwritten = caller-wrote-none _ _ turn _ _ c.caller.invariant c.caller.view_is c.in-Err.ensures.nothing;
+      unseen = caller-saw-more turn _ _ c.caller.invariant _ _ c.caller.view_is none;
+      unwritten = caller-wrote-none turn _ _ c.caller.invariant _ _ c.caller.view_is c.in-Err.ensures.nothing;
       job_back = search rules;
     }

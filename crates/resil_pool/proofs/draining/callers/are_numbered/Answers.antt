@@ -5,12 +5,12 @@ use mathlib.Core.Logic.{dite}
 use native.Mathlib.Decide.{ℕ_discrete}
 use Rattle.resil_pool.specs.Parts.{CallerView}
 use Rattle.resil_pool.proofs.JoinedCallers.{at_place}
-use Rattle.resil_pool.proofs.draining.callers.has_each.Goals as goal
+use Rattle.resil_pool.proofs.draining.callers.are_numbered.Goals as goal
 
 pub returns-in_default : goal.returns-in_default
 returns-in_default c = (
   (λ e. let bad : false ≡ true = e in absurd cc),
-  (λ each. let one = each (c.loop-below.below + 1) (omega arith) (omega (arith, c.loop-below-test.true)) in absurd (c.in_default.ensures.none one.0 one.1 one.2 (ap (λ (k : CallerView). k.number) one.3 ∙ one.4))),
+  (λ are. let one = are.each (c.loop-below.below + 1) (omega arith) (omega (arith, c.loop-below-test.true)) in absurd (c.in_default.ensures.none one.0 one.1 one.2 (ap (λ (k : CallerView). k.number) one.3 ∙ one.4))),
 )
 
 pub loop-below-preserved : goal.loop-below-preserved
