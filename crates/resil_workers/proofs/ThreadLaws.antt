@@ -2,7 +2,7 @@
 use Rattle.std.proofs.Common.{◌≡◌, ℕ, true, false, List, [], ◌∷◌, ◌++◌, ◌∙◌, length, map, refl, sym, ap, subst, arith, append_assoc, Result, Ok, Err, OnOk}
 use Rattle.std.proofs.lemmas.List.{map-append}
 use Rattle.std.specs.Prelude.{All, is_err}
-use Rattle.std.proofs.lemmas.List.Elements.{All-append, All-push, All-nil}
+use Rattle.std.proofs.lemmas.List.Elements.{All-push, All-same}
 use Rattle.resil_pool.specs.declared.receipt.Receipt.{Receipt}
 use Rattle.resil_pool.specs.declared.hold.JobRow.{JobRow}
 use Rattle.resil_workers.specs.declared.batch.submit.Submitted.{Submitted}
@@ -14,17 +14,13 @@ use Rattle.resil_workers.specs.Batch.CallerThreads.{HasSubmitted, PromisesRowsOf
 
 -- one more of which it holds was pushed
 pub all-pushed : {X : Type 0} (P : X → Type 0) (xs : List X) (x : X) (more : List X) → more ≡ xs ++ x ∷ [] → All P xs → P x → All P more
-all-pushed P xs x more is all one = subst (λ ys. All P ys) (sym is) (All-append P xs (x ∷ []) all (All-push P [] x (All-nil P) one))
+all-pushed P xs x more is all one = All-same P more (xs ++ x ∷ []) is (All-push P xs x all one)
 
 -- an element with this number went over to the other list
 pub numbers-moved : {X Y : Type 0} (f : X → ℕ) (h : Y → ℕ) (xs more : List X) (x : X) (ys left : List Y) (y : Y) → more ≡ xs ++ x ∷ [] → ys ≡ y ∷ left → f x ≡ h y → map f xs ++ map h ys ≡ map f more ++ map h left
 numbers-moved f h xs more x ys left y is from same =
     ap (λ ls. map f xs ++ map h ls) from ∙ (ap (λ n. map f xs ++ n ∷ map h left) (sym same)
     ∙ (sym (append_assoc (map f xs) (f x ∷ []) (map h left)) ∙ ap (λ ns. ns ++ map h left) (sym (map-append f xs (x ∷ [])) ∙ ap (map f) (sym is))))
-
-pub nothing_left : {X : Type 0} (l : List X) → length l ≡ 0 → l ≡ []
-nothing_left [] none = refl
-nothing_left (x ∷ xs) none = absurd (omega arith)
 
 -- what is said where a caller's rows were all submitted
 when_all : (X : Type 0) (outcome : Result (Unit {0}) SubmitError) → is_err outcome ≡ false → OnOk outcome X → X
@@ -38,8 +34,3 @@ pub told-own : (rows given : List JobRow) (source : PoolId) (caller : CallerView
 told-own rows given source caller sent from is fine =
     when_all _ sent.outcome fine is.told ∙ (ap (λ (rs : List Receipt). map (λ r. r.plan) rs ++ plans_of given caller.number) from.new
     ∙ (ap (λ (rs : List JobRow). plans_of rs caller.number) from.same ∙ ap (plans_of rows) (sym is.same.number)))
-
--- a fact that follows from another follows where the outcome is a good one
-pub on_ok : {E : Type 0} (X Y : Type 0) (outcome : Result (Unit {0}) E) → (X → Y) → OnOk outcome X → OnOk outcome Y
-on_ok X Y (Ok u) f x = f x
-on_ok X Y (Err e) f x = x

@@ -84,17 +84,16 @@ pub(crate) fn submit_on_threads<'s, E: 's, R: Threads + Wait + Sync, H: Hook + S
 {
     let room = Vec::with_capacity(batch.alloc, callers.len())?;
     let mut sent = Vec::with_capacity(batch.alloc, callers.len())?;
-    let (threads, mut outcome) = start_callers(scope, batch, pool, callers, room);
+    let (threads, started) = start_callers(scope, batch, pool, callers, room);
+    let mut out_of_memory = false;
     for thread in threads {
-        let Submitted {
-            caller,
-            outcome: own,
-        } = thread.join(batch.rt);
+        let Submitted { caller, outcome } = thread.join(batch.rt);
         sent.push_reserved(caller);
-        if own.is_err() {
-            outcome = Err(BatchError::Memory);
-        }
+        out_of_memory |= outcome.is_err();
     }
-    outcome?;
+    if out_of_memory {
+        return Err(BatchError::Memory);
+    }
+    started?;
     Ok(sent)
 }

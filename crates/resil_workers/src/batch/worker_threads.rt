@@ -55,30 +55,15 @@ pub(crate) fn prepare_workers<'a, R: Wait>(
 {
     let started = Vec::with_capacity(alloc, workers.len())?;
     let ends = Vec::with_capacity(alloc, workers.len())?;
-    let each = split_passes(alloc, pool, workers, passes)?;
     let threads = WorkerThreads { started, ends };
-    Ok(ReadyWorkers { each, threads })
-}
-
-// Gives each worker passes that are split from these.
-fn split_passes<'a, R: Wait>(
-    alloc: Global,
-    pool: &Pool,
-    workers: Vec<Worker>,
-    passes: &mut Passes<'a, R>,
-) -> Result<Vec<ReadyWorker<'a, R>>, BatchError>
-    requires { All (λ w. w.source ≡ pool.now.source) workers.items }
-    ensures passes { passes.new ≡ passes.old }
-    ensures number { IfOk result (λ ready. length ready.items ≡ length workers.items) }
-    ensures sources { IfOk result (λ ready. All (λ one. one.worker.source ≡ pool.now.source) ready.items) }
-    ensures split { IfOk result (λ ready. All (λ one. AreSplitFrom passes.old one.passes) ready.items) }
-{
-    let mut ready = Vec::with_capacity(alloc, workers.len())?;
+    let mut each = Vec::with_capacity(alloc, workers.len())?;
     for worker in workers {
-        let passes = passes.split(alloc)?;
-        ready.push_reserved(ReadyWorker { worker, passes });
+        let Ok(passes) = passes.split(alloc) else {
+            return Err(BatchError::Memory);
+        };
+        each.push_reserved(ReadyWorker { worker, passes });
     }
-    Ok(ready)
+    Ok(ReadyWorkers { each, threads })
 }
 
 // Works until the pool is closed and nothing is left. Its jobs ask its own passes, and no others.

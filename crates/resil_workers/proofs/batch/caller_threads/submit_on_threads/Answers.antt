@@ -1,34 +1,15 @@
 -- One more caller is back.
-use Rattle.std.proofs.Common.{◌≡◌, ◌+◌, [], ◌∷◌, ◌++◌, ◌∙◌, length, map, sym, ap, subst, arith, length-append, append-nil, OnOk}
+use Rattle.std.proofs.Common.{rules, ◌≡◌, ◌+◌, [], ◌∷◌, ◌++◌, ◌∙◌, length, map, sym, ap, subst, arith, length-append, append-nil, OnOk}
 use Rattle.std.specs.Prelude.{All}
 use Rattle.std.specs.Vec.Iter.{into_iter_items, into_iter_len}
+use Rattle.std.proofs.lemmas.List.{nil_from_length}
+use Rattle.std.proofs.lemmas.Bool.{or_parts}
 use Rattle.std.proofs.lemmas.List.Elements.{All-head, All-tail}
 use Rattle.resil_pool.specs.Parts.{CallerView}
 use Rattle.resil_workers.specs.Batch.Submit.{plans_of, plans_on_receipts}
 use Rattle.resil_workers.specs.Batch.CallerThreads.{PromisesRowsOf}
-use Rattle.resil_workers.proofs.ThreadLaws.{all-pushed, numbers-moved, nothing_left, told-own, on_ok}
+use Rattle.resil_workers.proofs.ThreadLaws.{all-pushed, numbers-moved, told-own}
 use Rattle.resil_workers.proofs.batch.caller_threads.submit_on_threads.Goals as goal
-
-pub loop-thread-preserved-then-is_err : goal.loop-thread-preserved-then-is_err
-loop-thread-preserved-then-is_err g c =
-    let at = c.loop-thread in
-    let step = c.in-Some.ensures.steps in
-    let fewer : length (into_iter_items at.thread-iterator) ≡ length (c.in-Some.thread ∷ into_iter_items c.next.new.self) = ap length step.0 in
-    let len : into_iter_len c.next.new.self + 1 ≡ into_iter_len at.thread-iterator = step.1 in
-    let items = c.push_reserved.ensures.items in
-    let more : length c.push_reserved.new.self.items ≡ length at.sent.items + 1 = ap length items ∙ length-append _ _ in
-    let all = subst (λ threads. All (λ t. PromisesRowsOf c.args.batch.now.rows.now c.args.pool.now.source t.promise.rows.now t.promise.caller.value) threads) step.0 at.invariant.sending in
-    let from = All-head (λ t. PromisesRowsOf c.args.batch.now.rows.now c.args.pool.now.source t.promise.rows.now t.promise.caller.value) c.in-Some.thread _ all in
-    let back = c.join-caller.ensures in record {
-      count = omega (arith, at.invariant.count);
-      left = omega (arith, at.invariant.left);
-      room = c.push_reserved.ensures.capacity ∙ at.invariant.room;
-      sending = All-tail (λ t. PromisesRowsOf c.args.batch.now.rows.now c.args.pool.now.source t.promise.rows.now t.promise.caller.value) c.in-Some.thread _ all;
-      sources = all-pushed (λ (k : CallerView). k.source ≡ c.args.pool.now.source) _ _ _ items at.invariant.sources (back.same.source ∙ from.from);
-      numbers = sym (numbers-moved (λ (k : CallerView). k.number) (λ t. t.promise.caller.value.number) _ _ _ _ _ _ items step.0 back.same.number) ∙ at.invariant.numbers;
-      told = tt;
-      started = tt;
-    }
 
 pub loop-thread-preserved : goal.loop-thread-preserved
 loop-thread-preserved g c =
@@ -41,20 +22,23 @@ loop-thread-preserved g c =
     let all = subst (λ threads. All (λ t. PromisesRowsOf c.args.batch.now.rows.now c.args.pool.now.source t.promise.rows.now t.promise.caller.value) threads) step.0 at.invariant.sending in
     let from = All-head (λ t. PromisesRowsOf c.args.batch.now.rows.now c.args.pool.now.source t.promise.rows.now t.promise.caller.value) c.in-Some.thread _ all in
     let back = c.join-caller.ensures in
-    let own = told-own _ _ _ _ c.join-caller.result from back (sym c.is_err.ensures.value ∙ c.if-is_err.false) in record {
+    let fine = told-own _ _ _ _ c.join-caller.result from back in record {
       count = omega (arith, at.invariant.count);
       left = omega (arith, at.invariant.left);
       room = c.push_reserved.ensures.capacity ∙ at.invariant.room;
       sending = All-tail (λ t. PromisesRowsOf c.args.batch.now.rows.now c.args.pool.now.source t.promise.rows.now t.promise.caller.value) c.in-Some.thread _ all;
       sources = all-pushed (λ (k : CallerView). k.source ≡ c.args.pool.now.source) _ _ _ items at.invariant.sources (back.same.source ∙ from.from);
       numbers = sym (numbers-moved (λ (k : CallerView). k.number) (λ t. t.promise.caller.value.number) _ _ _ _ _ _ items step.0 back.same.number) ∙ at.invariant.numbers;
-      told = on_ok _ _ at.outcome (λ told. all-pushed (λ (k : CallerView). plans_on_receipts k ≡ plans_of c.args.batch.now.rows.now k.number) _ _ _ items told own) at.invariant.told;
-      started = at.invariant.started;
+      told = λ none.
+          let apart = or_parts at.out_of_memory _ none in
+          all-pushed (λ (k : CallerView). plans_on_receipts k ≡ plans_of c.args.batch.now.rows.now k.number) _ _ _ items (at.invariant.told apart.0) (fine (sym c.is_err-out_of_memory.ensures.value ∙ apart.1));
     }
 
 pub returns-clause-numbers : goal.returns-clause-numbers
 returns-clause-numbers g c =
     let at = c.loop-thread in
-    let empty : into_iter_items at.thread-iterator ≡ [] = nothing_left _ (sym at.invariant.left ∙ c.in-None.ensures.steps.0) in
+    let empty : into_iter_items at.thread-iterator ≡ [] = nil_from_length _ (sym at.invariant.left ∙ c.in-None.ensures.steps.0) in
     let numbers = subst (λ ts. map (λ (k : CallerView). k.number) at.sent.items ++ map (λ t. t.promise.caller.value.number) ts ≡ map (λ t. t.promise.caller.value.number) (into_iter_items c.into_iter-thread-iterator.result)) empty at.invariant.numbers in
-    sym (append-nil _) ∙ numbers ∙ subst (λ o. OnOk o (map (λ t. t.promise.caller.value.number) (into_iter_items c.into_iter-thread-iterator.result) ≡ map (λ (k : CallerView). k.number) c.args.callers.items)) c.in_ok-outcome.was at.invariant.started
+    let from : into_iter_items c.into_iter-thread-iterator.result ≡ c.start_callers-threads.result.0.items = search rules in
+    sym (append-nil _) ∙ numbers ∙ (ap (map (λ t. t.promise.caller.value.number)) from
+    ∙ subst (λ o. OnOk o (map (λ t. t.promise.caller.value.number) c.start_callers-threads.result.0.items ≡ map (λ (k : CallerView). k.number) c.args.callers.items)) c.in_ok-started.was c.start_callers-threads.ensures.numbers)

@@ -1,6 +1,6 @@
 -- The callers so far are back, and each has been told of its rows.
-use Rattle.std.proofs.Common.{◌≡◌, ◌+◌, ◌++◌, length, map, vec_capacity}
-use Rattle.std.specs.Prelude.{All, OnOk}
+use Rattle.std.proofs.Common.{◌≡◌, ◌+◌, ◌++◌, false, length, map, vec_capacity}
+use Rattle.std.specs.Prelude.{All}
 use Rattle.std.specs.Vec.Iter.{into_iter_items, into_iter_len}
 use Rattle.resil_workers.specs.Batch.Submit.{ReceiptsMatchRows}
 use Rattle.resil_workers.specs.Batch.CallerThreads.{PromisesRowsOf}
@@ -14,6 +14,5 @@ invariant-loop-thread g l = record {
   sending : All (λ t. PromisesRowsOf l.batch.rows.now l.pool.source t.promise.rows.now t.promise.caller.value) (into_iter_items l.thread-iterator);
   sources : All (λ c. c.source ≡ l.pool.source) l.sent.items;
   numbers : map (λ c. c.number) l.sent.items ++ map (λ t. t.promise.caller.value.number) (into_iter_items l.thread-iterator) ≡ map (λ t. t.promise.caller.value.number) (into_iter_items l.initial.thread-iterator);
-  told : OnOk l.outcome (ReceiptsMatchRows l.batch.rows.now l.sent.items);
-  started : OnOk l.outcome (map (λ t. t.promise.caller.value.number) (into_iter_items l.initial.thread-iterator) ≡ map (λ c. c.number) l.fn.callers.items);
+  told : l.out_of_memory ≡ false → ReceiptsMatchRows l.batch.rows.now l.sent.items;
 }

@@ -3,15 +3,15 @@ use Rattle.std.proofs.Common.{◌≡◌, ◌+◌, length, vec_capacity}
 use Rattle.std.specs.Prelude.{All}
 use Rattle.std.specs.Vec.Iter.{into_iter_items, into_iter_len}
 use Rattle.resil_decor.specs.Passes.{AreSplitFrom}
-use Rattle.resil_workers.proofs.batch.worker_threads.split_passes.Given as goal
+use Rattle.resil_workers.proofs.batch.worker_threads.prepare_workers.Given as goal
 
 abbrev pub invariant-loop-worker : goal.invariant-loop-worker
 invariant-loop-worker g l = record {
-  count : length l.ready.items + length (into_iter_items l.worker-iterator) ≡ length l.fn.workers.items;
+  count : length l.each.items + length (into_iter_items l.worker-iterator) ≡ length l.fn.workers.items;
   left : into_iter_len l.worker-iterator ≡ length (into_iter_items l.worker-iterator);
-  room : vec_capacity l.ready ≡ vec_capacity l.initial.ready;
+  room : vec_capacity l.each ≡ vec_capacity l.initial.each;
   sources : All (λ w. w.source ≡ l.pool.source) (into_iter_items l.worker-iterator);
-  given : All (λ one. one.worker.source ≡ l.pool.source) l.ready.items;
+  given : All (λ one. one.worker.source ≡ l.pool.source) l.each.items;
   passes : l.passes ≡ l.initial.passes;
-  split : All (λ one. AreSplitFrom l.initial.passes one.passes) l.ready.items;
+  split : All (λ one. AreSplitFrom l.initial.passes one.passes) l.each.items;
 }
