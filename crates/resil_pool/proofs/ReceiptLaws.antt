@@ -3,8 +3,7 @@ use Rattle.std.proofs.Common.{◌≡◌, ◌<◌, ◌≤◌, ◌+◌, ◌-◌, �
 use Rattle.std.specs.Prelude.{◌↔◌, All}
 use Rattle.std.proofs.lemmas.Option.{same_Some}
 use Rattle.resil_decor.specs.Run.{IsValue}
-use Rattle.std.proofs.Math.ListN.{get_or-map}
-use Rattle.std.proofs.lemmas.List.{length-append, length-map, length-take-le, take-append-drop, drop_more, get_or_at}
+use Rattle.std.proofs.lemmas.List.{length-append, length-map, length-take-le, take-append-drop, drop_more, get_or_at, get_or-map}
 use Rattle.std.proofs.lemmas.List.Elements.{filter-append}
 use Rattle.resil_rule.specs.History.{is_submit_of, submissions, accepted}
 use Rattle.resil_admission.specs.MachineView.{MachineView, AreResultsOf, ids_of}
@@ -35,7 +34,7 @@ follows caller receipts told e rest few same =
     let sum = length-append front (e ∷ rest) in
     let all : length (front ++ e ∷ rest) ≡ length receipts = ap length same ∙ length-map receipts (submit_of caller) in record {
       within = omega (arith, place, sum, all);
-      is = λ r. sym (get_or_at front e rest (submit_of caller r) told place) ∙ (ap (λ (es : List Event). get_or es told (submit_of caller r)) same ∙ get_or-map (submit_of caller) receipts told r);
+      is = λ r. sym (get_or_at front e rest (submit_of caller r) told place) ∙ (ap (λ (es : List Event). get_or es told (submit_of caller r)) same ∙ get_or-map (submit_of caller) receipts told r (submit_of caller r) (omega (arith, place, sum, all)));
     }
 
 pub told_next : (caller : ℕ) (history : List Event) (receipts : List Receipt) (i told : ℕ) (d : Event) → i < length history → is_submit_of caller (get_or history i d) ≡ true
@@ -45,9 +44,7 @@ told_next caller history receipts i told d within is so_far few all =
     follows caller receipts told (get_or history i d) rest few (ap (λ (xs : List Event). xs ++ get_or history i d ∷ rest) (sym so_far) ∙ (sym (passes_at (is_submit_of caller) history i d within is) ∙ all))
 
 pub at_mapped : {A : Type 0} (f : A → List Receipt) (xs : List A) (place : ℕ) (x : A) → place < length xs → x ≡ get_or xs place x → get_or (map f xs) place [] ≡ f x
-at_mapped f [] place x within is = absurd (omega arith)
-at_mapped f (y ∷ ys) zero x within is = ap f (sym is)
-at_mapped f (y ∷ ys) (suc place) x within is = at_mapped f ys place x (omega arith) is
+at_mapped f xs place x within is = get_or-map f xs place x [] within ∙ ap f (sym is)
 
 -- where all agree, one does
 pub agrees_at : {A : Type 0} (f : A → List Receipt) (history : List Event) (xs : List A) (place : ℕ) (x : A) (own : List Receipt) → place < length xs → x ≡ get_or xs place x → own ≡ f x

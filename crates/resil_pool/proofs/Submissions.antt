@@ -19,14 +19,14 @@ use Rattle.resil_pool.specs.declared.lock.logged_event.Note.TheVariants as note
 use Rattle.resil_pool.specs.declared.lock.opening.Opening.{Opening}
 use Rattle.resil_pool.specs.declared.receipt.Receipt.{Receipt}
 use Rattle.resil_pool.specs.Lock.LoggedEvent.{log_event, event_of, events_in, closer_number, is_own_event, is_own_note, own_in, SeesMore, SeesOwn}
-use Rattle.resil_pool.specs.Lock.Protocol.{LockSeatState, MayHaveWritten}
+use Rattle.resil_pool.specs.Lock.Protocol.{View, LockSeatState, MayHaveWritten}
 use Rattle.resil_pool.specs.Lock.Turn.{IsMoved}
 use Rattle.resil_pool.specs.Resize.{SeesResize}
 use Rattle.resil_pool.specs.Submit.{AnswersSubmission}
 use Rattle.resil_pool.proofs.Logs.{own_in-append}
 use Rattle.resil_pool.specs.Parts.{CallerView, caller_view, submission_id, submit_of, submission_of, IsCaller}
 use Rattle.resil_pool.proofs.MachineCalls.{submission-step}
-use Rattle.resil_pool.proofs.TurnLaws.{HasTurn, MayHave, Turned, ends-none, saw, home-now, rests-now, number-now, key-now, rank-now, sees-more, sees-own, wrote-none, wrote-one}
+use Rattle.resil_pool.proofs.TurnLaws.{HasTurn, MayHave, Turned, ends-none, saw, home-now, view-now, rests-now, key-now, sees-more, sees-own, wrote-none, wrote-one}
 
 -- a caller's seat isn't the closer's
 pub is_not_closer : (me : LockSeatState) (number : ℕ) (receipts : List Receipt) → IsCaller me number receipts → me.0.number ≢ closer_number
@@ -52,8 +52,8 @@ module _ {old : LockSeatState} {m : MachineView} {entries : List LoggedEvent} {m
   caller-now : (now : List Receipt) → IsLegal old.0.key.limits (events_in new.0.seen) → own_in old.0.number new.0.seen ≡ map (submission_of number) now → IsCaller new number now
   caller-now now legal own = record {
     rest = rests-now t;
-    member = rank-now t ∙ is.member;
-    numbered = number-now t ∙ is.numbered;
+    member = ap (λ (v : View). v.rank) (view-now t) ∙ is.member;
+    numbered = ap (λ (v : View). v.number) (view-now t) ∙ is.numbered;
     not_closer = is.not_closer;
     within = subst (λ (key : Opening). number ≤ key.callers) (sym (key-now t)) is.within;
     legal = subst (λ (key : Opening). IsLegal key.limits (events_in new.0.seen)) (sym (key-now t)) legal;

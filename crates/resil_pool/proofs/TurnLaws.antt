@@ -211,26 +211,20 @@ may-close old entries fits first closes = either (MayHave old) (ends-none old []
 
 -- what a turn showed its seat
 module _ {old : LockSeatState} {m : MachineView} {entries : List LoggedEvent} {m' : MachineView} {new : LockSeatState} (t : Turned old m entries m' new) where
-  now : new.0 ≡ left_view (holder_view old.0 t.me.0.seen) entries
-  now = t.left ∙ ap (λ (v : View). left_view v entries) t.acted.took.view
+  pub view-now : new.0 ≡ left_view (holder_view old.0 t.me.0.seen) entries
+  view-now = t.left ∙ ap (λ (v : View). left_view v entries) t.acted.took.view
 
   pub saw : new.0.seen ≡ t.me.0.seen ++ entries
-  saw = ap (λ (v : View). v.seen) now
+  saw = ap (λ (v : View). v.seen) view-now
 
   pub own-now : new.0.own ≡ old.0.own ++ entries
-  own-now = ap (λ (v : View). v.own) now
+  own-now = ap (λ (v : View). v.own) view-now
 
   pub key-now : new.0.key ≡ old.0.key
-  key-now = ap (λ (v : View). v.key) now
-
-  pub number-now : new.0.number ≡ old.0.number
-  number-now = ap (λ (v : View). v.number) now
-
-  pub rank-now : new.0.rank ≡ old.0.rank
-  rank-now = ap (λ (v : View). v.rank) now
+  key-now = ap (λ (v : View). v.key) view-now
 
   pub rests-now : IsResting new
-  rests-now = record { idle = ap (λ (v : View). v.phase) now; no_slot = t.slot }
+  rests-now = record { idle = ap (λ (v : View). v.phase) view-now; no_slot = t.slot }
 
   -- the machine that was left stands for what the seat has seen now
   pub home-now : IsMachineOf old.0.key new.0.seen m'
@@ -302,7 +296,7 @@ closing-more limits old new seen = ⊎_elim
 pub closer-stays : {old : LockSeatState} {m : MachineView} {entries : List LoggedEvent} {m' : MachineView} {new : LockSeatState} → Turned old m entries m' new → IsCloser old → IsCloser new
 closer-stays {new = new} t is = record {
   rest = rests-now t;
-  first = number-now t ∙ is.first;
+  first = ap (λ (v : View). v.number) (view-now t) ∙ is.first;
   legal = subst (λ (key : Opening). IsLegal key.limits (events_in new.0.seen)) (sym (key-now t)) (home-now t).legal;
 }
 

@@ -63,12 +63,6 @@ returns-clause-ran g c =
     let ran = c.run_remaining.ensures.ran in
     ran_where_ok g.P.Permitter.AnsweredBetween _ _ _ _ ran.0 (λ r. r.history.items) (λ r. r.results.items) c.into_report.result ran.1 c.run_remaining.ensures.ran_on.begins c.into_report.ensures.history c.into_report.ensures.results
 
-pub returns-then-has_refused-clause-none_refused : goal.returns-then-has_refused-clause-none_refused
-returns-then-has_refused-clause-none_refused g c _ = absurd (c.has_refused.ensures.none (c.if-has_refused.ensures.any.0 refl))
-
-pub returns-then-has_refused-clause-ended : goal.returns-then-has_refused-clause-ended
-returns-then-has_refused-clause-ended g c _ = absurd (c.has_refused.ensures.none (c.if-has_refused.ensures.any.0 refl))
-
 pub returns-clause-none_refused : goal.returns-clause-none_refused
 returns-clause-none_refused g c _ =
     let took = has-turn c.closer.inside.seat.me (c.into_inner-inner.ensures ∙ c.state.view_is) c.take-state.ensures in
