@@ -1,5 +1,5 @@
 -- The threads of a run: lists that grow by one from an iterator, and what comes back from the callers' threads.
-use Rattle.std.proofs.Common.{◌≡◌, ℕ, true, false, List, [], ◌∷◌, ◌++◌, ◌∙◌, length, map, refl, sym, ap, subst, arith, append_assoc, Result, Ok, Err, OnOk}
+use Rattle.std.proofs.Common.{◌≡◌, ◌+◌, ℕ, true, false, List, [], ◌∷◌, ◌++◌, ◌∙◌, length, map, refl, sym, ap, subst, arith, append_assoc, length-append, Result, Ok, Err, OnOk}
 use Rattle.std.proofs.lemmas.List.{map-append}
 use Rattle.std.specs.Prelude.{All, is_err}
 use Rattle.std.proofs.lemmas.List.Elements.{All-push, All-same}
@@ -11,6 +11,16 @@ use Rattle.resil_pool.specs.Lock.Turn.{PoolId}
 use Rattle.resil_pool.specs.Parts.{CallerView}
 use Rattle.resil_workers.specs.Batch.Submit.{plans_of, plans_on_receipts}
 use Rattle.resil_workers.specs.Batch.CallerThreads.{HasSubmitted, PromisesRowsOf}
+
+-- a list has one for each that came of an iterator, which still has the others
+pub record HasOneForEach {X Y : Type 0} (left : List X) (len : ℕ) (made : List Y) (all : ℕ) : Type 0 where
+  pub count : length made + length left ≡ all
+  pub len_is : len ≡ length left
+
+pub one-more : {X Y : Type 0} (left rest : List X) (x : X) (len now all : ℕ) (made more : List Y) (y : Y) → HasOneForEach left len made all → left ≡ x ∷ rest → now + 1 ≡ len → more ≡ made ++ y ∷ [] → HasOneForEach rest now more all
+one-more left rest x len now all made more y so_far from fewer is =
+    let lost : length left ≡ length (x ∷ rest) = ap length from in
+    let gained : length more ≡ length made + 1 = ap length is ∙ length-append made (y ∷ []) in record { count = omega (arith, so_far.count); len_is = omega (arith, so_far.len_is) }
 
 -- one more of which it holds was pushed
 pub all-pushed : {X : Type 0} (P : X → Type 0) (xs : List X) (x : X) (more : List X) → more ≡ xs ++ x ∷ [] → All P xs → P x → All P more

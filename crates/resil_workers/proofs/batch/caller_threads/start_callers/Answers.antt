@@ -5,22 +5,18 @@ use Rattle.std.specs.Vec.Iter.{into_iter_items, into_iter_len}
 use Rattle.std.proofs.lemmas.List.Elements.{All-head, All-tail}
 use Rattle.resil_pool.specs.Parts.{CallerView}
 use Rattle.resil_workers.specs.Batch.CallerThreads.{HasSubmitted, PromisesRowsOf}
-use Rattle.resil_workers.proofs.ThreadLaws.{all-pushed, numbers-moved}
+use Rattle.resil_workers.proofs.ThreadLaws.{all-pushed, numbers-moved, one-more}
 use Rattle.resil_workers.proofs.batch.caller_threads.start_callers.Goals as goal
 
 pub loop-caller-preserved : goal.loop-caller-preserved
 loop-caller-preserved g c =
     let at = c.loop-caller in
     let step = c.in-Some.ensures.steps in
-    let fewer : length (into_iter_items at.caller-iterator) ≡ length (c.in-Some.caller ∷ into_iter_items c.next.new.self) = ap length step.0 in
-    let len : into_iter_len c.next.new.self + 1 ≡ into_iter_len at.caller-iterator = step.1 in
-    let more : length c.push_reserved.new.self.items ≡ length at.threads.items + 1 = ap length c.push_reserved.ensures.items ∙ length-append _ _ in
     let all = subst (λ callers. All (λ k. (k.source ≡ c.args.pool.now.source) × (k.receipts ≡ [])) callers) step.0 at.invariant.callers in
     let promise = c.in-Ok.ensures.ok in
     let mine : c.in-Ok.thread.promise.caller.value ≡ c.in-Some.caller = ap (λ p. p.caller.value) promise ∙ c.of.ensures in
     let own = All-head (λ k. (k.source ≡ c.args.pool.now.source) × (k.receipts ≡ [])) c.in-Some.caller _ all in record {
-      count = omega (arith, at.invariant.count);
-      left = omega (arith, at.invariant.left);
+      each = one-more _ _ _ _ _ _ _ _ _ at.invariant.each step.0 step.1 c.push_reserved.ensures.items;
       room = c.push_reserved.ensures.capacity ∙ at.invariant.room;
       callers = All-tail (λ k. (k.source ≡ c.args.pool.now.source) × (k.receipts ≡ [])) c.in-Some.caller _ all;
       sending = all-pushed (λ t. PromisesRowsOf c.args.batch.now.rows.now c.args.pool.now.source t.promise.rows.now t.promise.caller.value) _ _ _ c.push_reserved.ensures.items at.invariant.sending (record { same = ap (λ p. p.rows.now) promise; from = ap (λ (k : CallerView). k.source) mine ∙ own.0; new = ap (λ (k : CallerView). k.receipts) mine ∙ own.1 });

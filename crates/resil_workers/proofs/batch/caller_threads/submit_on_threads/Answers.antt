@@ -8,23 +8,19 @@ use Rattle.std.proofs.lemmas.List.Elements.{All-head, All-tail}
 use Rattle.resil_pool.specs.Parts.{CallerView}
 use Rattle.resil_workers.specs.Batch.Submit.{plans_of, plans_on_receipts}
 use Rattle.resil_workers.specs.Batch.CallerThreads.{PromisesRowsOf}
-use Rattle.resil_workers.proofs.ThreadLaws.{all-pushed, numbers-moved, told-own}
+use Rattle.resil_workers.proofs.ThreadLaws.{all-pushed, numbers-moved, told-own, one-more}
 use Rattle.resil_workers.proofs.batch.caller_threads.submit_on_threads.Goals as goal
 
 pub loop-thread-preserved : goal.loop-thread-preserved
 loop-thread-preserved g c =
     let at = c.loop-thread in
     let step = c.in-Some.ensures.steps in
-    let fewer : length (into_iter_items at.thread-iterator) ≡ length (c.in-Some.thread ∷ into_iter_items c.next.new.self) = ap length step.0 in
-    let len : into_iter_len c.next.new.self + 1 ≡ into_iter_len at.thread-iterator = step.1 in
     let items = c.push_reserved.ensures.items in
-    let more : length c.push_reserved.new.self.items ≡ length at.sent.items + 1 = ap length items ∙ length-append _ _ in
     let all = subst (λ threads. All (λ t. PromisesRowsOf c.args.batch.now.rows.now c.args.pool.now.source t.promise.rows.now t.promise.caller.value) threads) step.0 at.invariant.sending in
     let from = All-head (λ t. PromisesRowsOf c.args.batch.now.rows.now c.args.pool.now.source t.promise.rows.now t.promise.caller.value) c.in-Some.thread _ all in
     let back = c.join-caller.ensures in
     let fine = told-own _ _ _ _ c.join-caller.result from back in record {
-      count = omega (arith, at.invariant.count);
-      left = omega (arith, at.invariant.left);
+      each = one-more _ _ _ _ _ _ _ _ _ at.invariant.each step.0 step.1 c.push_reserved.ensures.items;
       room = c.push_reserved.ensures.capacity ∙ at.invariant.room;
       sending = All-tail (λ t. PromisesRowsOf c.args.batch.now.rows.now c.args.pool.now.source t.promise.rows.now t.promise.caller.value) c.in-Some.thread _ all;
       sources = all-pushed (λ (k : CallerView). k.source ≡ c.args.pool.now.source) _ _ _ items at.invariant.sources (back.same.source ∙ from.from);
@@ -37,7 +33,7 @@ loop-thread-preserved g c =
 pub returns-clause-numbers : goal.returns-clause-numbers
 returns-clause-numbers g c =
     let at = c.loop-thread in
-    let empty : into_iter_items at.thread-iterator ≡ [] = nil_from_length _ (sym at.invariant.left ∙ c.in-None.ensures.steps.0) in
+    let empty : into_iter_items at.thread-iterator ≡ [] = nil_from_length _ (sym at.invariant.each.len_is ∙ c.in-None.ensures.steps.0) in
     let numbers = subst (λ ts. map (λ (k : CallerView). k.number) at.sent.items ++ map (λ t. t.promise.caller.value.number) ts ≡ map (λ t. t.promise.caller.value.number) (into_iter_items c.into_iter-thread-iterator.result)) empty at.invariant.numbers in
     let from : into_iter_items c.into_iter-thread-iterator.result ≡ c.start_callers-threads.result.0.items = search rules in
     sym (append-nil _) ∙ numbers ∙ (ap (map (λ t. t.promise.caller.value.number)) from
