@@ -1,7 +1,7 @@
 -- One more caller is back.
-use Rattle.std.proofs.Common.{rules, ◌≡◌, ◌+◌, [], ◌∷◌, ◌++◌, ◌∙◌, length, map, sym, ap, subst, arith, length-append, append-nil, OnOk}
+use Rattle.std.proofs.Common.{rules, ◌≡◌, [], ◌++◌, ◌∙◌, map, sym, ap, subst, append-nil, OnOk}
 use Rattle.std.specs.Prelude.{All}
-use Rattle.std.specs.Vec.Iter.{into_iter_items, into_iter_len}
+use Rattle.std.specs.Vec.Iter.{into_iter_items}
 use Rattle.std.proofs.lemmas.List.{nil_from_length}
 use Rattle.std.proofs.lemmas.Bool.{or_parts}
 use Rattle.std.proofs.lemmas.List.Elements.{All-head, All-tail}

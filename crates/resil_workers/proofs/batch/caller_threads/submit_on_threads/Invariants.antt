@@ -1,5 +1,5 @@
 -- The callers so far are back, and each has been told of its rows.
-use Rattle.std.proofs.Common.{◌≡◌, ◌+◌, ◌++◌, false, length, map, vec_capacity}
+use Rattle.std.proofs.Common.{◌≡◌, ◌++◌, false, length, map, vec_capacity}
 use Rattle.std.specs.Prelude.{All}
 use Rattle.std.specs.Vec.Iter.{into_iter_items, into_iter_len}
 use Rattle.resil_workers.specs.Batch.Submit.{ReceiptsMatchRows}

@@ -1,5 +1,5 @@
 -- What the closer saw at the closing it has seen after the work.
-use Rattle.std.proofs.Common.{subst, sym}
+use Rattle.std.proofs.Common.{subst}
 use Rattle.std.specs.Bool.{OnTrue}
 use Rattle.resil_pool.specs.Lock.LoggedEvent.{events_in}
 use Rattle.resil_pool.specs.Hold.{BeginsWithRows}

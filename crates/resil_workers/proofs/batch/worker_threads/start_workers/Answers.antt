@@ -1,9 +1,8 @@
 -- One more worker has a thread.
-use Rattle.std.proofs.Common.{◌≡◌, ◌+◌, [], ◌∷◌, ◌∙◌, length, sym, ap, subst, arith, append-nil, length-append}
+use Rattle.std.proofs.Common.{◌≡◌, [], ◌∙◌, sym, subst, append-nil}
 use mathlib.Core.List.{IsPrefix}
 use Rattle.resil_pool.specs.Parts.{SeatView}
 use Rattle.std.specs.Prelude.{All}
-use Rattle.std.specs.Vec.Iter.{into_iter_items, into_iter_len}
 use Rattle.std.proofs.lemmas.List.Elements.{All-tail}
 use Rattle.resil_workers.proofs.ThreadLaws.{one-more}
 use Rattle.resil_workers.proofs.batch.worker_threads.start_workers.Goals as goal

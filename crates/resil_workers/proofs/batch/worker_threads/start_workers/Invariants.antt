@@ -1,5 +1,5 @@
 -- A thread for each worker so far.
-use Rattle.std.proofs.Common.{◌≡◌, ◌+◌, length, vec_capacity}
+use Rattle.std.proofs.Common.{◌≡◌, length, vec_capacity}
 use Rattle.std.specs.Prelude.{All}
 use Rattle.std.specs.Vec.Iter.{into_iter_items, into_iter_len}
 use Rattle.resil_workers.proofs.ThreadLaws.{HasOneForEach}
