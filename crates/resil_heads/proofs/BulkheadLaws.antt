@@ -1,9 +1,8 @@
 -- Laws of the bulkheads of a head.
 use Rattle.std.proofs.Common.{◌≡◌, ◌≢◌, ◌≤◌, ◌∙◌, ◌∷◌, ◌++◌, ◌&&◌, ℕ, zero, suc, Bool, true, false, List, [], Option, Some, None, IfSome, IfNone, is_ok, Result, Ok, Err, length, map, nat_le, string_bytes, append_assoc, refl, sym, ap, arith, inl, inr}
-use Rattle.std.proofs.lemmas.Bool.{and_from, and_parts, cases_Bool, false≢true}
-use Rattle.std.proofs.lemmas.Bool.Decides.{leb_tells}
+use Rattle.std.proofs.lemmas.Bool.{and_from, and_parts, cases_Bool, false≢true, le-leb, leb-true}
 use Rattle.std.proofs.lemmas.Grind.{common_steps}
-use Rattle.std.proofs.lemmas.List.Sums.{AllPass-from_list_all}
+use Rattle.std.proofs.lemmas.List.Sums.{AllPass-from_list_all, list_all-from_AllPass}
 use Rattle.std.specs.Cmp.Lexicographic.{bytes_decides}
 use Rattle.std.specs.List.{AllPass, list_all}
 use Rattle.toml.specs.View.{members_view, view}
@@ -27,37 +26,16 @@ use Rattle.resil_heads.proofs.LayerLaws.{after, after-none, each-map}
 
 -- ---- Names.
 
-at_most : (a b : ℕ) → a ≤ b → nat_le a b ≡ true
-at_most a b few =
-    elim (leb_tells a b) [
-      | inl is ↦ is.0
-      | inr more ↦ absurd (omega (arith, more.1))
-    ]
-
-at_most-from : (a b : ℕ) → nat_le a b ≡ true → a ≤ b
-at_most-from a b is =
-    elim (leb_tells a b) [
-      | inl few ↦ few.1
-      | inr more ↦ absurd (false≢true (sym more.0 ∙ is))
-    ]
-
-all-pass : (test : ℕ → Bool) (xs : List ℕ) → AllPass test xs → list_all test xs ≡ true
-all-pass test [] all = refl
-all-pass test (x ∷ xs) all = and_from _ _ (all zero x (omega arith)) (all-pass test xs (λ k d lt. all (suc k) d (omega arith)))
-
 -- a name has the bytes of one
 pub good-name : (name : List ℕ) → IsName name → is_good_name name ≡ true
-good-name name good = and_from _ _ (and_from _ _ (at_most 1 (length name) good.some) (at_most (length name) 64 good.few)) (all-pass is_name_byte name good.plain)
+good-name name good =
+    and_from _ _ (and_from _ _ (le-leb 1 (length name) good.some) (le-leb (length name) 64 good.few)) (list_all-from_AllPass is_name_byte name good.plain)
 
 name-from : (name : List ℕ) → is_good_name name ≡ true → IsName name
 name-from name is =
     let parts = and_parts (nat_le 1 (length name) && nat_le (length name) 64) (list_all is_name_byte name) is in
     let size = and_parts (nat_le 1 (length name)) (nat_le (length name) 64) parts.0 in
-    record {
-      some = at_most-from 1 (length name) size.0;
-      few = at_most-from (length name) 64 size.1;
-      plain = AllPass-from_list_all is_name_byte name parts.1;
-    }
+    record { some = leb-true _ _ size.0; few = leb-true _ _ size.1; plain = AllPass-from_list_all is_name_byte name parts.1 }
 
 -- and another text has not
 pub bad-name : (name : List ℕ) → ¬ IsName name → is_good_name name ≡ false

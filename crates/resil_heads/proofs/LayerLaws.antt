@@ -1,11 +1,11 @@
 -- Laws of reading one element after another.
-use Rattle.std.proofs.Common.{◌≡◌, ◌≢◌, ◌<◌, ◌+◌, ◌∙◌, ◌∷◌, ◌++◌, ℕ, List, [], Some, Result, Ok, Err, length, get_or, drop, map, refl, sym, ap, subst, append_assoc}
+use Rattle.std.proofs.Common.{◌≡◌, ◌≢◌, ◌<◌, ◌+◌, ◌∙◌, ◌∷◌, ◌++◌, ℕ, List, [], Some, Result, Ok, Err, length, get_or, drop, map, refl, sym, ap, append_assoc}
 use Rattle.std.proofs.lemmas.List.{drop_more}
 use Rattle.std.specs.Option.{ok_or}
 use Rattle.toml.specs.Data.{Data, Members, as_array}
 use Rattle.toml.specs.View.{items_of, items_view, view}
 use Rattle.toml.specs.declared.value.Value.{Value}
-use Rattle.resil_heads.specs.Checks.{GivesBy, and_then}
+use Rattle.resil_heads.specs.Checks.{and_then}
 use Rattle.resil_heads.specs.Keys.{each, fraction_from, items_listed}
 use Rattle.resil_heads.specs.LayerValues.{check_layer, check_layers}
 use Rattle.resil_heads.specs.declared.layers.values.Stage.{Stage}
@@ -48,15 +48,11 @@ pub items_listed-of : (ds : List Data) → items_listed (items_of ds) ≡ ds
 items_listed-of [] = refl
 items_listed-of (d ∷ ds) = ap (λ rest. d ∷ rest) (items_listed-of ds)
 
--- an array is read item by item
-pub array-said : {C : Type 0} (read : Data → Result C HeadError) (vs : List Value) (d : Data) → Some (items_view vs) ≡ as_array d
-    → and_then (ok_or (as_array d) error.BadValue) (λ items. each read (items_listed items)) ≡ each read (map view vs)
-array-said read vs d is = rw (← is) (ap (each read) (items_listed-of (map view vs)))
-
--- a result that agrees with a definition agrees with an equal one
-pub gives-along : {T A : Type 0} (seen : T → A) (result : Result T HeadError) (said other : Result A HeadError) → said ≡ other
-    → GivesBy seen result said → GivesBy seen result other
-gives-along seen result said other same given = subst (λ s. GivesBy seen result s) same given
+-- before the first item of an array
+pub array-init : {C : Type 0} (read : Data → Result C HeadError) (items vs : List Value) (d : Data) (prefix : List C) → prefix ≡ [] → items ≡ vs → Some (items_view vs) ≡ as_array d
+    → after prefix (each (λ v. read (view v)) items) ≡ and_then (ok_or (as_array d) error.BadValue) (λ items. each read (items_listed items))
+array-init read items vs d prefix none same is =
+    rw (← is, same) (each-init read view vs prefix none ∙ ap (each read) (sym (items_listed-of (map view vs))))
 
 -- a fraction has two items
 pub fraction_from-other : (vs : List Value) → length vs ≢ 2 → fraction_from (items_view vs) ≡ Err error.BadValue

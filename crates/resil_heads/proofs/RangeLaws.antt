@@ -52,18 +52,8 @@ passed : {A : Type 0} (P : A → Type 0) (fails : Bool) (why : HeadError) (r : R
 passed P true why r h = tt
 passed P false why r h = h refl
 
-not-false : (b : Bool) → not b ≡ false → b ≡ true
-not-false true h = refl
-not-false false h = absurd (false≢true (sym h))
-
-at_most : (a b : ℕ) → nat_le a b ≡ true → a ≤ b
-at_most a b h = grind (arith, nat_tests, h)
-
 not_above : (a b : ℕ) → nat_lt a b ≡ false → b ≤ a
 not_above a b h = grind (arith, nat_tests, h)
-
-not_zero : (a : ℕ) → a == 0 ≡ false → 1 ≤ a
-not_zero a h = grind (arith, nat_tests, h)
 
 each-ok : {A B : Type 0} (P : B → Type 0) (read : A → Result B HeadError) → ((x : A) → IfOk (read x) P) → (xs : List A) → IfOk (each read xs) (All P)
 each-ok P read h [] = All-nil P
@@ -78,34 +68,12 @@ gives-ok P (Err why) said given h = tt
 
 -- ---- Retries.
 
--- what a test lets through, where the error is the last case
-tested : {A : Type 0} (P : A → Type 0) (holds : Bool) (why : HeadError) (r : Result A HeadError) → (holds ≡ true → IfOk r P) → IfOk (cond holds r (Err why)) P
-tested P true why r h = h refl
-tested P false why r h = tt
-
 interval-allowed : (said : IntervalSpec) → IfOk (build_interval said) IsBackoff
-interval-allowed (Fixed ms) = tested IsBackoff (nat_le ms interval_limit) _ _ (λ h. at_most ms interval_limit h)
-interval-allowed (Exponential initial numerator denominator most_ms) =
-    passed IsBackoff _ _ _ (λ long.
-    let waits = and_parts (nat_le initial interval_limit) (nat_le most_ms interval_limit) (not-false _ long) in
-    passed IsBackoff _ _ _ (λ bad.
-    let most = and_parts (nat_le 1 denominator && nat_le denominator numerator) (nat_le numerator 1000) (not-false _ bad) in
-    let least = and_parts (nat_le 1 denominator) (nat_le denominator numerator) most.0 in
-    passed IsBackoff _ _ _ (λ below.
-    let allowed : IsBackoff (interval.Exponential initial numerator denominator most_ms) = (
-      (at_most 1 denominator least.0, at_most denominator numerator least.1, at_most numerator 1000 most.1),
-      not_above most_ms initial below,
-      at_most most_ms interval_limit waits.1,
-    ) in
-    allowed)))
+interval-allowed (Fixed ms) = grind (arith, nat_tests)
+interval-allowed (Exponential initial numerator denominator most_ms) = grind (arith, nat_tests)
 
 attempts-allowed : (said : RetrySpec) (waits : Backoff) → IsBackoff waits → IfOk (build_settings said waits) IsRetryInRange
-attempts-allowed said waits allowed =
-    passed IsRetryInRange _ _ _ (λ some.
-    passed IsRetryInRange _ _ _ (λ few.
-    let all : IsBackoff waits × (1 ≤ said.attempts) × (said.attempts ≤ attempt_limit) =
-    (allowed, not_zero said.attempts some, not_above attempt_limit said.attempts few) in
-    all))
+attempts-allowed said waits allowed = grind (arith, nat_tests, allowed)
 
 retry-allowed : (said : RetrySpec) → IfOk (build_retry said) IsRetryInRange
 retry-allowed said = then-ok IsBackoff IsRetryInRange (build_interval said.interval) (build_settings said) (interval-allowed said.interval) (attempts-allowed said)
@@ -150,11 +118,7 @@ obtained-ok : (lists : RegistryView ℕ) (name config : List ℕ) → IfOk (obta
 obtained-ok lists name config = passed (IsObtained lists) _ _ _ (λ good. obtained-with-ok lists name config (instance_id lists name) refl)
 
 layer_id-most : (id : ℕ) → layer_id id ≤ id
-layer_id-most id =
-    elim (cases_Bool (nat_lt id (2 ^ 16))) [
-      | inl few ↦ rw few (omega arith)
-      | inr many ↦ rw many (omega (arith, not_above id (2 ^ 16) many))
-    ]
+layer_id-most id = grind (arith, nat_tests)
 
 -- ---- Layers.
 
@@ -217,7 +181,7 @@ abbrev pub HasPermits : ConfigSpec → Type 0
 HasPermits said = said.permits < 2 ^ 16
 
 permits-ok : (z : ℤ) → IfOk (number_below (2 ^ 16) z) (λ permits. permits < 2 ^ 16)
-permits-ok (pos n) = tested (λ permits. permits < 2 ^ 16) (nat_lt n (2 ^ 16)) _ _ (λ h. grind (arith, nat_tests, h))
+permits-ok (pos n) = grind (arith, nat_tests)
 permits-ok (negsuc n) = tt
 
 configuration-ok : (entry : List ℕ × Data) → IfOk (parse_config entry) HasPermits

@@ -34,13 +34,8 @@ pub fn read_document(alloc: Global, bytes: &[u8]) -> Result<Table, HeadError>
     };
     match toml::table_from_str(alloc, text) {
         Ok(table) => Ok(table),
-        Err(error) => {
-            if error.is_memory() {
-                Err(HeadError::Memory)
-            } else {
-                Err(HeadError::BadToml)
-            }
-        }
+        Err(error) if error.is_memory() => Err(HeadError::Memory),
+        Err(_) => Err(HeadError::BadToml),
     }
 }
 

@@ -1,6 +1,6 @@
 //! Why a head is refused.
 
-ghost use Rattle.std.specs.Prelude.{◌≡◌, ◌↔◌, IsTrue};
+ghost use Rattle.std.specs.Prelude.{◌≡◌};
 ghost use Rattle.resil_heads.specs.declared.error.HeadError.TheVariants.{Memory};
 
 use resil_admission::AdmitError;
@@ -59,14 +59,5 @@ impl<T: Drop> From<AllocFailed<T>> for HeadError {
 
     fn from(_refused: AllocFailed<T>) -> HeadError {
         HeadError::Memory
-    }
-}
-
-impl HeadError {
-    /// Whether memory ran out.
-    pub(crate) fn is_memory(self) -> bool
-        ensures { IsTrue result ↔ (self ≡ Memory) }
-    {
-        matches!(self, HeadError::Memory)
     }
 }

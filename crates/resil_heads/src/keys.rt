@@ -10,7 +10,7 @@ ghost use Rattle.toml.specs.View.{view, table_view};
 ghost use Rattle.resil_retry.specs.declared.result_test.ResultTest.TheVariants.{Never};
 ghost use Rattle.resil_heads.specs.Checks.{GivesBy};
 ghost use Rattle.resil_input.specs.OutcomeText.{parse_kind};
-ghost use Rattle.resil_heads.specs.Keys.{each, parse_at, parse_named, parse_text, parse_count, parse_integer, parse_wait, parse_flag, parse_fraction, parse_kinds, parse_table, parse_tables, comparison_from_text, result_test_from_name};
+ghost use Rattle.resil_heads.specs.Keys.{parse_at, parse_named, parse_text, parse_count, parse_integer, parse_wait, parse_flag, parse_fraction, parse_kinds, parse_table, parse_tables, comparison_from_text, result_test_from_name};
 
 use crate::error::HeadError;
 use resil_input::outcome_text::{parse_kind, parse_signed};
@@ -60,20 +60,14 @@ pub(crate) fn value_at<'a>(key: &str, table: &'a Table) -> Option<&'a Value>
 pub(crate) fn required<'a>(key: &str, table: &'a Table) -> Result<&'a Value, HeadError>
     ensures { MatchResult result (λ value. get_member key.now (table_view table.now) ≡ Some (view value.now)) (λ why. (why ≡ HeadError.MissingKey) × (get_member key.now (table_view table.now) ≡ None)) }
 {
-    match value_at(key, table) {
-        Some(value) => Ok(value),
-        None => Err(HeadError::MissingKey),
-    }
+    value_at(key, table).ok_or(HeadError::MissingKey)
 }
 
 /// Any text.
 pub(crate) fn parse_text<'a>(value: &'a Value) -> Result<HeadText<'a>, HeadError>
     ensures { result ≡ parse_text (view value.now) }
 {
-    match value.as_str() {
-        Some(text) => Ok(HeadText::new(text)),
-        None => Err(HeadError::BadValue),
-    }
+    value.as_str().map(HeadText::new).ok_or(HeadError::BadValue)
 }
 
 /// The text at a key.
@@ -84,10 +78,7 @@ pub(crate) fn text_at<'a>(
 ) -> Result<HeadText<'a>, HeadError>
     ensures { result ≡ parse_at parse_text default.now key.now (table_view table.now) }
 {
-    match value_at(key, table) {
-        Some(value) => parse_text(value),
-        None => Ok(HeadText::new(default)),
-    }
+    value_at(key, table).map_or(Ok(HeadText::new(default)), parse_text)
 }
 
 /// Any integer of 64 bits.
@@ -101,10 +92,7 @@ pub(crate) fn parse_integer(value: &Value) -> Result<i64, HeadError>
 pub(crate) fn parse_count(value: &Value) -> Result<u32, HeadError>
     ensures { result ≡ parse_count (view value.now) }
 {
-    match u32::try_from(parse_integer(value)?) {
-        Ok(count) => Ok(count),
-        Err(_) => Err(HeadError::BadValue),
-    }
+    u32::try_from(parse_integer(value)?).map_err(|_| HeadError::BadValue)
 }
 
 /// The number at a key, from 0 to 4,294,967,295, or the default where it is absent.
@@ -115,30 +103,21 @@ pub(crate) fn parse_count(value: &Value) -> Result<u32, HeadError>
 pub fn count_at(key: &str, default: u32, table: &Table) -> Result<u32, HeadError>
     ensures { result ≡ parse_at parse_count default key.now (table_view table.now) }
 {
-    match value_at(key, table) {
-        Some(value) => parse_count(value),
-        None => Ok(default),
-    }
+    value_at(key, table).map_or(Ok(default), parse_count)
 }
 
 // An integer from 0 on, in milliseconds.
 fn parse_wait(value: &Value) -> Result<u64, HeadError>
     ensures { result ≡ parse_wait (view value.now) }
 {
-    match u64::try_from(parse_integer(value)?) {
-        Ok(ms) => Ok(ms),
-        Err(_) => Err(HeadError::BadValue),
-    }
+    u64::try_from(parse_integer(value)?).map_err(|_| HeadError::BadValue)
 }
 
 /// The wait at a key, in milliseconds.
 pub(crate) fn wait_at(key: &str, default: u64, table: &Table) -> Result<u64, HeadError>
     ensures { result ≡ parse_at parse_wait default key.now (table_view table.now) }
 {
-    match value_at(key, table) {
-        Some(value) => parse_wait(value),
-        None => Ok(default),
-    }
+    value_at(key, table).map_or(Ok(default), parse_wait)
 }
 
 /// True or false at a key.
@@ -172,41 +151,29 @@ pub(crate) fn fraction_at(
 ) -> Result<(u32, u32), HeadError>
     ensures { result ≡ parse_at parse_fraction default key.now (table_view table.now) }
 {
-    match value_at(key, table) {
-        Some(value) => parse_fraction(value),
-        None => Ok(default),
-    }
+    value_at(key, table).map_or(Ok(default), parse_fraction)
 }
 
 /// A kind of error, by its text.
 pub fn parse_kind_value(value: &Value) -> Result<Kind, HeadError>
     ensures { result ≡ parse_named parse_kind (view value.now) }
 {
-    match value.as_str() {
-        Some(text) => parse_kind(text.as_bytes()).ok_or(HeadError::BadValue),
-        None => Err(HeadError::BadValue),
-    }
+    let kind = value.as_str().and_then(|text| parse_kind(text.as_bytes()));
+    kind.ok_or(HeadError::BadValue)
 }
 
-// The kinds of error in an array.
-fn kinds_in(alloc: Global, items: &[Value]) -> Result<Vec<Kind>, HeadError>
-    ensures { GivesBy (λ kinds. kinds.items) result (each (parse_named parse_kind) (map view items.now)) }
-{
-    let mut kinds = Vec::new(alloc);
-    for item in items {
-        kinds.push(parse_kind_value(item)?)?;
-    }
-    Ok(kinds)
-}
-
-// The kinds of error in a value, where it is an array.
+// The kinds of error in a value, where it is an array of them.
 fn parse_kinds(alloc: Global, value: &Value) -> Result<Vec<Kind>, HeadError>
     ensures { GivesBy (λ kinds. kinds.items) result (parse_kinds (view value.now)) }
 {
-    match value.as_array() {
-        Some(items) => kinds_in(alloc, items),
-        None => Err(HeadError::BadValue),
+    let Some(items) = value.as_array() else {
+        return Err(HeadError::BadValue);
+    };
+    let mut kinds = Vec::new(alloc);
+    for item in items.as_slice() {
+        kinds.push(parse_kind_value(item)?)?;
     }
+    Ok(kinds)
 }
 
 /// The kinds of error at a key, none where it is absent.
@@ -249,51 +216,36 @@ fn result_test_from_name(text: &[u8]) -> Option<ResultTest>
 pub fn parse_result_test(value: &Value) -> Result<ResultTest, HeadError>
     ensures { result ≡ parse_named result_test_from_name (view value.now) }
 {
-    match value.as_str() {
-        Some(text) => result_test_from_name(text.as_bytes()).ok_or(HeadError::BadValue),
-        None => Err(HeadError::BadValue),
-    }
+    let text = value.as_str().ok_or(HeadError::BadValue)?;
+    result_test_from_name(text.as_bytes()).ok_or(HeadError::BadValue)
 }
 
 /// The test of values at a key; where it is absent, no value is retried.
 pub(crate) fn result_test_at(key: &str, table: &Table) -> Result<ResultTest, HeadError>
     ensures { result ≡ parse_at (parse_named result_test_from_name) Never key.now (table_view table.now) }
 {
-    match value_at(key, table) {
-        Some(value) => parse_result_test(value),
-        None => Ok(ResultTest::Never),
-    }
+    value_at(key, table).map_or(Ok(ResultTest::Never), parse_result_test)
 }
 
 /// The table that a value is.
 pub(crate) fn parse_table<'a>(value: &'a Value) -> Result<&'a Table, HeadError>
     ensures { GivesBy (λ table. table_view table.now) result (parse_table (view value.now)) }
 {
-    match value.as_table() {
-        Some(table) => Ok(table),
-        None => Err(HeadError::BadValue),
-    }
+    value.as_table().ok_or(HeadError::BadValue)
 }
 
-// The tables of an array.
-fn tables_in<'a>(alloc: Global, items: &'a [Value]) -> Result<Vec<&'a Table>, HeadError>
-    ensures { GivesBy (λ tables. map (λ table. table_view table.now) tables.items) result (each parse_table (map view items.now)) }
-{
-    let mut tables = Vec::new(alloc);
-    for item in items {
-        tables.push(parse_table(item)?)?;
-    }
-    Ok(tables)
-}
-
-// The tables in a value, where it is an array.
+// The tables in a value, where it is an array of them.
 fn parse_tables<'a>(alloc: Global, value: &'a Value) -> Result<Vec<&'a Table>, HeadError>
     ensures { GivesBy (λ tables. map (λ table. table_view table.now) tables.items) result (parse_tables (view value.now)) }
 {
-    match value.as_array() {
-        Some(items) => tables_in(alloc, items),
-        None => Err(HeadError::BadValue),
+    let Some(items) = value.as_array() else {
+        return Err(HeadError::BadValue);
+    };
+    let mut tables = Vec::new(alloc);
+    for item in items.as_slice() {
+        tables.push(parse_table(item)?)?;
     }
+    Ok(tables)
 }
 
 /// The tables in the array at a key, none where it is absent.

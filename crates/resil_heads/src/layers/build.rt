@@ -84,8 +84,5 @@ pub(super) fn build_layers(
 pub(super) fn chain_from_layers(layers: Vec<Layer>) -> Result<Chain, HeadError>
     ensures { result ≡ chain_from_layers layers.items }
 {
-    match Chain::new(layers) {
-        Ok(chain) => Ok(chain),
-        Err((why, _)) => Err(HeadError::Chain(why)),
-    }
+    Chain::new(layers).map_err(|(why, _)| HeadError::Chain(why))
 }

@@ -37,20 +37,14 @@ pub(crate) struct ConfigSpec<'a> {
 pub(crate) fn permits_in<'a>(head: &'a Table) -> Result<Option<&'a Table>, HeadError>
     ensures { GivesBy (λ permits. option_map_or (λ table. table_view table.now) permits no_members) result (permits_in (table_view head.now)) }
 {
-    match value_at("permits", head) {
-        Some(value) => Ok(Some(parse_table(value)?)),
-        None => Ok(None),
-    }
+    value_at("permits", head).map(parse_table).transpose()
 }
 
 // A number of permits, from 0 to 65,535. Errors: `BadValue`.
 fn parse_permits(value: &Value) -> Result<u16, HeadError>
     ensures { result ≡ parse_permits (view value.now) }
 {
-    match u16::try_from(parse_integer(value)?) {
-        Ok(permits) => Ok(permits),
-        Err(_) => Err(HeadError::BadValue),
-    }
+    u16::try_from(parse_integer(value)?).map_err(|_| HeadError::BadValue)
 }
 
 // The configurations in a table, in byte order of their names. Errors: `BadValue`, `Memory`.
@@ -110,9 +104,8 @@ fn add_configuration(registry: &mut Registry<u16>, said: ConfigSpec) -> Result<(
 pub(crate) fn configured(alloc: Global, said: Vec<ConfigSpec>) -> Result<Registry<u16>, HeadError>
     ensures { Gives result (configured unconfigured said.entry.items) }
 {
-    let mut registry = match Registry::new(alloc, DEFAULT_PERMITS) {
-        Ok(registry) => registry,
-        Err(_) => return Err(HeadError::Memory),
+    let Ok(mut registry) = Registry::new(alloc, DEFAULT_PERMITS) else {
+        return Err(HeadError::Memory);
     };
     for configuration in said {
         add_configuration(&mut registry, configuration)?;

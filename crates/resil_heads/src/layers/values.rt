@@ -193,13 +193,9 @@ fn layer_kind_from_name(text: &str) -> Option<LayerKind>
 fn kind_in(layer: &Table) -> Result<LayerKind, HeadError>
     ensures { result ≡ kind_in (table_view layer.now) }
 {
-    match value_at("kind", layer) {
-        Some(value) => value
-            .as_str()
-            .and_then(layer_kind_from_name)
-            .ok_or(HeadError::BadValue),
-        None => Err(HeadError::MissingKey),
-    }
+    let kind = required("kind", layer)?.as_str();
+    kind.and_then(layer_kind_from_name)
+        .ok_or(HeadError::BadValue)
 }
 
 // The backoff that a text names.
