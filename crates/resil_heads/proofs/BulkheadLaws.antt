@@ -1,10 +1,10 @@
 -- Laws of the bulkheads of a head.
-use Rattle.std.proofs.Common.{◌≡◌, ◌≢◌, ◌≤◌, ◌∙◌, ◌∷◌, ◌++◌, ◌&&◌, ℕ, zero, suc, Bool, true, false, List, [], Option, Some, None, IfSome, IfNone, is_ok, Result, Ok, Err, length, map, nat_le, string_bytes, append_assoc, refl, sym, ap, arith, inl, inr}
+use Rattle.std.proofs.Common.{◌≡◌, ◌≢◌, ◌∙◌, ◌∷◌, ◌++◌, ◌&&◌, ℕ, true, false, List, [], Option, Some, None, IfSome, IfNone, is_ok, Result, Ok, Err, length, map, nat_le, string_bytes, append_assoc, refl, sym, ap, arith, inl, inr}
 use Rattle.std.proofs.lemmas.Bool.{and_from, and_parts, cases_Bool, false≢true, le-leb, leb-true}
 use Rattle.std.proofs.lemmas.Grind.{common_steps}
 use Rattle.std.proofs.lemmas.List.Sums.{AllPass-from_list_all, list_all-from_AllPass}
 use Rattle.std.specs.Cmp.Lexicographic.{bytes_decides}
-use Rattle.std.specs.List.{AllPass, list_all}
+use Rattle.std.specs.List.{list_all}
 use Rattle.toml.specs.View.{members_view, view}
 use Rattle.toml.proofs.Views.{Entry}
 use Rattle.resil_decor.specs.declared.layer.Layer.{Layer}
@@ -12,14 +12,13 @@ use Rattle.resil_registry.specs.Name.{IsName, is_name_byte}
 use Rattle.resil_registry.specs.Registry.{RegistryView, instance_id, with_config, IsConfigError, IsFreeName, IsInstanceError, CreatesInstance, default_name}
 use Rattle.resil_registry.specs.declared.error.RegistryError.{RegistryError}
 use Rattle.resil_registry.specs.declared.error.RegistryError.TheVariants.{ReservedName, NoSuchConfig, NameTaken, BadName, Memory}
-use Rattle.resil_heads.specs.LayerBulkheads.{Obtained, parse_config, configured, is_good_name, obtained, obtained_with, registry_error, with_configuration}
+use Rattle.resil_heads.specs.LayerBulkheads.{Obtained, parse_config, is_good_name, obtained, obtained_with, registry_error, with_configuration}
 use Rattle.resil_heads.specs.ByteOrder.{members_listed}
-use Rattle.resil_heads.specs.LayerBuild.{BuiltLayers, build_layer, build_layers}
+use Rattle.resil_heads.specs.LayerBuild.{BuiltLayers}
 use Rattle.resil_heads.specs.Checks.{and_then}
 use Rattle.resil_heads.specs.Keys.{each}
 use Rattle.resil_input.specs.TextEquality.{is_same}
 use Rattle.resil_heads.specs.declared.layers.bulkheads.ConfigSpec.{ConfigSpec}
-use Rattle.resil_heads.specs.declared.layers.values.LayerSpec.{LayerSpec}
 use Rattle.resil_heads.specs.declared.error.HeadError.{HeadError}
 use Rattle.resil_heads.specs.declared.error.HeadError.TheVariants as error
 use Rattle.resil_heads.proofs.LayerLaws.{after, after-none, each-map}
@@ -85,12 +84,6 @@ configuration-refused lists said NameTaken named h = rw (good-name said.name nam
 configuration-refused lists said Memory free h = absurd (h refl)
 configuration-refused lists said NoSuchConfig never h = absurd never
 
--- a configuration that is added
-pub configured-next : (lists next : RegistryView ℕ) (x : ConfigSpec) (left rest : List ConfigSpec) (all : Result (RegistryView ℕ) HeadError)
-    → left ≡ x ∷ rest → with_configuration lists x ≡ Ok next → configured lists left ≡ all → configured next rest ≡ all
-configured-next lists next x left rest all is added inv =
-    sym (ap (λ (r : Result (RegistryView ℕ) HeadError). and_then r (λ n. configured n rest)) added) ∙ ap (configured lists) (sym is) ∙ inv
-
 -- ---- Bulkheads.
 
 -- an id that a registry answers
@@ -132,17 +125,8 @@ obtained-refused lists name config NameTaken never h = absurd never
 abbrev pub after_layers : List Layer → Result BuiltLayers HeadError → Result BuiltLayers HeadError
 after_layers prefix rest = and_then rest (λ more. Ok (record { layers = prefix ++ more.layers; lists = more.lists }))
 
-after_layers-next : (prefix : List Layer) (y : Layer) (rest : Result BuiltLayers HeadError)
+pub after_layers-next : (prefix : List Layer) (y : Layer) (rest : Result BuiltLayers HeadError)
     → after_layers prefix (and_then rest (λ more. Ok (record { layers = y ∷ more.layers; lists = more.lists }))) ≡ after_layers (prefix ++ y ∷ []) rest
 after_layers-next prefix y (Ok more) =
     ap (λ layers. Ok (record { layers = layers; lists = more.lists })) (sym (append_assoc prefix (y ∷ []) more.layers))
 after_layers-next prefix y (Err why) = refl
-
--- a layer that is allowed
-pub layers-next : (lists next : RegistryView ℕ) (x : LayerSpec) (y : Layer) (left rest : List LayerSpec) (prefix : List Layer) (all : Result BuiltLayers HeadError)
-    → left ≡ x ∷ rest → build_layer lists x ≡ Ok (record { layer = y; lists = next }) → after_layers prefix (build_layers lists left) ≡ all
-    → after_layers (prefix ++ y ∷ []) (build_layers next rest) ≡ all
-layers-next lists next x y left rest prefix all is allowed inv =
-    sym (after_layers-next prefix y (build_layers next rest))
-    ∙ ap (λ r. after_layers prefix (and_then r (λ a. and_then (build_layers a.lists rest) (λ more. Ok (record { layers = a.layer ∷ more.layers; lists = more.lists }))))) (sym allowed)
-    ∙ ap (λ xs. after_layers prefix (build_layers lists xs)) (sym is) ∙ inv

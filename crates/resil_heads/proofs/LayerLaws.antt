@@ -29,14 +29,18 @@ pub each-map : {A B C : Type 0} (read : B → Result C HeadError) (f : A → B) 
 each-map read f [] = refl
 each-map read f (x ∷ xs) = ap (λ rest. and_then (read (f x)) (λ y. and_then rest (λ ys. Ok (y ∷ ys)))) (each-map read f xs)
 
+-- the first of the elements that are left is read
+pub each-turn : {A B : Type 0} (read : A → Result B HeadError) (x : A) (y : B) (left rest : List A) (prefix : List B) (all : Result (List B) HeadError)
+    → left ≡ x ∷ rest → read x ≡ Ok y → after prefix (each read left) ≡ all → after (prefix ++ y ∷ []) (each read rest) ≡ all
+each-turn read x y left rest prefix all is said inv =
+    let read_on = rw (is, said) at inv in
+    sym (after-next prefix y (each read rest)) ∙ read_on
+
 -- an element that is read
 pub each-next : {A B : Type 0} (read : A → Result B HeadError) (xs : List A) (i : ℕ) (x : A) (y : B) (prefix : List B) (all : Result (List B) HeadError)
     → i < length xs → x ≡ get_or xs i x → read x ≡ Ok y → after prefix (each read (drop i xs)) ≡ all → after (prefix ++ y ∷ []) (each read (drop (i + 1) xs)) ≡ all
 each-next read xs i x y prefix all within is said inv =
-    let here : drop i xs ≡ x ∷ drop (i + 1) xs = drop_more xs i x within ∙ ap (λ z. z ∷ drop (i + 1) xs) (sym is) in
-    sym (after-next prefix y (each read (drop (i + 1) xs)))
-    ∙ ap (λ r. after prefix (and_then r (λ z. and_then (each read (drop (i + 1) xs)) (λ ys. Ok (z ∷ ys))))) (sym said)
-    ∙ ap (λ zs. after prefix (each read zs)) (sym here) ∙ inv
+    each-turn read x y (drop i xs) (drop (i + 1) xs) prefix all (drop_more xs i x within ∙ ap (λ z. z ∷ drop (i + 1) xs) (sym is)) said inv
 
 -- before the first element, of a list that is read as it is seen
 pub each-init : {A B C : Type 0} (read : B → Result C HeadError) (f : A → B) (xs : List A) (prefix : List C) → prefix ≡ []
@@ -61,17 +65,9 @@ fraction_from-other (p ∷ []) other = refl
 fraction_from-other (p ∷ q ∷ []) other = absurd (other refl)
 fraction_from-other (p ∷ q ∷ r ∷ rest) other = refl
 
--- the first of the elements that are left is read
-pub each-turn : {A B : Type 0} (read : A → Result B HeadError) (x : A) (y : B) (left rest : List A) (prefix : List B) (all : Result (List B) HeadError)
-    → left ≡ x ∷ rest → read x ≡ Ok y → after prefix (each read left) ≡ all → after (prefix ++ y ∷ []) (each read rest) ≡ all
-each-turn read x y left rest prefix all is said inv =
-    sym (after-next prefix y (each read rest))
-    ∙ ap (λ r. after prefix (and_then r (λ z. and_then (each read rest) (λ ys. Ok (z ∷ ys))))) (sym said)
-    ∙ ap (λ zs. after prefix (each read zs)) (sym is) ∙ inv
-
 -- the first of the layers that are left passes
 pub checks-next : {X : Type 0} (stage : Stage) (f : X → Members) (xs : List X) (i : ℕ) (x : X) (passed : Unit {0}) (all : Result (Unit {0}) HeadError)
     → i < length xs → x ≡ get_or xs i x → check_layer stage (f x) ≡ Ok passed → check_layers stage (map f (drop i xs)) ≡ all → check_layers stage (map f (drop (i + 1) xs)) ≡ all
 checks-next stage f xs i x passed all within is said inv =
     let here : drop i xs ≡ x ∷ drop (i + 1) xs = drop_more xs i x within ∙ ap (λ z. z ∷ drop (i + 1) xs) (sym is) in
-    ap (λ r. and_then r (λ _. check_layers stage (map f (drop (i + 1) xs)))) (sym said) ∙ ap (λ ys. check_layers stage (map f ys)) (sym here) ∙ inv
+    rw (here, said) at inv

@@ -1,6 +1,5 @@
 -- Laws of ranges: what is built of a head is in its ranges, whatever the head says.
-use Rattle.std.proofs.Common.{◌≡◌, ◌≤◌, ◌<◌, ◌+◌, ◌^◌, ◌==◌, ◌∙◌, ◌∷◌, ◌&&◌, not, ℕ, ℤ, pos, negsuc, Bool, true, false, cond, List, [], Option, Some, None, IfOk, is_some, Result, Ok, Err, length, length-append, All, nat_le, nat_lt, refl, sym, ap, subst, arith, inl, inr}
-use Rattle.std.proofs.lemmas.Bool.{and_parts, cases_Bool, false≢true}
+use Rattle.std.proofs.Common.{◌≡◌, ◌≤◌, ◌<◌, ◌+◌, ◌^◌, ◌∙◌, ◌∷◌, not, ℕ, ℤ, pos, negsuc, Bool, true, false, cond, List, [], Option, Some, None, IfOk, is_some, Result, Ok, Err, length, length-append, All, nat_lt, refl, sym, ap, subst, arith}
 use Rattle.std.proofs.lemmas.Bool.Decides.{nat_tests}
 use Rattle.std.proofs.lemmas.List.Elements.{All-cons, All-head, All-nil, All-push, All-tail}
 use Rattle.std.proofs.lemmas.List.Quantifiers.{position-Some}
@@ -15,10 +14,8 @@ use Rattle.resil_decor.specs.ChainLimits.{attempts_of, call_limit, layer_limit, 
 use Rattle.resil_decor.specs.declared.layer.Layer.{Layer}
 use Rattle.resil_decor.specs.declared.layer.Layer.TheVariants as layer
 use Rattle.resil_registry.specs.Registry.{RegistryView, config_index, instance_id, with_config, with_instance, default_name}
-use Rattle.resil_retry.specs.Config.{attempt_limit}
-use Rattle.resil_retry.specs.Interval.{IsBackoff, interval_limit}
+use Rattle.resil_retry.specs.Interval.{IsBackoff}
 use Rattle.resil_retry.specs.declared.interval.Backoff.{Backoff}
-use Rattle.resil_retry.specs.declared.interval.Backoff.TheVariants as interval
 use Rattle.resil_heads.specs.Checks.{Gives, and_then}
 use Rattle.resil_heads.specs.LayerBuild.{BuiltLayer, BuiltLayers, build_settings, chain_from_layers, build_interval, build_layer, build_layers, build_retry}
 use Rattle.resil_heads.specs.LayerBulkheads.{Obtained, parse_config, configured, is_good_name, layer_id, obtained, obtained_new, obtained_with, permits_in, parse_permits, unconfigured, with_configuration}

@@ -1,6 +1,5 @@
 use Rattle.std.proofs.Common.{◌≡◌, ◌+◌, ◌∷◌, ap, arith, length}
 use Rattle.std.specs.Vec.Iter.{into_iter_items, into_iter_len}
-use Rattle.resil_heads.proofs.BulkheadLaws.{configured-next}
 use Rattle.resil_heads.proofs.layers.bulkheads.configured.Goals as goal
 
 pub loop-configuration-preserved : goal.loop-configuration-preserved
@@ -9,6 +8,6 @@ loop-configuration-preserved c =
     let fewer : length (into_iter_items c.loop-configuration.configuration-iterator) ≡ length (c.in-Some.configuration ∷ into_iter_items c.next.new.self) = ap length step.0 in
     let len : into_iter_len c.next.new.self + 1 ≡ into_iter_len c.loop-configuration.configuration-iterator = step.1 in
     record {
-      all = configured-next c.loop-configuration.registry c.add_configuration.new.registry c.in-Some.configuration _ _ _ step.0 c.in_ok-add_configuration.ensures c.loop-configuration.invariant.all;
+      all = rw (step.0, c.in_ok-add_configuration.ensures) at c.loop-configuration.invariant.all;
       left = omega (arith, c.loop-configuration.invariant.left);
     }
