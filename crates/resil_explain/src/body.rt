@@ -26,8 +26,7 @@ impl fmt::Display for RowFault {
             }
             RowFault::Field(column, form) => write!(f, "the field {column} has to be {form}"),
             RowFault::Word(column, words) => {
-                let between = ", ";
-                let rows = Listed { words, between };
+                let rows = Listed(words, ", ");
                 write!(f, "the field {column} has to be one of {rows}")
             }
         }

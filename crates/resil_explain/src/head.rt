@@ -5,8 +5,8 @@
 
 use crate::layers::{Layer, own_part, without};
 use crate::place::{Line, Listed, Shown, start_of_key};
-use crate::table::{keys_of_layer, said_of};
-use crate::told::Subject;
+use crate::table::{key_of, keys_of_layer, said_of};
+use crate::told::{Subject, Told};
 use resil_heads::document::read_document;
 use resil_heads::forms::{Form, Key};
 use resil_heads::keys::count_at;
@@ -86,8 +86,7 @@ impl fmt::Display for Fault<'_> {
         match *self {
             Fault::Unknown(key, words) => {
                 let key = Shown(key.as_bytes());
-                let between = ", ";
-                let keys = Listed { words, between };
+                let keys = Listed(words, ", ");
                 write!(f, "unknown key `{key}`; the keys are {keys}")
             }
             Fault::Missing(key) => {
@@ -113,8 +112,9 @@ fn check_run(alloc: Global, head: &[u8]) -> Result<(), HeadError> {
 }
 
 // Whether a head is refused with this line, or `None` where memory runs out.
-fn is_refused_so(alloc: Global, subject: Subject, head: &[u8], line: &[u8]) -> Option<bool> {
-    let refusal = match subject {
+fn is_refused_so(told: Told<'_>, head: &[u8], line: &[u8]) -> Option<bool> {
+    let alloc = told.alloc;
+    let refusal = match told.subject {
         Subject::Replay | Subject::Audit => resil_replay::head::read_head(alloc, head).err(),
         Subject::Chain => resil_chain::head::read_head(alloc, head).err(),
         Subject::Weave => resil_weave::head::read_head(alloc, head).err(),
@@ -133,66 +133,53 @@ fn is_refused_so(alloc: Global, subject: Subject, head: &[u8], line: &[u8]) -> O
 /// The layer that a head is refused for with this line, by its number from 1, and 0 where it is none or
 /// can't be told; `None` where memory runs out.
 pub(crate) fn refused_layer(
-    alloc: Global,
-    subject: Subject,
+    told: Told<'_>,
     head: &[u8],
     layers: &[Layer],
     line: &[u8],
 ) -> Option<usize> {
-    for (number, _) in layers.iter().enumerate().take(MOST_LAYERS) {
-        let kept = without(alloc, head, layers.get(number..)?)?;
-        if is_refused_so(alloc, subject, &kept, line)? {
+    let last = layers.len();
+    for number in 0..last.min(MOST_LAYERS) {
+        let kept = without(told.alloc, head, layers.get(number..)?)?;
+        if is_refused_so(told, &kept, line)? {
             return Some(number);
         }
     }
-    let last = layers.len();
     Some(if last < MOST_LAYERS { last } else { 0 })
 }
 
 // Whether there is a value that isn't of a form.
 fn is_bad(form: Form, value: Option<&Value>) -> bool {
-    match value {
-        Some(value) => !form.has(value),
-        None => false,
-    }
+    value.is_some_and(|value| !form.has(value))
+}
+
+// Whether a required key isn't in a table.
+fn is_missing(key: Key, table: &Table) -> bool {
+    matches!(key, Key::Required(..)) && table.get(key.name()).is_none()
 }
 
 // The first key of a table that is none of these.
 fn unknown_key<'a>(keys: &'static [Key], table: &'a Table) -> Option<Fault<'a>> {
-    for name in table.keys() {
-        if !keys.iter().any(|key| key.name() == name.as_str()) {
-            return Some(Fault::Unknown(name.as_str(), keys));
-        }
-    }
-    None
-}
-
-// The first required key that a table hasn't.
-fn missing_key(keys: &'static [Key], table: &Table) -> Option<Fault<'static>> {
-    for key in keys {
-        if matches!(key, Key::Required(..)) && table.get(key.name()).is_none() {
-            return Some(Fault::Missing(*key));
-        }
-    }
-    None
-}
-
-// The first key whose value isn't what it may be.
-fn bad_value(keys: &'static [Key], table: &Table) -> Option<Fault<'static>> {
-    let found = keys
-        .iter()
-        .find(|key| is_bad(key.form(), table.get(key.name())))?;
-    Some(Fault::Value(*found))
+    let is_known = |name: &str| keys.iter().any(|key| key.name() == name);
+    let name = table.keys().find(|name| !is_known(name.as_str()))?;
+    Some(Fault::Unknown(name.as_str(), keys))
 }
 
 // What a table of these keys is refused for by this name, where that can be seen of it.
 fn fault_in<'a>(keys: &'static [Key], table: &'a Table, name: &str) -> Option<Fault<'a>> {
     match name {
         "UnknownKey" => unknown_key(keys, table),
-        "MissingKey" => missing_key(keys, table),
-        "BadValue" => bad_value(keys, table),
+        "MissingKey" => {
+            let key = keys.iter().find(|key| is_missing(**key, table))?;
+            Some(Fault::Missing(*key))
+        }
+        "BadValue" => {
+            let mut keys = keys.iter();
+            let key = keys.find(|key| is_bad(key.form(), table.get(key.name())))?;
+            Some(Fault::Value(*key))
+        }
         _ => {
-            let (key, said) = said_of(name)?;
+            let (key, said) = (key_of(name), said_of(name)?);
             let is_cap = name == "IntervalTooLong" && !is_bad(LONGEST, table.get(key));
             Some(Fault::Other(if is_cap { "cap" } else { key }, said))
         }
@@ -205,49 +192,34 @@ fn layer_in(head: &Table, number: usize) -> Option<&Table> {
     layers.get(number.checked_sub(1)?)?.as_table()
 }
 
-// A fault of a layer, or of the head itself: in the line of its key, else in the one in which the layer begins.
-fn placed<'a>(
-    input: &'a [u8],
-    part: Layer,
-    layer: usize,
-    title: &'static str,
-    fault: Fault<'a>,
-) -> HeadFault<'a> {
-    let upto = input.get(..part.end).unwrap_or(input);
-    let own = upto.get(part.start..).unwrap_or(&[]);
-    let found = start_of_key(own, part.start, fault.key());
-    let line = Line::from(upto, found.unwrap_or(part.start));
-    let is_shown = found.is_some() || part.is_inline;
-    HeadFault {
-        line: line.number,
-        text: if is_shown { line.text } else { &[] },
-        layer,
-        title,
-        fault,
-    }
-}
-
 /// What is wrong with the head of an input, which is refused by this name for a layer, where that can be
-/// seen of its table.
+/// seen of its table: in the line of its key, else in the one in which the layer begins.
 pub(crate) fn fault_of<'a>(
-    subject: Subject,
-    input: &'a [u8],
+    told: Told<'a>,
     parts: (&[u8], &[Layer]),
     table: &'a Table,
     number: usize,
     name: &str,
 ) -> Option<HeadFault<'a>> {
     let (head, layers) = parts;
-    match layer_in(table, number) {
-        Some(layer) => {
-            let (title, keys) = keys_of_layer(layer);
+    let (layer, (title, keys), said, part) = match layer_in(table, number) {
+        Some(said) => {
             let part = *layers.get(number.checked_sub(1)?)?;
-            let fault = fault_in(keys, layer, name)?;
-            Some(placed(input, part, number, title, fault))
+            (number, keys_of_layer(said), said, part)
         }
-        None => {
-            let fault = fault_in(subject.keys(), table, name)?;
-            Some(placed(input, own_part(head, layers), 0, "", fault))
-        }
-    }
+        None => (0, ("", told.subject.keys()), table, own_part(head, layers)),
+    };
+    let fault = fault_in(keys, said, name)?;
+    let upto = told.input.get(..part.end).unwrap_or(told.input);
+    let own = upto.get(part.start..).unwrap_or(&[]);
+    let found = start_of_key(own, part.start, fault.key());
+    let line = Line::from(upto, found.unwrap_or(part.start));
+    let is_shown = found.is_some() || part.is_inline;
+    Some(HeadFault {
+        line: line.number,
+        text: if is_shown { line.text } else { &[] },
+        layer,
+        title,
+        fault,
+    })
 }

@@ -62,25 +62,21 @@ pub(crate) fn without(alloc: Global, head: &[u8], layers: &[Layer]) -> Option<Ve
 
 // Finds the layers under lines `[[layer]]`, each of which ends where another table begins. `None` where memory runs out.
 fn find_sections(head: &[u8], layers: &mut Vec<Layer>) -> Option<()> {
-    let mut open = None;
-    let mut place = 0usize;
+    let mut is_open = false;
+    let mut start = 0usize;
     for line in head.split_inclusive(|byte| *byte == b'\n') {
+        let end = start.saturating_add(line.len());
         if line.starts_with(b"[") {
-            end_section(layers, open, place)?;
-            let is_layer = line.starts_with(b"[[layer]]");
-            open = if is_layer { Some(place) } else { None };
+            is_open = line.starts_with(b"[[layer]]");
+            if is_open {
+                layers.push(Layer::section(start, end)).ok()?;
+            }
+        } else if is_open && let Some(open) = layers.last_mut() {
+            *open = Layer::section(open.start, end);
         }
-        place = place.saturating_add(line.len());
+        start = end;
     }
-    end_section(layers, open, place)
-}
-
-// Ends the layer that is open, if there is one. `None` where memory runs out.
-fn end_section(layers: &mut Vec<Layer>, open: Option<usize>, end: usize) -> Option<()> {
-    match open {
-        Some(start) => layers.push(Layer::section(start, end)).ok(),
-        None => Some(()),
-    }
+    Some(())
 }
 
 // What a byte of a head stands in.

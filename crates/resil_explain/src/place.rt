@@ -137,20 +137,15 @@ impl<T> Named for (&'static str, T) {
     }
 }
 
-/// Words with something between them.
+/// What has the words as names, and what stands between two of them.
 #[derive(Clone, Copy)]
-pub(crate) struct Listed<'a, T> {
-    /// What has the words as names.
-    pub words: &'a [T],
-    /// What stands between two of them.
-    pub between: &'static str,
-}
+pub(crate) struct Listed<'a, T>(pub &'a [T], pub &'static str);
 
 impl<T: Named> fmt::Display for Listed<'_, T> {
     fn fmt<W: fmt::Write>(&self, f: &mut fmt::Formatter<W>) -> fmt::Result {
-        for (index, word) in self.words.iter().enumerate() {
+        for (index, word) in self.0.iter().enumerate() {
             if index > 0 {
-                f.write_str(self.between)?;
+                f.write_str(self.1)?;
             }
             f.write_str(word.name())?;
         }

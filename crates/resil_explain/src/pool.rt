@@ -1,12 +1,11 @@
 //! What the rule of admission answers at a row, once it has carried out those before it.
 
-use crate::told::Subject;
+use crate::told::{Subject, Told};
 use resil_heads::answer::rule_at_last;
 use resil_replay::events::read_rows as read_history;
 use resil_replay::head::read_head;
 use resil_replay::rows::{ReplayRow, read_rows};
 use resil_rule::{Event, Id, Reply, Rule};
-use std::alloc::Global;
 use std::fmt;
 
 /// The numbers of a pool, as they are written.
@@ -41,29 +40,27 @@ fn event_of(row: ReplayRow) -> Event {
 }
 
 // The events of a body.
-fn events_of(alloc: Global, subject: Subject, body: &[u8]) -> Option<Vec<Event>> {
-    match subject {
-        Subject::Replay => {
-            let read = read_rows(alloc, body).ok()?;
-            read.rows
-                .iter()
-                .map(|row| event_of(*row))
-                .collect(alloc)
-                .ok()
-        }
-        _ => read_history(alloc, body).ok(),
+fn events_of(told: Told<'_>, body: &[u8]) -> Option<Vec<Event>> {
+    if !matches!(told.subject, Subject::Replay) {
+        return read_history(told.alloc, body).ok();
     }
+    let read = read_rows(told.alloc, body).ok()?;
+    let events = read.rows.iter().map(|row| event_of(*row));
+    events.collect(told.alloc).ok()
 }
 
 /// The rule of a head's pool before the event of its body at a position, from 1, and that event.
 pub(crate) fn rule_at(
-    alloc: Global,
-    subject: Subject,
+    told: Told<'_>,
     head: &[u8],
     body: &[u8],
     position: usize,
 ) -> Option<(Rule<u8>, Event)> {
-    let limits = read_head(alloc, head).ok()?;
-    let events = events_of(alloc, subject, body)?;
-    rule_at_last(alloc, limits, events.get(..position).unwrap_or(&events))
+    let limits = read_head(told.alloc, head).ok()?;
+    let events = events_of(told, body)?;
+    rule_at_last(
+        told.alloc,
+        limits,
+        events.get(..position).unwrap_or(&events),
+    )
 }

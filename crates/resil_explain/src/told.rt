@@ -63,27 +63,39 @@ impl Subject {
     }
 }
 
+/// An input of which something is said, what it is for, and where memory for that comes from.
+#[derive(Clone, Copy)]
+pub(crate) struct Told<'a> {
+    pub alloc: Global,
+    pub subject: Subject,
+    pub input: &'a [u8],
+}
+
 /// Says on standard error what the line of an output means for its input, in one to three lines, each of
 /// which begins with `resil: `: by what the line names, which is a row, by its number from 1, the head, the header, or nothing
 /// that has a place. Where the line is no refusal and no `illegal`, or where memory for it isn't there, it says nothing.
-pub(crate) fn explain<R: Eprint>(
+pub(crate) fn explain<R: Eprint + AllocGlobal>(
     rt: &R,
-    alloc: Global,
     subject: Subject,
     line: &[u8],
     input: &[u8],
 ) -> Option<()> {
+    let alloc = rt.alloc();
+    let told = Told {
+        alloc,
+        subject,
+        input,
+    };
     let text = str::from_utf8(line).ok()?.strip_suffix('\n')?;
     if let Some(position) = text.strip_prefix("illegal ") {
-        let row = position.parse().ok()?;
-        return explain_row(rt, alloc, subject, input, row, "illegal");
+        return explain_row(rt, told, position.parse().ok()?, "illegal");
     }
     let (place, name) = text.strip_prefix("refused ")?.split_once(' ')?;
     match place {
-        "head" => explain_head(rt, alloc, subject, input, line, name),
-        "body" => explain_header(rt, alloc, subject, input),
+        "head" => explain_head(rt, told, line, name),
+        "body" => explain_header(rt, told),
         _ => match place.parse() {
-            Ok(row) => explain_row(rt, alloc, subject, input, row, name),
+            Ok(row) => explain_row(rt, told, row, name),
             Err(_) => explain_name(rt, name),
         },
     }
@@ -91,7 +103,7 @@ pub(crate) fn explain<R: Eprint>(
 
 // Says what a name means.
 fn explain_name<R: Eprint>(rt: &R, name: &str) -> Option<()> {
-    let (_, allowed) = said_of(name)?;
+    let allowed = said_of(name)?;
     eprintln!(rt; "resil: {allowed}").ok()
 }
 
@@ -102,76 +114,62 @@ fn explain_line<R: Eprint>(rt: &R, input: &[u8], place: usize, what: &str) -> Op
 }
 
 // Says what a head is refused for.
-fn explain_head<R: Eprint>(
-    rt: &R,
-    alloc: Global,
-    subject: Subject,
-    input: &[u8],
-    line: &[u8],
-    name: &str,
-) -> Option<()> {
-    let (head, _) = split_input(input)?;
+fn explain_head<R: Eprint>(rt: &R, told: Told<'_>, line: &[u8], name: &str) -> Option<()> {
+    let (head, _) = split_input(told.input)?;
     let text = match str::from_utf8(head) {
         Ok(text) => text,
-        Err(error) => return explain_line(rt, input, error.valid_up_to(), "the head isn't UTF-8"),
+        Err(error) => {
+            return explain_line(rt, told.input, error.valid_up_to(), "the head isn't UTF-8");
+        }
     };
-    match toml::table_from_str(alloc, text) {
+    match toml::table_from_str(told.alloc, text) {
         Ok(table) => {
-            let layers = layers_of(alloc, head)?;
-            let number = refused_layer(alloc, subject, head, &layers, line)?;
-            match fault_of(subject, input, (head, &layers), &table, number, name) {
+            let layers = layers_of(told.alloc, head)?;
+            let number = refused_layer(told, head, &layers, line)?;
+            match fault_of(told, (head, &layers), &table, number, name) {
                 Some(fault) => eprintln!(rt; "resil: {fault}").ok(),
                 None => explain_name(rt, name),
             }
         }
-        Err(error) => explain_line(rt, input, error.span()?.start, error.message()),
+        Err(error) => explain_line(rt, told.input, error.span()?.start, error.message()),
     }
 }
 
 // Says what the header of a body is, and what stands in its place.
-fn explain_header<R: Eprint>(rt: &R, alloc: Global, subject: Subject, input: &[u8]) -> Option<()> {
-    let (_, text) = split_input(input)?;
-    if let Some(record) = read_record(alloc, text, 0)? {
-        let line = line_of(input, text, &record);
+fn explain_header<R: Eprint>(rt: &R, told: Told<'_>) -> Option<()> {
+    let (_, text) = split_input(told.input)?;
+    if let Some(record) = read_record(told.alloc, text, 0)? {
+        let line = line_of(told.input, text, &record);
         let remark = remark(line.text);
         eprintln!(rt; "resil: {line}this is no header of a body{remark}").ok()?;
     }
-    let body = subject.body();
-    let between = ",";
-    let words = body.without_resizes().header;
-    let header = Listed { words, between };
+    let body = told.subject.body();
+    let header = Listed(body.without_resizes().header, ",");
     eprintln!(rt; "resil: a body begins with the header `{header}`").ok()?;
     if body.has_resizes {
-        let words = body.header;
-        let header = Listed { words, between };
+        let header = Listed(body.header, ",");
         eprintln!(rt; "resil: or, where the pool is resized, with `{header}`").ok()?;
     }
     Some(())
 }
 
 // Says what a row is refused for, or what the rule answers there.
-fn explain_row<R: Eprint>(
-    rt: &R,
-    alloc: Global,
-    subject: Subject,
-    input: &[u8],
-    row: usize,
-    name: &str,
-) -> Option<()> {
-    let (head, body) = split_input(input)?;
-    let header = read_record(alloc, body, 0)??;
-    let record = read_record(alloc, body, row)??;
-    let line = line_of(input, body, &record);
+fn explain_row<R: Eprint>(rt: &R, told: Told<'_>, row: usize, name: &str) -> Option<()> {
+    let (head, body) = split_input(told.input)?;
+    let header = read_record(told.alloc, body, 0)??;
+    let record = read_record(told.alloc, body, row)??;
+    let line = line_of(told.input, body, &record);
     if name == "BadRow" {
+        let subject = told.subject;
         let fault = row_fault(subject.body(), &record, &header, subject.callers())?;
         let remark = remark(line.text);
         return eprintln!(rt; "resil: row {row}, {line}{fault}{remark}").ok();
     }
-    if !matches!(subject, Subject::Replay | Subject::Audit) {
-        let (_, allowed) = said_of(name)?;
+    if !matches!(told.subject, Subject::Replay | Subject::Audit) {
+        let allowed = said_of(name)?;
         return eprintln!(rt; "resil: row {row}, {line}{allowed}").ok();
     }
-    let (rule, event) = rule_at(alloc, subject, head, body, row)?;
+    let (rule, event) = rule_at(told, head, body, row)?;
     let answer = answer_to(&rule, event);
     eprintln!(rt; "resil: row {row}, {line}{answer}").ok()?;
     let pool = Numbers(&rule);

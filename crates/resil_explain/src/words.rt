@@ -84,7 +84,7 @@ pub fn explain_command<R: Eprint + AllocGlobal>(
         explain_words(rt, rt.alloc(), words);
     } else if code == 1 || line.starts_with(b"illegal ") {
         if let Some(subject) = requested_subject(rt.alloc(), words) {
-            let _said = explain(rt, rt.alloc(), subject, line, input.unwrap_or(&[]));
+            let _said = explain(rt, subject, line, input.unwrap_or(&[]));
         }
     }
 }
@@ -98,6 +98,6 @@ pub fn explain_look<R: Eprint + AllocGlobal>(
     input: Option<&[u8]>,
 ) {
     if code == 1 {
-        let _said = explain(rt, rt.alloc(), Subject::Audit, line, input.unwrap_or(&[]));
+        let _said = explain(rt, Subject::Audit, line, input.unwrap_or(&[]));
     }
 }
