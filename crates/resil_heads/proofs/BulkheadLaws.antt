@@ -1,7 +1,6 @@
 -- Laws of the bulkheads of a head.
-use Rattle.std.proofs.Common.{◌≡◌, ◌≢◌, ◌∙◌, ◌∷◌, ◌++◌, ◌&&◌, ℕ, true, false, List, [], Option, Some, None, IfSome, IfNone, is_ok, Result, Ok, Err, length, map, nat_le, string_bytes, append_assoc, refl, sym, ap, arith, inl, inr}
+use Rattle.std.proofs.Common.{◌≡◌, ◌≢◌, ◌∙◌, ◌∷◌, ◌++◌, ◌&&◌, ℕ, true, false, List, [], Option, Some, None, IfSome, IfNone, is_ok, Result, Ok, Err, length, map, nat_le, string_bytes, append_assoc, refl, sym, ap, inl, inr}
 use Rattle.std.proofs.lemmas.Bool.{and_from, and_parts, cases_Bool, false≢true, le-leb, leb-true}
-use Rattle.std.proofs.lemmas.Grind.{common_steps}
 use Rattle.std.proofs.lemmas.List.Sums.{AllPass-from_list_all, list_all-from_AllPass}
 use Rattle.std.specs.Cmp.Lexicographic.{bytes_decides}
 use Rattle.std.specs.List.{list_all}
@@ -12,7 +11,7 @@ use Rattle.resil_registry.specs.Name.{IsName, is_name_byte}
 use Rattle.resil_registry.specs.Registry.{RegistryView, instance_id, with_config, IsConfigError, IsFreeName, IsInstanceError, CreatesInstance, default_name}
 use Rattle.resil_registry.specs.declared.error.RegistryError.{RegistryError}
 use Rattle.resil_registry.specs.declared.error.RegistryError.TheVariants.{ReservedName, NoSuchConfig, NameTaken, BadName, Memory}
-use Rattle.resil_heads.specs.LayerBulkheads.{Obtained, parse_config, is_good_name, obtained, obtained_with, registry_error, with_configuration}
+use Rattle.resil_heads.specs.LayerBulkheads.{parse_config, is_good_name, obtained, obtained_with, registry_error, with_configuration}
 use Rattle.resil_heads.specs.ByteOrder.{members_listed}
 use Rattle.resil_heads.specs.LayerBuild.{BuiltLayers}
 use Rattle.resil_heads.specs.Checks.{and_then}
@@ -94,17 +93,13 @@ answered id = Ok id
 pub answered-apart : (id : ℕ) (why : RegistryError) → answered id ≡ Err why → ⊥
 answered-apart id why is = false≢true (sym (ap is_ok is))
 
-abbrev answered_with : ℕ → RegistryView ℕ → Result Obtained HeadError
-answered_with id lists = Ok (record { id = id; lists = lists })
-
 obtained-found : (lists new : RegistryView ℕ) (name config : List ℕ) (id : ℕ) (o : Option ℕ)
     → IfSome o (λ known. (answered id ≡ answered known) × (new ≡ lists)) → IfNone o (CreatesInstance lists name config id new)
     → obtained_with lists name config o ≡ Ok (record { id = id; lists = new })
 obtained-found lists new name config id None known made = rw (made.configured, made.numbered, made.appended) refl
-obtained-found lists new name config id (Some i) known made = known-id known.0 known.1
-  where
-    known-id : answered id ≡ answered i → new ≡ lists → answered_with i lists ≡ answered_with id new
-    known-id is unchanged = grind (arith, common_steps, is, unchanged)
+obtained-found lists new name config id (Some i) known made =
+    let same : id ≡ i = cc (known.0) in
+    rw (same, known.1) refl
 
 pub obtained-given : (lists new : RegistryView ℕ) (name config : List ℕ) (id : ℕ) → ¬ ¬ IsName name
     → IfSome (instance_id lists name) (λ known. (answered id ≡ answered known) × (new ≡ lists)) → IfNone (instance_id lists name) (CreatesInstance lists name config id new)

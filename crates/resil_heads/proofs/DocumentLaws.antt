@@ -1,13 +1,11 @@
 -- Laws of the definitions of heads.
 use Rattle.std.proofs.Common.{◌≡◌, ℕ, ◌||◌, ◌&&◌, Bool, is_some, List, [], ◌∷◌, map, string_bytes, Err, refl, ap, inl, inr}
 use Rattle.std.proofs.lemmas.Bool.{cases_Bool}
-use Rattle.std.proofs.lemmas.Str.{IsUtf8-from_is_utf8, is_utf8-from_IsUtf8}
+use Rattle.std.proofs.lemmas.Str.{IsUtf8-from_is_utf8}
 use Rattle.std.specs.List.{list_any, list_all}
 use Rattle.std.specs.Map.{keys_of}
-use Rattle.std.specs.Option.{ok_or}
 use Rattle.std.specs.Str.{IsUtf8, is_utf8}
 use Rattle.toml.specs.Data.{Members, get_member}
-use Rattle.toml.specs.Parse.{parse_document}
 use Rattle.toml.specs.View.{members_view}
 use Rattle.toml.proofs.Views.{Entry}
 use Rattle.resil_heads.specs.Document.{document_of, has_all, has_needed, has_only, is_known, required_of}
@@ -38,7 +36,3 @@ document_of-bytes bytes h =
       | inl is ↦ absurd (h (IsUtf8-from_is_utf8 bytes is))
       | inr not ↦ rw not
     ]
-
--- of a text, what the parser says
-pub document_of-text : (bytes : List ℕ) → IsUtf8 bytes → document_of bytes ≡ ok_or (parse_document bytes) error.BadToml
-document_of-text bytes h = rw (is_utf8-from_IsUtf8 bytes h)
