@@ -1,6 +1,7 @@
 -- Numbers, their decimal texts, and what `parse` makes of them.
-use Rattle.std.proofs.Common.{◌≡◌, ◌≢◌, ◌<◌, ◌≤◌, ◌^◌, ◌==◌, ◌&&◌, ◌∷◌, ◌∙◌, ℕ, List, [], Some, None, Result, Ok, Err, Bool, Bor, true, false, not, length, get_or, refl, sym, ap, arith, MatchResult, inl, inr, zero, suc}
-use Rattle.std.proofs.lemmas.Bool.{cases_Bool, eqb-true, ne_eqb}
+use lib.Pointwise.{bytes_decides}
+use Rattle.std.proofs.Common.{◌≡◌, ◌≢◌, ◌<◌, ◌≤◌, ◌^◌, ◌==◌, ◌∷◌, ◌∙◌, ℕ, List, [], Some, None, Result, Ok, Err, Bor, true, false, not, length, get_or, refl, sym, ap, arith, MatchResult, inl, inr, zero, suc}
+use Rattle.std.proofs.lemmas.Bool.{and_parts, cases_Bool, eqb-false, ne_eqb, not-true}
 use Rattle.std.proofs.lemmas.Grind.{common_steps}
 use Rattle.std.proofs.lemmas.Str.{IsUtf8-from_ascii}
 use Rattle.std.proofs.lemmas.Str.Parse.{IsNumeralModel, numerals_by_value, tells_all_ascii_digits, parse_plain}
@@ -67,12 +68,9 @@ parse_number-parse field text r same parses low high some =
 -- what a numeral is made of
 is_numeral-parts : (field : List ℕ) → is_numeral field ≡ true → (0 < length field) × (get_or field 0 0 ≢ 48) × (all_ascii_digits field ≡ true)
 is_numeral-parts [] e = cc e
-is_numeral-parts (digit ∷ digits) e = first (digit == 48) refl e
-  where
-    first : (zero_first : Bool) → (digit == 48) ≡ zero_first → (not (digit == 48) && all_ascii_digits (digit ∷ digits)) ≡ true
-        → (0 < length (digit ∷ digits)) × (digit ≢ 48) × (all_ascii_digits (digit ∷ digits) ≡ true)
-    first true is e = cc (rw is at e)
-    first false is e = (omega arith, (λ h. grind (arith, common_steps)), rw is at e)
+is_numeral-parts (digit ∷ digits) e =
+    let (first, all) = and_parts (not (digit == 48)) (all_ascii_digits (digit ∷ digits)) e in
+    (omega arith, eqb-false digit 48 (not-true _ first), all)
 
 -- a number is read from its decimal text, below each bound that is above it
 pub below-round_trip : (bound n : ℕ) → 1 ≤ n → n < 2 ^ 64 → n < bound → parse_number_below bound (decimal n) ≡ Some n
@@ -113,28 +111,23 @@ below-are_decimal bound field n fits e =
 pub numbers-are_decimal : NumbersAreDecimal
 numbers-are_decimal field n e = below-are_decimal (2 ^ 64) field n (omega arith) e
 
--- the text of 0, and any other
-pub zero-text : (field : List ℕ) → is_same field (48 ∷ []) ≡ true → field ≡ 48 ∷ []
-zero-text [] e = cc e
-zero-text (x ∷ []) e = elim (cases_Bool (x == 48)) [ inl is ↦ ap (λ b. b ∷ []) (eqb-true x 48 is) | inr other ↦ cc (rw other at e) ]
-zero-text (x ∷ y ∷ rest) e = elim (cases_Bool (x == 48)) [ inl is ↦ cc (rw is at e) | inr other ↦ cc (rw other at e) ]
-
-pub other-text : (field : List ℕ) → get_or field 0 0 ≢ 48 → is_same field (48 ∷ []) ≡ false
-other-text [] first = refl
-other-text (x ∷ rest) first = rw (ne_eqb x 48 first) refl
+-- a text that begins with another byte is another text
+pub other-first : (text rest : List ℕ) (byte d : ℕ) → get_or text 0 d ≢ byte → is_same text (byte ∷ rest) ≡ false
+other-first [] rest byte d other = refl
+other-first (x ∷ xs) rest byte d other = rw (ne_eqb x byte other) refl
 
 -- 0, or a number below a bound
 pub from_zero-round_trip : (bound n : ℕ) → bound ≤ 2 ^ 64 → n < bound → parse_from_zero bound (decimal n) ≡ Some n
 from_zero-round_trip bound zero fits below = rw (decimal_digit 0 (omega arith)) refl
 from_zero-round_trip bound (suc n) fits below =
     let first = first_decimal (suc n) (omega arith) (omega arith) in
-    rw (other-text (decimal (suc n)) (λ e. omega arith)) (below-round_trip bound (suc n) (omega arith) (omega arith) below)
+    rw (other-first (decimal (suc n)) [] 48 0 (λ e. omega arith)) (below-round_trip bound (suc n) (omega arith) (omega arith) below)
 
 pub from_zero-are_decimal : (bound : ℕ) (field : List ℕ) (n : ℕ) → 0 < bound → bound ≤ 2 ^ 64 → parse_from_zero bound field ≡ Some n → (field ≡ decimal n) × (n < bound)
 from_zero-are_decimal bound field n some fits e =
     elim (cases_Bool (is_same field (48 ∷ []))) [
       | inl is ↦
           let none : 0 ≡ n = cc (rw is at e) in
-          (zero-text field is ∙ sym (decimal_digit 0 (omega arith)) ∙ ap decimal none, omega arith)
+          ((bytes_decides field (48 ∷ [])).0 is ∙ sym (decimal_digit 0 (omega arith)) ∙ ap decimal none, omega arith)
       | inr other ↦ let number = below-are_decimal bound field n fits (rw other at e) in (number.0, number.2)
     ]

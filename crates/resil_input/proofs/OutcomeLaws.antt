@@ -1,6 +1,6 @@
 -- The texts of signed integers, of kinds of error and of outcomes, and what they are read as.
 use lib.Pointwise.{bytes_decides}
-use Rattle.std.proofs.Common.{◌≡◌, ◌≢◌, ◌<◌, ◌≤◌, ◌^◌, ◌==◌, ◌∷◌, ◌∙◌, ℕ, zero, suc, ℤ, pos, negsuc, List, [], Option, Some, None, true, false, get_or, codes, refl, sym, arith, inl, inr}
+use Rattle.std.proofs.Common.{◌≡◌, ◌≢◌, ◌<◌, ◌≤◌, ◌^◌, ◌==◌, ◌∷◌, ◌∙◌, ℕ, zero, suc, ℤ, pos, negsuc, List, [], Option, Some, None, true, get_or, codes, refl, sym, arith, inl, inr}
 use Rattle.std.proofs.lemmas.Bool.{cases_Bool, eqb-true, ne_eqb}
 use Rattle.std.proofs.lemmas.Fmt.{decimal_digit, decimal_is_IsNumeral, decimal_nonempty, first_decimal}
 use Rattle.std.proofs.lemmas.Grind.{common_steps}
@@ -17,17 +17,12 @@ use Rattle.resil_retry.specs.declared.outcome.Outcome.TheVariants.{Value, Error}
 use Rattle.resil_input.specs.Number.{parse_number}
 use Rattle.resil_input.specs.OutcomeText.{RoundTrips, FitsValue, FitsKind, FitsOutcome, negative, non_negative, code_in_range, parse_code_kind, parse_kind, kind_text, parse_outcome, outcome_text, parse_nonzero_signed, parse_signed}
 use Rattle.resil_input.specs.TextEquality.{is_same}
-use Rattle.resil_input.proofs.NumberLaws.{numbers-round_trip, numbers-are_decimal, zero-text, other-text}
+use Rattle.resil_input.proofs.NumberLaws.{numbers-round_trip, numbers-are_decimal, other-first}
 
 -- the value that a mapped one came from
 option_map-some : {A B P : Type 0} (f : A → B) (o : Option A) (y : B) → option_map f o ≡ Some y → ((x : A) → o ≡ Some x → f x ≡ y → P) → P
 option_map-some f None y e more = cc e
 option_map-some f (Some x) y e more = more x refl (cc e)
-
--- a text that begins with another byte is another text
-other-first : (text rest : List ℕ) (byte : ℕ) → get_or text 0 byte ≢ byte → is_same text (byte ∷ rest) ≡ false
-other-first [] rest byte other = absurd (other refl)
-other-first (x ∷ xs) rest byte other = rw (ne_eqb x byte other) refl
 
 -- the first byte of a number's text is a digit
 first-digit : (n d : ℕ) → n < 2 ^ 64 → (47 < get_or (decimal n) 0 d) × (get_or (decimal n) 0 d < 58)
@@ -79,7 +74,7 @@ signed-is text value e =
     elim (cases_Bool (is_same text (48 ∷ []))) [
       | inl none ↦
           let same : pos 0 ≡ value = cc (rw none at e) in
-          rw (← same) (record { sfits = omega arith }, zero-text text none ∙ sym (decimal_digit 0 (omega arith)))
+          rw (← same) (record { sfits = omega arith }, (bytes_decides text (48 ∷ [])).0 none ∙ sym (decimal_digit 0 (omega arith)))
       | inr other ↦ parse_nonzero_signed-is text value (rw other at e)
     ]
 
@@ -89,7 +84,7 @@ signed-read (pos (suc n)) fits =
     let small : suc n < 2 ^ 63 = fits.sfits in
     let first = first_decimal (suc n) (omega arith) (omega arith) in
     let digit = first-digit (suc n) 0 (omega arith) in
-    let other = other-text (decimal (suc n)) (λ e. omega arith) in
+    let other = other-first (decimal (suc n)) [] 48 0 (λ e. omega arith) in
     let plain = parse_nonzero_signed-plain (decimal (suc n)) (λ e. omega arith) in
     let fit : nat_lt (suc n) (2 ^ 63) ≡ true = grind (arith, common_steps) in
     rw (other, plain, numbers-round_trip (suc n) (omega arith) (omega arith), fit) refl
@@ -140,13 +135,12 @@ kind-is text kind e =
 
 kind-read : (kind : Kind) → FitsKind kind → parse_kind (kind_text kind) ≡ Some kind
 kind-read (Code code) small =
-    let digit = first-digit code 88 (omega arith) in
-    let other = other-first (decimal code) (codes "CEEDED") 88 (λ e. omega arith) in
+    let digit = first-digit code 0 (omega arith) in
+    let other = other-first (decimal code) (codes "CEEDED") 88 0 (λ e. omega arith) in
     let signed = signed-read (pos code) (record { sfits = omega arith }) in
     let fit : nat_lt code (2 ^ 16) ≡ true = grind (arith, common_steps) in
     rw (other, signed, fit) refl
-kind-read Full fits = refl
-kind-read Exceeded fits = refl
+kind-read kind fits = refl
 
 pub kinds-read : RoundTrips parse_kind FitsKind kind_text
 kinds-read text kind = (kind-is text kind, (λ written. rw (written.1) (kind-read kind written.0)))
@@ -170,8 +164,7 @@ outcome-is (first ∷ rest) outcome e =
 outcome-read : (outcome : Outcome) → FitsOutcome outcome → parse_outcome (outcome_text outcome) ≡ Some outcome
 outcome-read (Value value) fits = rw (signed-read value fits) refl
 outcome-read (Error (Code code)) fits = rw (kind-read (Code code) fits) refl
-outcome-read (Error Full) fits = refl
-outcome-read (Error Exceeded) fits = refl
+outcome-read (Error kind) fits = refl
 
 pub outcomes-read : RoundTrips parse_outcome FitsOutcome outcome_text
 outcomes-read text outcome = (outcome-is text outcome, (λ written. rw (written.1) (outcome-read outcome written.0)))

@@ -1,8 +1,10 @@
 -- The rows read so far, one more row, and the first record that is no row.
 use denote.Ref.{Bor}
-use Rattle.std.proofs.Common.{◌≡◌, ◌≢◌, ◌∷◌, ◌++◌, ◌∙◌, ◌+◌, ℕ, suc, List, [], Option, Some, None, Result, Ok, Err, length, map, refl, sym, ap, append_assoc, add-one, MatchResult}
+use Rattle.std.proofs.Common.{◌≡◌, ◌≢◌, ◌∷◌, ◌++◌, ◌∙◌, ◌+◌, ℕ, suc, List, [], Option, Some, None, Result, Ok, Err, length, map, refl, sym, ap, append_assoc, add-one, arith, MatchResult}
 use Rattle.std.specs.Result.{IsErrAnd}
-use Rattle.std.proofs.lemmas.List.{map-append, length-map}
+use Rattle.std.proofs.lemmas.List.{length-append, length-map, map_push}
+use Rattle.std.specs.List.{prefix_len}
+use Rattle.std.specs.Option.{is_some}
 use Rattle.csv.specs.declared.reader.Reader.{Reader}
 use Rattle.resil_input.specs.CsvRows.{IsBody, IsBodyError, ParseAs, records_of, row_under}
 use Rattle.resil_input.specs.ReaderState.{ReadsHeader, ReadsRow, records_left}
@@ -13,7 +15,7 @@ use Rattle.resil_input.specs.declared.csv_rows.BodyError.TheVariants as error
 pub ParseAs-more : {Row : Type 0} (header : List (List ℕ)) (row_of : List (List ℕ) → Option Row) (records : List (List (List ℕ))) (rows : List Row) (fields : List (List ℕ)) (row : Row)
     → ParseAs header row_of records rows → row_under header row_of fields ≡ Some row → ParseAs header row_of (records ++ fields ∷ []) (rows ++ row ∷ [])
 ParseAs-more header row_of records rows fields row spell e =
-    map-append (row_under header row_of) records (fields ∷ []) ∙ rw (spell, e) (sym (map-append Some rows (row ∷ [])))
+    map_push (row_under header row_of) records fields ∙ rw (spell, e) (sym (map_push Some rows row))
 
 pub ParseAs-length : {Row : Type 0} (header : List (List ℕ)) (row_of : List (List ℕ) → Option Row) (records : List (List (List ℕ))) (rows : List Row)
     → ParseAs header row_of records rows → length records ≡ length rows
@@ -46,12 +48,8 @@ handed-on (Err e) P Q why h q = rw h q
 
 map-Some : {A : Type 0} (xs ys : List A) → map Some xs ≡ map Some ys → xs ≡ ys
 map-Some [] [] e = refl
-map-Some [] (y ∷ ys) e = cc e
-map-Some (x ∷ xs) [] e = cc e
-map-Some (x ∷ xs) (y ∷ ys) e =
-    let first : x ≡ y = cc e in
-    let rest : map Some xs ≡ map Some ys = cc e in
-    rw (first, map-Some xs ys rest) refl
+map-Some (x ∷ xs) (y ∷ ys) e = let rest = map-Some xs ys (cc e) in cc (e, rest)
+map-Some xs ys e = cc e
 
 -- the rows of a body are determined by it
 pub rows-unique : {Row : Type 0} (header : List (List ℕ)) (row_of : List (List ℕ) → Option Row) (body : List ℕ) (rows others : List Row)
@@ -61,34 +59,22 @@ rows-unique header row_of body rows others a b =
     let records : a.0 ≡ b.0 = cc same in
     map-Some rows others (sym a.2 ∙ rw records b.2)
 
--- a record that is no row isn't among records that are rows
-none-among : {A Row : Type 0} (f : A → Option Row) (front : List A) (bad : A) (rest : List A) (rows : List Row) → map f (front ++ bad ∷ rest) ≡ map Some rows → f bad ≡ None → ⊥
-none-among f [] bad rest [] e none = cc e
-none-among f [] bad rest (row ∷ rows) e none = let some : f bad ≡ Some row = cc e in cc (some, none)
-none-among f (x ∷ front) bad rest [] e none = cc e
-none-among f (x ∷ front) bad rest (row ∷ rows) e none = none-among f front bad rest rows (let more : map f (front ++ bad ∷ rest) ≡ map Some rows = cc e in more) none
+module _ {A Row : Type 0} (f : A → Option Row) where
+  -- how many records are rows before the first that is none
+  abbrev rows_before : List A → ℕ
+  rows_before records = prefix_len (λ record_. is_some (f record_)) records
 
--- the first record that is no row has one position
-first-none : {A Row : Type 0} (f : A → Option Row) (front other : List A) (bad worse : A) (rest more : List A) (rows others : List Row)
-    → front ++ bad ∷ rest ≡ other ++ worse ∷ more → map f front ≡ map Some rows → map f other ≡ map Some others → f bad ≡ None → f worse ≡ None → length front ≡ length other
-first-none f [] [] bad worse rest more rows others e a b none nothing = refl
-first-none f [] (y ∷ other) bad worse rest more rows [] e a b none nothing = cc b
-first-none f [] (y ∷ other) bad worse rest more rows (row ∷ others) e a b none nothing =
-    let same : bad ≡ y = cc e in
-    let some : f y ≡ Some row = cc b in
-    cc (some, rw same at none)
-first-none f (x ∷ front) [] bad worse rest more [] others e a b none nothing = cc a
-first-none f (x ∷ front) [] bad worse rest more (row ∷ rows) others e a b none nothing =
-    let same : x ≡ worse = cc e in
-    let some : f x ≡ Some row = cc a in
-    cc (rw same at some, nothing)
-first-none f (x ∷ front) (y ∷ other) bad worse rest more [] others e a b none nothing = cc a
-first-none f (x ∷ front) (y ∷ other) bad worse rest more (row ∷ rows) [] e a b none nothing = cc b
-first-none f (x ∷ front) (y ∷ other) bad worse rest more (row ∷ rows) (row2 ∷ others) e a b none nothing =
-    let tails : front ++ bad ∷ rest ≡ other ++ worse ∷ more = cc e in
-    let left : map f front ≡ map Some rows = cc a in
-    let right : map f other ≡ map Some others = cc b in
-    ap suc (first-none f front other bad worse rest more rows others tails left right none nothing)
+  -- all of them, where all are rows
+  rows_before-all : (records : List A) (rows : List Row) → map f records ≡ map Some rows → rows_before records ≡ length records
+  rows_before-all [] rows e = refl
+  rows_before-all (x ∷ records) [] e = cc e
+  rows_before-all (x ∷ records) (row ∷ rows) e = let row_of : f x ≡ Some row = cc e in rw row_of (ap (λ n. 1 + n) (rows_before-all records rows (cc e)) ∙ omega arith)
+
+  -- those in front of a record that is none
+  rows_before-none : (front : List A) (bad : A) (rest : List A) (rows : List Row) → map f front ≡ map Some rows → f bad ≡ None → rows_before (front ++ bad ∷ rest) ≡ length front
+  rows_before-none [] bad rest rows e none = rw none refl
+  rows_before-none (x ∷ front) bad rest [] e none = cc e
+  rows_before-none (x ∷ front) bad rest (row ∷ rows) e none = let row_of : f x ≡ Some row = cc e in rw row_of (ap (λ n. 1 + n) (rows_before-none front bad rest rows (cc e) none) ∙ omega arith)
 
 -- a body with rows has no error but that memory runs out
 pub rows-exclude_errors : {Row : Type 0} (header : List (List ℕ)) (row_of : List (List ℕ) → Option Row) (body : List ℕ) (rows : List Row) (why : BodyError)
@@ -98,20 +84,21 @@ rows-exclude_errors header row_of body rows error.BadHeader a h = absurd (h (rw 
 rows-exclude_errors header row_of body rows (error.BadRow position) a h =
     let same : header ∷ a.0 ≡ header ∷ (h.0 ++ h.1 ∷ h.2) = sym a.1 ∙ h.4 in
     let records : a.0 ≡ h.0 ++ h.1 ∷ h.2 = cc same in
-    absurd (none-among (row_under header row_of) h.0 h.1 h.2 rows (rw records at a.2) h.6)
+    let all = rows_before-all (row_under header row_of) (h.0 ++ h.1 ∷ h.2) rows (rw records at a.2) in
+    let some = rows_before-none (row_under header row_of) h.0 h.1 h.2 h.3 h.5 h.6 in
+    absurd (omega (arith, length-append h.0 (h.1 ∷ h.2)))
 
 -- a body has one error at most, beside that memory runs out
 pub errors-unique : {Row : Type 0} (header : List (List ℕ)) (row_of : List (List ℕ) → Option Row) (body : List ℕ) (why other : BodyError)
     → IsBodyError header row_of body why → IsBodyError header row_of body other → why ≢ error.Memory → other ≢ error.Memory → why ≡ other
-errors-unique header row_of body error.Memory other a b m n = absurd (m refl)
-errors-unique header row_of body error.BadHeader error.Memory a b m n = absurd (n refl)
 errors-unique header row_of body error.BadHeader error.BadHeader a b m n = refl
 errors-unique header row_of body error.BadHeader (error.BadRow position) a b m n = absurd (a (rw b.4 refl))
-errors-unique header row_of body (error.BadRow position) error.Memory a b m n = absurd (n refl)
 errors-unique header row_of body (error.BadRow position) error.BadHeader a b m n = absurd (b (rw a.4 refl))
 errors-unique header row_of body (error.BadRow position) (error.BadRow later) a b m n =
     let same : header ∷ (a.0 ++ a.1 ∷ a.2) ≡ header ∷ (b.0 ++ b.1 ∷ b.2) = sym a.4 ∙ b.4 in
     let records : a.0 ++ a.1 ∷ a.2 ≡ b.0 ++ b.1 ∷ b.2 = cc same in
-    let places = first-none (row_under header row_of) a.0 b.0 a.1 b.1 a.2 b.2 a.3 b.3 records a.5 b.5 a.6 b.6 in
-    let one : position ≡ later = a.7 ∙ ap suc places ∙ sym b.7 in
-    rw one refl
+    let one = rows_before-none (row_under header row_of) a.0 a.1 a.2 a.3 a.5 a.6 in
+    let other = rows_before-none (row_under header row_of) b.0 b.1 b.2 b.3 b.5 b.6 in
+    ap error.BadRow (a.7 ∙ ap suc (sym one ∙ ap (rows_before (row_under header row_of)) records ∙ other) ∙ sym b.7)
+errors-unique header row_of body error.Memory other a b m n = absurd (m refl)
+errors-unique header row_of body why error.Memory a b m n = absurd (n refl)

@@ -1,7 +1,7 @@
 -- Fields that need no quotes, and the text of their record.
-use Rattle.std.proofs.Common.{Some, length-append, ◌≡◌, ◌&&◌, ◌∙◌, ◌<◌, ◌++◌, ◌∷◌, [], ℕ, zero, suc, take, List, Bool, true, false, not, length, refl, sym, ap, arith, append-nil}
+use Rattle.std.proofs.Common.{Some, length-append, ◌≡◌, ◌∙◌, ◌<◌, ◌++◌, ◌∷◌, [], ℕ, zero, suc, take, List, false, length, refl, sym, ap, arith, append-nil}
 use Rattle.std.specs.List.{list_all, join_with_byte}
-use Rattle.std.proofs.lemmas.Bool.{ne_eqb}
+use Rattle.std.proofs.lemmas.Bool.{and_parts, ne_eqb, not-true}
 use Rattle.std.proofs.lemmas.Grind.{flat_map-append}
 use Rattle.csv.specs.Writing.{default_writer, field_text, fields_text, is_blank, needs_byte, needs_quotes, row_text}
 use Rattle.csv.specs.Machine.{next_record}
@@ -11,30 +11,17 @@ use Rattle.csv.specs.declared.parser.State.TheVariants as st
 use Rattle.csv.proofs.RoundTrip.{read-write}
 use Rattle.resil_input.specs.CsvTable.{ArePlain, IsPlain, is_plain, record_text, table_text}
 
-and-left : (a b : Bool) → (a && b) ≡ true → a ≡ true
-and-left true b e = refl
-and-left false b e = cc e
-
-and-right : (a b : Bool) → (a && b) ≡ true → b ≡ true
-and-right true b e = e
-and-right false b e = cc e
-
-not-true : (a : Bool) → not a ≡ true → a ≡ false
-not-true true e = cc e
-not-true false e = refl
-
 -- a plain field is written as it is
 field_text-plain : (field : List ℕ) → IsPlain field → field_text default_writer field ≡ field
-field_text-plain field plain = let none = not-true (needs_quotes default_writer field) plain in rw none refl
+field_text-plain field plain = rw (not-true (needs_quotes default_writer field) plain) refl
 
 -- plain fields with commas between them
 fields_text-plain : (field : List ℕ) (rest : List (List ℕ)) → ArePlain rest → field ++ fields_text default_writer rest ≡ join_with_byte 44 (field ∷ rest)
 unfolding fields_text
 fields_text-plain field [] plain = append-nil field
 fields_text-plain field (next ∷ rest) plain =
-    let here = field_text-plain next (and-left (is_plain next) (list_all is_plain rest) plain) in
-    let later = fields_text-plain next rest (and-right (is_plain next) (list_all is_plain rest) plain) in
-    ap (λ (t : List ℕ). field ++ 44 ∷ t) (rw here later)
+    let (here, later) = and_parts (is_plain next) (list_all is_plain rest) plain in
+    ap (λ (t : List ℕ). field ++ 44 ∷ t) (rw (field_text-plain next here) (fields_text-plain next rest later))
 
 -- the record of plain fields
 pub row_text-plain : (fields : List (List ℕ)) → 1 < length fields → ArePlain fields → row_text default_writer fields ≡ record_text fields
@@ -42,9 +29,8 @@ unfolding is_blank
 row_text-plain [] several plain = absurd (omega arith)
 row_text-plain (field ∷ []) several plain = absurd (omega arith)
 row_text-plain (field ∷ next ∷ rest) several plain =
-    let here = field_text-plain field (and-left (is_plain field) (list_all is_plain (next ∷ rest)) plain) in
-    let whole = fields_text-plain field (next ∷ rest) (and-right (is_plain field) (list_all is_plain (next ∷ rest)) plain) in
-    ap (λ (t : List ℕ). t ++ 10 ∷ []) (rw here whole)
+    let (here, later) = and_parts (is_plain field) (list_all is_plain (next ∷ rest)) plain in
+    ap (λ (t : List ℕ). t ++ 10 ∷ []) (rw (field_text-plain field here) (fields_text-plain field (next ∷ rest) later))
 
 -- a digit needs no quotes
 pub needs_byte-digit : (b : ℕ) → 47 < b → needs_byte default_writer b ≡ false
@@ -56,9 +42,8 @@ pub ArePlain-take : (n : ℕ) (fields : List (List ℕ)) → ArePlain fields →
 ArePlain-take zero fields plain = refl
 ArePlain-take (suc n) [] plain = refl
 ArePlain-take (suc n) (field ∷ rest) plain =
-    let here = and-left (is_plain field) (list_all is_plain rest) plain in
-    let later = ArePlain-take n rest (and-right (is_plain field) (list_all is_plain rest) plain) in
-    rw (here, later) refl
+    let (here, later) = and_parts (is_plain field) (list_all is_plain rest) plain in
+    rw (here, ArePlain-take n rest later) refl
 
 -- ---- No two tables of plain records have the same text.
 

@@ -1,5 +1,5 @@
 -- The fields of a run: its outcome, its calls, its waits, and the bulkheads that it asked for a permit, with their answers.
-use Rattle.std.specs.Prelude.{ℕ, ◌==◌, ◌∷◌, ◌++◌, [], Bool, true, false, List, if◌then◌else◌, codes, map}
+use Rattle.std.specs.Prelude.{ℕ, ◌∷◌, ◌++◌, [], Bool, true, false, List, codes, map}
 use Rattle.std.specs.Fmt.{decimal}
 use Rattle.std.specs.List.{join_with_byte}
 use Rattle.resil_decor.specs.declared.permitter.Asked.{Asked}
@@ -9,10 +9,6 @@ use Rattle.resil_input.specs.OutcomeText.{outcome_text}
 -- items with semicolons (59) between them, empty where there are none
 abbrev pub items_text : List (List ℕ) → List ℕ
 items_text items = join_with_byte 59 items
-
--- the text of `count` items, and one more item after it
-abbrev pub with_item : List ℕ → ℕ → List ℕ → List ℕ
-with_item items count item = if count == 0 then items ++ item else items ++ 59 ∷ item
 
 -- waits, each a decimal number of milliseconds
 abbrev pub waits_text : List ℕ → List ℕ

@@ -10,6 +10,7 @@ ghost use Rattle.resil_input.specs.declared.csv_rows.BodyError.TheVariants.{Memo
 ghost use Rattle.resil_input.specs.CsvRows.{IsBody, IsBodyError, records_of, RowsUnique, RowsExcludeErrors, ErrorsUnique};
 ghost use Rattle.resil_input.specs.ReaderState.{IsBetweenRecords, IsInBody, GivesNext, ReadsHeader, ReadsRow, records_left};
 
+use crate::fields::{field_at, is_text};
 use csv::{ByteRecord, ErrorKind, Reader, ReaderBuilder};
 use std::alloc::{AllocError, AllocFailed, Global};
 use thiserror::Error;
@@ -77,10 +78,7 @@ pub fn has_fields(fields: &ByteRecord, names: &[&str]) -> bool
         return false;
     }
     for (index, name) in names.iter().enumerate() {
-        let Some(field) = fields.get(index) else {
-            return false;
-        };
-        if field != name.as_bytes() {
+        if !is_text(field_at(fields, index), name) {
             return false;
         }
     }

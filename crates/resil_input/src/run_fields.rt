@@ -4,11 +4,11 @@
 //! Waits and answers are items with semicolons between them, and a field without items is empty. No
 //! item has a comma, a quote or a line end in it, so such a field never needs quotes.
 
-ghost use Rattle.std.specs.Prelude.{String, ◌≡◌, map, OnOk};
+ghost use Rattle.std.specs.Prelude.{String, ◌≡◌, ◌++◌, map, OnOk};
 ghost use Rattle.std.specs.Fmt.{decimal};
 ghost use Rattle.std.specs.String.{string_bytes};
 ghost use Rattle.resil_input.specs.OutcomeText.{outcome_text};
-ghost use Rattle.resil_input.specs.RunFields.{asked_item, asked_text, run_fields, waits_text, with_item};
+ghost use Rattle.resil_input.specs.RunFields.{asked_item, items_text, run_fields};
 
 use crate::outcome_text::push_outcome;
 use itoa::Buffer;
@@ -58,8 +58,8 @@ impl RunTexts {
         let mut digits = Buffer::new();
         self.calls.clear();
         self.calls.push_str(digits.format(run.calls()))?;
-        write_waits(&mut self.waits, run.waits())?;
-        write_asked(&mut self.asked, run.asked())
+        write_items(&mut self.waits, run.waits())?;
+        write_items(&mut self.asked, run.asked())
     }
 
     /// The texts: the outcome, the calls, the waits, and the bulkheads that were asked.
@@ -75,47 +75,53 @@ impl RunTexts {
     }
 }
 
-// Adds an item after `count` items. Errors: `AllocError` where memory runs out.
-fn push_item(items: &mut String, count: usize, item: &str) -> Result<(), AllocError>
-    ensures { OnOk result (string_bytes items.new ≡ with_item (string_bytes items.old) count item.now) }
-{
-    if count > 0 {
-        items.push(';')?;
-    }
-    items.push_str(item)
+// What a field may have several of.
+trait Item: Copy {
+    ghost use Rattle.std.specs.Prelude.{ℕ, List};
+
+    // The text of an item.
+    ghost text_of: { Self → List ℕ };
+
+    // Adds the text of the item. Errors: `AllocError` where memory runs out.
+    fn push(self, text: &mut String) -> Result<(), AllocError>
+        ensures { OnOk result (string_bytes text.new ≡ string_bytes text.old ++ text_of self) };
 }
 
-// Writes the text of waits, in milliseconds, in place of what was there. Errors: `AllocError` where
-// memory runs out.
-fn write_waits(text: &mut String, waits: &[u64]) -> Result<(), AllocError>
-    ensures { OnOk result (string_bytes text.new ≡ waits_text waits.now) }
-{
-    text.clear();
-    for (count, wait) in waits.iter().enumerate() {
+// A wait, in milliseconds.
+impl Item for u64 {
+    ghost text_of = { decimal };
+
+    fn push(self, text: &mut String) -> Result<(), AllocError> {
         let mut digits = Buffer::new();
-        push_item(text, count, digits.format(*wait))?;
+        text.push_str(digits.format(self))
     }
-    Ok(())
 }
 
-// Adds one answer after `count` of them: the bulkhead's id, and `y` where it granted a permit, else
-// `n`. Errors: `AllocError` where memory runs out.
-fn push_asked(items: &mut String, count: usize, asked: Asked) -> Result<(), AllocError>
-    ensures { OnOk result (string_bytes items.new ≡ with_item (string_bytes items.old) count (asked_item asked)) }
-{
-    let mut digits = Buffer::new();
-    push_item(items, count, digits.format(asked.id))?;
-    items.push_str(if asked.granted { "y" } else { "n" })
+// The id of a bulkhead that was asked for a permit, and `y` where it granted one, else `n`.
+impl Item for Asked {
+    ghost text_of = { asked_item };
+
+    fn push(self, text: &mut String) -> Result<(), AllocError> {
+        let mut digits = Buffer::new();
+        text.push_str(digits.format(self.id))?;
+        text.push_str(if self.granted { "y" } else { "n" })
+    }
 }
 
-// Writes the text of the bulkheads that were asked for a permit, each with its answer, in place of
-// what was there. Errors: `AllocError` where memory runs out.
-fn write_asked(text: &mut String, asked: &[Asked]) -> Result<(), AllocError>
-    ensures { OnOk result (string_bytes text.new ≡ asked_text asked.now) }
+// Writes items, with semicolons between them, in place of what was there. Errors: `AllocError` where
+// memory runs out.
+#[tactic(auto, using(crate::proofs::PlainLaws::items_text_flat))]
+fn write_items<I: Item>(text: &mut String, items: &[I]) -> Result<(), AllocError>
+    ensures { OnOk result (string_bytes text.new ≡ items_text (map I.text_of items.now)) }
 {
     text.clear();
-    for (count, answer) in asked.iter().enumerate() {
-        push_asked(text, count, *answer)?;
+    let Some((first, rest)) = items.split_first() else {
+        return Ok(());
+    };
+    first.push(text)?;
+    for item in rest {
+        text.push(';')?;
+        item.push(text)?;
     }
     Ok(())
 }
