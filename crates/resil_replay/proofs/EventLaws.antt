@@ -1,26 +1,21 @@
 -- The text of a history is read as that history.
-use Rattle.std.proofs.Common.{◌≡◌, ◌^◌, ◌∙◌, ◌∷◌, ◌++◌, ℕ, zero, suc, List, [], Some, map, length, refl, ap, add-one, arith}
+use Rattle.std.proofs.Common.{◌≡◌, ◌^◌, ◌∷◌, zero, suc, List, [], Some, map, length, refl, add-one, arith}
 use Rattle.std.specs.List.{All}
 use Rattle.std.specs.Fmt.{decimal}
-use Rattle.csv.specs.Machine.{next_record}
-use Rattle.csv.specs.Reading.{default_config, records_from, strip_bom}
-use Rattle.csv.specs.declared.parser.State.TheVariants as st
+use Rattle.csv.specs.Reading.{strip_bom}
 use Rattle.resil_rule.specs.declared.event.Id.{Id}
 use Rattle.resil_rule.specs.declared.event.Reply.{Reply}
 use Rattle.resil_rule.specs.declared.event.Reply.TheVariants.{Core}
 use Rattle.resil_rule.specs.declared.event.Event.{Event}
-use Rattle.resil_rule.specs.declared.event.Event.TheVariants.{Submit, Take, Finish, Resized}
+use Rattle.resil_rule.specs.declared.event.Event.TheVariants.{Resized}
 use Rattle.resil_replay.specs.Id.{parse_id}
 use Rattle.resil_replay.specs.Events.{parse_event, parse_reply, HistoriesRoundTrip}
 use Rattle.resil_replay.specs.declared.history.Version.{Version}
 use Rattle.resil_replay.specs.declared.history.Version.TheVariants.{One, Two}
 use Rattle.resil_replay.specs.History.{FitsEvent, FitsId, record_fields, reply_name, history_header, history_text}
 use Rattle.resil_input.specs.CsvRows.{IsBody, ParseAs, records_of, row_under}
-use Rattle.resil_input.specs.CsvTable.{record_text}
 use Rattle.resil_input.proofs.NumberLaws.{below-round_trip}
-use Rattle.resil_input.proofs.RecordLaws.{records_from-next, records_from-end}
-use Rattle.resil_input.proofs.TableLaws.{record-read}
-use Rattle.resil_replay.proofs.HistoryLaws.{ArePlain-history_header, ArePlain-record_fields, events_text, several-history_header, several-record_fields}
+use Rattle.resil_replay.proofs.HistoryLaws.{text-records}
 use Rattle.resil_replay.proofs.SizeLaws.{sizes-read}
 use Rattle.resil_replay.proofs.VersionLaws.{versions-unique}
 
@@ -35,40 +30,14 @@ reply-read Core = refl
 reply-read reply = refl
 
 event-read : (version : Version) (event : Event) → FitsEvent 1 version event → row_under (history_header version) parse_event (record_fields version event) ≡ Some event
-event-read One (Submit id reply) named = rw (id-read id named, reply-read reply) refl
-event-read Two (Submit id reply) named = rw (id-read id named, reply-read reply) refl
-event-read One (Take id) named = rw (id-read id named) refl
-event-read Two (Take id) named = rw (id-read id named) refl
-event-read One (Finish id) named = rw (id-read id named) refl
-event-read Two (Finish id) named = rw (id-read id named) refl
 event-read One (Resized core max) named = absurd named
 event-read Two (Resized core max) named = rw (sizes-read core max named.0 named.1) refl
-event-read One event named = refl
-event-read Two event named = refl
+event-read version event named = first_of (simp (id-read, reply-read), cc)
 
-module _ (version : Version) where
-  events-parse : (history : List Event) → All (FitsEvent 1 version) history → ParseAs (history_header version) parse_event (map (record_fields version) history) history
-  events-parse [] named = refl
-  events-parse (event ∷ history) named =
-      let here = event-read version event (named zero event (omega arith)) in
-      let later = events-parse history (λ k d lt. named (suc k) d (omega arith)) in
-      rw (here, later) refl
-
-  events-records : (events : List Event) → records_from default_config (suc (length (events_text version events))) st.StartRecord (events_text version events) ≡ map (record_fields version) events
-  unfolding next_record
-  events-records [] = records_from-end 0 st.StartRecord [] refl
-  events-records (event ∷ events) =
-      let fields = record_fields version event in
-      let read = record-read fields (events_text version events) (several-record_fields version event) (ArePlain-record_fields version event) in
-      let first = records_from-next st.StartRecord st.StartRecord (record_text fields ++ events_text version events) (events_text version events) fields refl read in
-      first.0 ∙ ap (λ (t : List (List (List ℕ))). fields ∷ t) (events-records events)
-
-  text-records : (history : List Event) → records_from default_config (suc (length (history_text version history))) st.StartRecord (history_text version history) ≡ history_header version ∷ map (record_fields version) history
-  text-records history =
-      let header = history_header version in
-      let read = record-read header (events_text version history) (several-history_header version) (ArePlain-history_header version) in
-      let first = records_from-next st.StartRecord st.StartRecord (record_text header ++ events_text version history) (events_text version history) header refl read in
-      first.0 ∙ ap (λ (t : List (List (List ℕ))). header ∷ t) (events-records history)
+events-parse : (version : Version) (history : List Event) → All (FitsEvent 1 version) history → ParseAs (history_header version) parse_event (map (record_fields version) history) history
+events-parse version [] named = refl
+events-parse version (event ∷ history) named =
+    rw (event-read version event (named zero event (omega arith)), events-parse version history (λ k d lt. named (suc k) d (omega arith))) refl
 
 -- no header begins with a byte order mark
 header-records : (version : Version) (history : List Event) → records_of (history_text version history) ≡ history_header version ∷ map (record_fields version) history

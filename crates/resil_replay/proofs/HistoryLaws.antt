@@ -1,9 +1,11 @@
 -- No two histories have the same text.
-use Rattle.std.proofs.Common.{codes, get_or, sum, zero, suc, map, ◌≡◌, ◌<◌, ◌≤◌, ◌∷◌, [], ℕ, List, length, refl, sym, ap, arith}
+use Rattle.std.proofs.Common.{codes, get_or, sum, zero, suc, map, take, ◌≡◌, ◌<◌, ◌∷◌, ◌++◌, ◌∙◌, [], ℕ, List, length, refl, sym, ap, arith}
 use Rattle.std.specs.List.{All, flat_map}
 use Rattle.std.specs.Fmt.{decimal}
 use Rattle.std.proofs.lemmas.Fmt.{decimal_injective}
-use Rattle.std.proofs.lemmas.List.{length-take-le}
+use Rattle.csv.specs.Machine.{next_record}
+use Rattle.csv.specs.Reading.{default_config, records_from}
+use Rattle.csv.specs.declared.parser.State.TheVariants as st
 use Rattle.resil_rule.specs.declared.event.Id.{Id}
 use Rattle.resil_rule.specs.declared.event.Reply.{Reply}
 use Rattle.resil_rule.specs.declared.event.Reply.TheVariants.{Core, Queued, Extra, Full, Closed}
@@ -12,9 +14,10 @@ use Rattle.resil_rule.specs.declared.event.Event.TheVariants.{Submit, Take, Fini
 use Rattle.resil_input.specs.CsvTable.{ArePlain, IsPlain, record_text}
 use Rattle.resil_replay.specs.declared.history.Version.{Version}
 use Rattle.resil_replay.specs.declared.history.Version.TheVariants.{One, Two}
-use Rattle.resil_replay.specs.History.{FitsEvent, FitsId, HistoryTextInjective, columns_of, event_fields, history_header, job_fields, record_fields, reply_name}
+use Rattle.resil_replay.specs.History.{FitsEvent, FitsId, HistoryTextInjective, history_text, columns_of, event_fields, history_header, job_fields, record_fields, reply_name}
 use Rattle.resil_input.proofs.PlainLaws.{IsPlain-number}
-use Rattle.resil_input.proofs.TableLaws.{ArePlain-take, same-record, not-empty}
+use Rattle.resil_input.proofs.RecordLaws.{records_from-end, records_from-next}
+use Rattle.resil_input.proofs.TableLaws.{ArePlain-take, record-read}
 
 IsPlain-reply_name : (reply : Reply) → IsPlain (reply_name reply)
 IsPlain-reply_name Core = refl
@@ -32,23 +35,13 @@ ArePlain-event_fields Close = refl
 ArePlain-event_fields (Resized core max) = rw (IsPlain-number core, IsPlain-number max) refl
 
 -- fields of which none needs quotes, in the columns of a version
-pub ArePlain-record_fields : (version : Version) (event : Event) → ArePlain (record_fields version event)
+ArePlain-record_fields : (version : Version) (event : Event) → ArePlain (record_fields version event)
 ArePlain-record_fields version event = ArePlain-take (columns_of version) (event_fields event) (ArePlain-event_fields event)
 
-six-event_fields : (event : Event) → length (event_fields event) ≡ 6
-six-event_fields (Submit id reply) = refl
-six-event_fields event = refl
-
-columns-range : (version : Version) → (1 < columns_of version) × (columns_of version ≤ 6)
-columns-range One = (omega arith, omega arith)
-columns-range Two = (omega arith, omega arith)
-
--- a record has as many fields as its version has columns
-pub length-record_fields : (version : Version) (event : Event) → length (record_fields version event) ≡ columns_of version
-length-record_fields version event = length-take-le (columns_of version) (event_fields event) (omega (arith, columns-range version, six-event_fields event))
-
-pub several-record_fields : (version : Version) (event : Event) → 1 < length (record_fields version event)
-several-record_fields version event = omega (arith, columns-range version, length-record_fields version event)
+several-record_fields : (version : Version) (event : Event) → 1 < length (record_fields version event)
+several-record_fields One (Submit id reply) = omega arith
+several-record_fields Two (Submit id reply) = omega arith
+several-record_fields version event = omega arith
 
 same-reply : (one other : Reply) → reply_name one ≡ reply_name other → one ≡ other
 same-reply Core Core e = refl
@@ -70,52 +63,70 @@ same-sizes core max core' max' fits fits' cores maxes =
     let second = decimal_injective max max' (omega (arith, fits.1)) (omega (arith, fits'.1)) maxes in
     λ i. Resized (first i) (second i)
 
+same-job : (version : Version) (name : List ℕ) (id id' : Id) (reply reply' : List ℕ) → FitsId 0 id → FitsId 0 id'
+    → take (columns_of version) (job_fields name id reply) ≡ take (columns_of version) (job_fields name id' reply') → (id ≡ id') × (reply ≡ reply')
+same-job One name id id' reply reply' fits fits' e = (same-id id id' fits fits' (cc e) (cc e), cc e)
+same-job Two name id id' reply reply' fits fits' e = (same-id id id' fits fits' (cc e) (cc e), cc e)
+
 same-event : (version : Version) (one other : Event) → FitsEvent 0 version one → FitsEvent 0 version other → record_fields version one ≡ record_fields version other → one ≡ other
-same-event One (Submit id reply) (Submit id' reply') fits fits' e =
-    let ids = same-id id id' fits fits' (cc e) (cc e) in
-    let replies = same-reply reply reply' (cc e) in
+same-event version (Submit id reply) (Submit id' reply') fits fits' e =
+    let (ids, names) = same-job version (codes "submit") id id' (reply_name reply) (reply_name reply') fits fits' e in
+    let replies = same-reply reply reply' names in
     cc
-same-event Two (Submit id reply) (Submit id' reply') fits fits' e =
-    let ids = same-id id id' fits fits' (cc e) (cc e) in
-    let replies = same-reply reply reply' (cc e) in
-    cc
-same-event One (Take id) (Take id') fits fits' e = ap Take (same-id id id' fits fits' (cc e) (cc e))
-same-event Two (Take id) (Take id') fits fits' e = ap Take (same-id id id' fits fits' (cc e) (cc e))
-same-event One (Finish id) (Finish id') fits fits' e = ap Finish (same-id id id' fits fits' (cc e) (cc e))
-same-event Two (Finish id) (Finish id') fits fits' e = ap Finish (same-id id id' fits fits' (cc e) (cc e))
+same-event version (Take id) (Take id') fits fits' e = ap Take (same-job version (codes "take") id id' [] [] fits fits' e).0
+same-event version (Finish id) (Finish id') fits fits' e = ap Finish (same-job version (codes "finish") id id' [] [] fits fits' e).0
 same-event version IdleEnd IdleEnd fits fits' e = refl
 same-event version Close Close fits fits' e = refl
 same-event One (Resized core max) (Resized core' max') fits fits' e = absurd fits
 same-event Two (Resized core max) (Resized core' max') fits fits' e = same-sizes core max core' max' fits fits' (cc e) (cc e)
-same-event version one other fits fits' e = absurd (omega (arith, ap (λ (fields : List (List ℕ)). get_or (get_or fields 0 []) 0 0) e))
+same-event One one other fits fits' e = absurd (omega (arith, ap (λ (fields : List (List ℕ)). get_or (get_or fields 0 []) 0 0) e))
+same-event Two one other fits fits' e = absurd (omega (arith, ap (λ (fields : List (List ℕ)). get_or (get_or fields 0 []) 0 0) e))
 
-abbrev pub events_text : Version → List Event → List ℕ
+abbrev events_text : Version → List Event → List ℕ
 events_text version events = flat_map record_text (map (record_fields version) events)
 
-same-events : (version : Version) (one other : List Event) → All (FitsEvent 0 version) one → All (FitsEvent 0 version) other → events_text version one ≡ events_text version other → one ≡ other
-same-events version [] [] fits fits' e = refl
-same-events version [] (y ∷ ys) fits fits' e = absurd (not-empty (record_fields version y) (events_text version ys) e)
-same-events version (x ∷ xs) [] fits fits' e = absurd (not-empty (record_fields version x) (events_text version xs) (sym e))
-same-events version (x ∷ xs) (y ∷ ys) fits fits' e =
-    let first = fits zero x (omega arith) in
-    let first' = fits' zero y (omega arith) in
-    let both = same-record (record_fields version x) (record_fields version y) (events_text version xs) (events_text version ys)
-    (several-record_fields version x) (several-record_fields version y) (ArePlain-record_fields version x) (ArePlain-record_fields version y) e in
-    let event = same-event version x y first first' both.0 in
-    let events = same-events version xs ys (λ k d lt. fits (suc k) d (omega arith)) (λ k d lt. fits' (suc k) d (omega arith)) both.1 in
-    cc
-
 -- the header of a version
-pub several-history_header : (version : Version) → 1 < length (history_header version)
+several-history_header : (version : Version) → 1 < length (history_header version)
 several-history_header One = omega arith
 several-history_header Two = omega arith
 
-pub ArePlain-history_header : (version : Version) → ArePlain (history_header version)
+ArePlain-history_header : (version : Version) → ArePlain (history_header version)
 ArePlain-history_header One = refl
 ArePlain-history_header Two = refl
 
+-- the records that `csv` reads in a text
+abbrev pub read_records : List ℕ → List (List (List ℕ))
+read_records text = records_from default_config (suc (length text)) st.StartRecord text
+
+-- the record of plain fields is the first of a text that begins with it
+record-first : (fields : List (List ℕ)) (rest : List ℕ) → 1 < length fields → ArePlain fields → read_records (record_text fields ++ rest) ≡ fields ∷ read_records rest
+record-first fields rest several plain =
+    (records_from-next st.StartRecord st.StartRecord (record_text fields ++ rest) rest fields refl (record-read fields rest several plain)).0
+
+module _ (version : Version) where
+  events-records : (events : List Event) → read_records (events_text version events) ≡ map (record_fields version) events
+  unfolding next_record
+  events-records [] = records_from-end 0 st.StartRecord [] refl
+  events-records (event ∷ events) =
+      record-first (record_fields version event) (events_text version events) (several-record_fields version event) (ArePlain-record_fields version event)
+      ∙ ap (λ (t : List (List (List ℕ))). record_fields version event ∷ t) (events-records events)
+
+  -- the records of the text of a history
+  pub text-records : (history : List Event) → read_records (history_text version history) ≡ history_header version ∷ map (record_fields version) history
+  text-records history =
+      record-first (history_header version) (events_text version history) (several-history_header version) (ArePlain-history_header version)
+      ∙ ap (λ (t : List (List (List ℕ))). history_header version ∷ t) (events-records history)
+
+  same-events : (one other : List Event) → All (FitsEvent 0 version) one → All (FitsEvent 0 version) other → map (record_fields version) one ≡ map (record_fields version) other → one ≡ other
+  same-events [] [] fits fits' e = refl
+  same-events (x ∷ xs) (y ∷ ys) fits fits' e =
+      let event = same-event version x y (fits zero x (omega arith)) (fits' zero y (omega arith)) (cc e) in
+      let events = same-events xs ys (λ k d lt. fits (suc k) d (omega arith)) (λ k d lt. fits' (suc k) d (omega arith)) (cc e) in
+      cc
+  same-events one other fits fits' e = cc e
+
 pub history_text-injective : HistoryTextInjective
 history_text-injective version one other fits fits' e =
-    same-events version one other fits fits'
-    (same-record (history_header version) (history_header version) (events_text version one) (events_text version other)
-    (several-history_header version) (several-history_header version) (ArePlain-history_header version) (ArePlain-history_header version) e).1
+    let records : history_header version ∷ map (record_fields version) one ≡ history_header version ∷ map (record_fields version) other =
+    sym (text-records version one) ∙ ap read_records e ∙ text-records version other in
+    same-events version one other fits fits' (cc records)

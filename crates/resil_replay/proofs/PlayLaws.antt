@@ -1,7 +1,8 @@
 -- Rows and the events that they write, one after the other.
-use Rattle.std.proofs.Common.{◌≡◌, ◌<◌, ◌≤◌, ◌+◌, ◌∷◌, [], ◌++◌, ◌∙◌, ℕ, suc, Bool, true, false, ◌||◌, List, Some, length, map, refl, sym, ap, subst, arith, take, drop, drop-cons, get_or, append-nil, IsTrue}
+use Rattle.std.proofs.Common.{◌≡◌, ◌<◌, ◌≤◌, ◌+◌, ◌∷◌, [], ◌++◌, ◌∙◌, ℕ, suc, Bool, true, false, ◌||◌, List, length, map, refl, sym, ap, subst, arith, take, drop, drop-cons, get_or, append-nil, IsTrue, inl, inr}
 use Rattle.std.specs.Bool.{OnTrue, OnFalse}
 use Rattle.std.specs.List.{list_any}
+use Rattle.std.proofs.lemmas.Bool.{true_from_ne_false}
 use Rattle.std.proofs.lemmas.List.{map-append, take_more, take-append-drop, length-take-le}
 use Rattle.std.proofs.lemmas.List.Folds.{list_any-append}
 use Rattle.resil_rule.specs.Limits.{Sizes}
@@ -16,17 +17,13 @@ use Rattle.resil_replay.specs.declared.pool.RowError.{RowError}
 use Rattle.resil_replay.specs.declared.pool.RowError.TheVariants as row_error
 use Rattle.resil_replay.specs.declared.play.ReplayError.TheVariants as error
 use Rattle.resil_replay.specs.Play.{IsRowRefusal, IsRowError, IsReplayError, error_at_row, row_of_event, drop_repeated_closings, is_closing, IsHistoryOf}
-use Rattle.resil_replay.specs.State.{HasReplayed}
+use Rattle.resil_replay.specs.State.{HasReplayed, IsCarriedOut}
 use Rattle.resil_replay.specs.declared.rows.ReplayRow.{ReplayRow}
 use Rattle.resil_replay.specs.declared.rows.ReplayRow.TheVariants as row
 
-or-false : (b : Bool) → b ≡ (b || false)
-or-false true = refl
-or-false false = refl
-
 -- one more row, after those that may have closed
 drop_repeated_closings-push : (c : Bool) (rows : List ReplayRow) (r : ReplayRow) → drop_repeated_closings c (rows ++ r ∷ []) ≡ drop_repeated_closings c rows ++ drop_repeated_closings (c || list_any is_closing rows) (r ∷ [])
-drop_repeated_closings-push c [] r = ap (λ b. drop_repeated_closings b (r ∷ [])) (or-false c)
+drop_repeated_closings-push c [] r = ap (λ b. drop_repeated_closings b (r ∷ [])) (grind arith)
 drop_repeated_closings-push true (row.Close ∷ rows) r = drop_repeated_closings-push true rows r
 drop_repeated_closings-push false (row.Close ∷ rows) r = ap (λ rs. row.Close ∷ rs) (drop_repeated_closings-push true rows r)
 drop_repeated_closings-push c (other ∷ rows) r = ap (λ rs. other ∷ rs) (drop_repeated_closings-push c rows r)
@@ -40,63 +37,46 @@ closing-row : (e : Event) → is_close e ≡ is_closing (row_of_event e)
 closing-row event.Close = refl
 closing-row e = refl
 
-module _ (limits : Sizes) (rows : List ReplayRow) (m n : MachineView) (played : HasReplayed limits rows m) (e : Event)
-    (same : n.limits ≡ m.limits) (grown : n.history ≡ m.history ++ e ∷ []) (allowed : IsAllowed m.limits m.history e)
-    (one : drop_repeated_closings (list_any is_closing rows) (row_of_event e ∷ []) ≡ row_of_event e ∷ []) where
-  -- one more event, and the row that writes it
-  pub played-push : HasReplayed limits (rows ++ row_of_event e ∷ []) n
-  played-push = record {
-    same_limits = same ∙ played.same_limits;
-    history = rw grown (legal-push limits m.history e played.history.0 (rw played.same_limits at allowed), rows-push m.history e rows played.history.1 one);
-    closed = rw grown (list_any-append is_close m.history (e ∷ []) ∙ rw (played.closed, closing-row e) (sym (list_any-append is_closing rows (row_of_event e ∷ []))));
-  }
+module _ (limits : Sizes) (rows : List ReplayRow) (m n : MachineView) (played : HasReplayed limits rows m) where
+  -- the row of an event that is allowed isn't a closing after another one
+  row-kept : (e : Event) → IsAllowed m.limits m.history e → drop_repeated_closings (list_any is_closing rows) (row_of_event e ∷ []) ≡ row_of_event e ∷ []
+  row-kept event.Close open_ = rw (sym played.closed ∙ open_) refl
+  row-kept e allowed = refl
 
--- a closing of a closed pool
-pub played-again : (limits : Sizes) (rows : List ReplayRow) (m : MachineView) → HasReplayed limits rows m → is_closed m.history ≡ true → HasReplayed limits (rows ++ row.Close ∷ []) m
-played-again limits rows m played closed =
-    let any : list_any is_closing rows ≡ true = sym played.closed ∙ closed in
-    record {
-      same_limits = played.same_limits;
-      history = (played.history.0, played.history.1 ∙ rw (drop_repeated_closings-push false rows row.Close, any, append-nil) refl);
-      closed = closed ∙ sym (list_any-append is_closing rows (row.Close ∷ []) ∙ rw any refl);
-    }
+  -- one more row
+  pub row-played : (r : ReplayRow) → IsCarriedOut r m n → HasReplayed limits (rows ++ r ∷ []) n
+  row-played r (inl (e, is, allowed, same, grown)) = rw (← is) (record {
+    same_limits = same ∙ played.same_limits;
+    history = rw grown (legal-push limits m.history e played.history.0 (rw played.same_limits at allowed), rows-push m.history e rows played.history.1 (row-kept e allowed));
+    closed = rw grown (list_any-append is_close m.history (e ∷ []) ∙ rw (played.closed, closing-row e) (sym (list_any-append is_closing rows (row_of_event e ∷ []))));
+  })
+  row-played r (inr (is, closed, same)) =
+      let any : list_any is_closing rows ≡ true = sym played.closed ∙ closed in
+      rw (is, same) (record {
+        same_limits = played.same_limits;
+        history = (played.history.0, played.history.1 ∙ rw (drop_repeated_closings-push false rows row.Close, any, append-nil) refl);
+        closed = closed ∙ sym (list_any-append is_closing rows (row.Close ∷ []) ∙ rw any refl);
+      })
 
 -- a pool on which rows were carried out, by its own limits
 pub replayed-own : (limits : Sizes) (rows : List ReplayRow) (m : MachineView) → HasReplayed limits rows m → HasReplayed m.limits rows m
 replayed-own limits rows m played = subst (λ (l : Sizes). HasReplayed l rows m) (sym played.same_limits) played
 
-not-open : (b : Bool) → (b ≡ false → IsTrue false) → b ≡ true
-not-open true f = refl
-not-open false f = cc (f refl)
-
--- a closing, and its row
-pub closing-keeps : (limits : Sizes) (rows : List ReplayRow) (m n : MachineView) (closes : Bool) → HasReplayed limits rows m → (IsTrue closes → is_closed m.history ≡ false) → (is_closed m.history ≡ false → IsTrue closes)
-    → OnTrue closes (n ≡ with_event m event.Close) → OnFalse closes (n ≡ m) → HasReplayed limits (rows ++ row.Close ∷ []) n
-closing-keeps limits rows m n true played open_ was grown same =
-    let unclosed = open_ refl in
-    let none : list_any is_closing rows ≡ false = sym played.closed ∙ unclosed in
-    let one : drop_repeated_closings (list_any is_closing rows) (row.Close ∷ []) ≡ row.Close ∷ [] = rw none refl in
-    rw grown (played-push limits rows m (with_event m event.Close) played event.Close refl refl unclosed one)
-closing-keeps limits rows m n false played open_ was grown same = rw same (played-again limits rows m played (not-open (is_closed m.history) was))
-
-some-same : {A : Type 0} (x y : A) → Some x ≡ Some y → x ≡ y
-some-same x y e = cc e
+-- a closing
+pub closing-played : (m n : MachineView) (closes : Bool) → (IsTrue closes → is_closed m.history ≡ false) → (is_closed m.history ≡ false → IsTrue closes)
+    → OnTrue closes (n ≡ with_event m event.Close) → OnFalse closes (n ≡ m) → IsCarriedOut row.Close m n
+closing-played m n true open_ was grown same = rw grown (inl (event.Close, refl, open_ refl, refl, refl))
+closing-played m n false open_ was grown same = inr (refl, true_from_ne_false _ (λ none. cc (was none)), same)
 
 -- a row determines its event after a history: a take's id is that of the job at the front of the queue
 one_event : (limits : Sizes) (before : List Event) (e f : Event) (r : ReplayRow) → IsAllowed limits before e → IsAllowed limits before f → row_of_event e ≡ r → row_of_event f ≡ r → e ≡ f
-one_event limits before (event.Submit id reply) (event.Submit id' reply') r a b p q = let same = a.1 in let other = b.1 in cc (p, q, same, other)
-one_event limits before (event.Take id) (event.Take id') r a b p q = ap (λ i. event.Take i) (some-same id id' (sym a.0 ∙ b.0))
+one_event limits before (event.Submit id reply) (event.Submit id' reply') r a b p q = cc (p, q, a.1, b.1)
+one_event limits before (event.Take id) (event.Take id') r a b p q = cc (a.0, b.0)
 one_event limits before (event.Finish id) (event.Finish id') r a b p q = cc (p, q)
 one_event limits before event.IdleEnd event.IdleEnd r a b p q = refl
 one_event limits before event.Close event.Close r a b p q = refl
 one_event limits before (event.Resized core max) (event.Resized core' max') r a b p q = cc (p, q)
 one_event limits before e f r a b p q = cc (p, q)
-
-heads : {A : Type 0} (x y : A) (xs ys : List A) → x ∷ xs ≡ y ∷ ys → x ≡ y
-heads x y xs ys h = cc h
-
-tails : {A : Type 0} (x y : A) (xs ys : List A) → x ∷ xs ≡ y ∷ ys → xs ≡ ys
-tails x y xs ys h = cc h
 
 -- two lists of events that are allowed after a history, and are written by the same rows, are equal
 events_unique : (limits : Sizes) (before : List Event) (rows : List ReplayRow) (one other : List Event) → AreAllowedAfter limits before one → AreAllowedAfter limits before other
@@ -106,8 +86,8 @@ events_unique limits before rows [] (f ∷ other) a b p q = cc (p, q)
 events_unique limits before rows (e ∷ one) [] a b p q = cc (p, q)
 events_unique limits before [] (e ∷ one) (f ∷ other) a b p q = cc p
 events_unique limits before (r ∷ rows) (e ∷ one) (f ∷ other) a b p q =
-    let first = one_event limits before e f r a.0 b.0 (heads _ _ _ _ p) (heads _ _ _ _ q) in
-    let rest = events_unique limits (before ++ e ∷ []) rows one other a.1 (rw first b.1) (tails _ _ _ _ p) (tails _ _ _ _ q) in
+    let first = one_event limits before e f r a.0 b.0 (cc p) (cc q) in
+    let rest = events_unique limits (before ++ e ∷ []) rows one other a.1 (rw first b.1) (cc p) (cc q) in
     rw (first, rest) refl
 
 -- rows have one history at most

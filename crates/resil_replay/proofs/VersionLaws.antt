@@ -28,14 +28,14 @@ module _ {Row : Type 0} (header : Version → List (List ℕ)) (row_of : List (L
 
 -- Two versions with headers of other lengths: no body is of both.
 module _ {Row : Type 0} (header : Version → List (List ℕ)) (row_of : List (List ℕ) → Option Row) (apart : length (header One) ≡ length (header Two) → ⊥) where
-  not-both : (body : List ℕ) (one two : List (List (List ℕ))) → records_of body ≡ header One ∷ one → records_of body ≡ header Two ∷ two → ⊥
-  not-both body one two a b = apart (ap (λ (records : List (List (List ℕ))). length (get_or records 0 [])) (sym a ∙ b))
-
   same : (body : List ℕ) (version another : Version) (one two : List (List (List ℕ))) → records_of body ≡ header version ∷ one → records_of body ≡ header another ∷ two → version ≡ another
-  same body One One one two a b = refl
-  same body Two Two one two a b = refl
-  same body One Two one two a b = absurd (not-both body one two a b)
-  same body Two One one two a b = absurd (not-both body two one b a)
+  same body version another one two a b = by version another (ap (λ (records : List (List (List ℕ))). length (get_or records 0 [])) (sym a ∙ b))
+    where
+      by : (version another : Version) → length (header version) ≡ length (header another) → version ≡ another
+      by One Two e = absurd (apart e)
+      by Two One e = absurd (apart (sym e))
+      by One One e = refl
+      by Two Two e = refl
 
   pub versions-unique : VersionsUnique header row_of
   versions-unique body version another rows others a b =

@@ -3,10 +3,10 @@
 //! After each row the pool has the history of the rows so far: the legal one with their events. The
 //! first row that the pool refuses ends the replay.
 
-ghost use Rattle.std.specs.Prelude.{◌≡◌, ◌++◌, ◌∷◌, [], List, MatchResult, IfErr, OnOk};
+ghost use Rattle.std.specs.Prelude.{◌≡◌, [], List, MatchResult, IfErr, OnOk};
 ghost use Rattle.resil_rule.specs.Limits.{Sizes};
 ghost use Rattle.resil_replay.specs.Play.{IsHistoryOf, IsReplayError, IsRowError, error_at_row};
-ghost use Rattle.resil_replay.specs.State.{HasReplayed};
+ghost use Rattle.resil_replay.specs.State.{HasReplayed, IsCarriedOut};
 ghost use Rattle.resil_replay.specs.declared.rows.ReplayRow.{ReplayRow};
 ghost use Rattle.resil_rule.specs.declared.event.Event.{Event};
 
@@ -31,7 +31,7 @@ pub enum ReplayError {
 // Carries out one row. Errors: `Memory` where memory runs out; `Refused` where the pool refuses the
 // row.
 fn apply_row(alloc: Global, pool: &mut ReplayPool, row: ReplayRow) -> Result<(), RowError>
-    ensures played { OnOk result ((limits : Sizes) (rows : List ReplayRow) → HasReplayed limits rows pool.old → HasReplayed limits (rows ++ row ∷ []) pool.new) }
+    ensures played { OnOk result (IsCarriedOut row pool.old pool.new) }
     ensures refused { IfErr result (IsRowError pool.old.limits pool.old.history row) }
 {
     match row {

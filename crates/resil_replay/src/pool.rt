@@ -6,13 +6,12 @@
 //! under its id. Room for a job is reserved before the machine is asked, so a refused row leaves
 //! all as it was.
 
-ghost use Rattle.std.specs.Prelude.{◌≡◌, ◌++◌, ◌∷◌, [], false, List, IfOk, IfErr, IfSome, OnOk, IfNone, position, if◌then◌else◌};
+ghost use Rattle.std.specs.Prelude.{◌≡◌, ◌∷◌, [], false, IfOk, IfErr, IfSome, OnOk, IfNone, position, if◌then◌else◌};
 ghost use Rattle.resil_rule.specs.History.{started, is_among, is_same_id};
-ghost use Rattle.resil_rule.specs.Limits.{Sizes};
 ghost use Rattle.resil_rule.specs.declared.event.Event.{Event};
 ghost use Rattle.resil_rule.specs.declared.event.Id.{Id};
 ghost use Rattle.resil_replay.specs.Play.{IsRowError};
-ghost use Rattle.resil_replay.specs.State.{HasReplayed};
+ghost use Rattle.resil_replay.specs.State.{HasReplayed, IsCarriedOut};
 ghost use Rattle.resil_replay.specs.Pool.{ids_in_flight, IsRemoved};
 ghost use Rattle.resil_replay.specs.declared.rows.ReplayRow.{ReplayRow};
 
@@ -88,7 +87,7 @@ impl ReplayPool {
     /// With nothing changed: `WrongNumber` where the number isn't the caller's next one; `Memory`
     /// where memory runs out.
     pub(crate) fn submit(&mut self, alloc: Global, id: Id) -> Result<(), RowError>
-        ensures played { OnOk result ((limits : Sizes) (rows : List ReplayRow) → HasReplayed limits rows self.old → HasReplayed limits (rows ++ ReplayRow.Submit id ∷ []) self.new) }
+        ensures played { OnOk result (IsCarriedOut (ReplayRow.Submit id) self.old self.new) }
         ensures refused { IfErr result (IsRowError self.old.limits self.old.history (ReplayRow.Submit id)) }
     {
         if self.out.reserve(1).is_err() {
@@ -116,7 +115,7 @@ impl ReplayPool {
     ///
     /// `NotOut` where no job of this id is out.
     pub(crate) fn finish(&mut self, id: Id) -> Result<(), RowError>
-        ensures played { OnOk result ((limits : Sizes) (rows : List ReplayRow) → HasReplayed limits rows self.old → HasReplayed limits (rows ++ ReplayRow.Finish id ∷ []) self.new) }
+        ensures played { OnOk result (IsCarriedOut (ReplayRow.Finish id) self.old self.new) }
         ensures refused { IfErr result (IsRowError self.old.limits self.old.history (ReplayRow.Finish id)) }
     {
         let Some(job) = remove_job(&mut self.out, id) else {
@@ -135,7 +134,7 @@ impl ReplayPool {
     /// In this order, with nothing changed: `Memory` where memory runs out; `NotAllowed` where no
     /// job waits or no worker is idle.
     pub(crate) fn take(&mut self) -> Result<(), RowError>
-        ensures played { OnOk result ((limits : Sizes) (rows : List ReplayRow) → HasReplayed limits rows self.old → HasReplayed limits (rows ++ ReplayRow.Take ∷ []) self.new) }
+        ensures played { OnOk result (IsCarriedOut ReplayRow.Take self.old self.new) }
         ensures refused { IfErr result (IsRowError self.old.limits self.old.history ReplayRow.Take) }
     {
         if self.out.reserve(1).is_err() {
@@ -156,7 +155,7 @@ impl ReplayPool {
     ///
     /// `NotAllowed`, with nothing changed, where no worker may end.
     pub(crate) fn idle(&mut self) -> Result<(), RowError>
-        ensures played { OnOk result ((limits : Sizes) (rows : List ReplayRow) → HasReplayed limits rows self.old → HasReplayed limits (rows ++ ReplayRow.Idle ∷ []) self.new) }
+        ensures played { OnOk result (IsCarriedOut ReplayRow.Idle self.old self.new) }
         ensures refused { IfErr result (IsRowError self.old.limits self.old.history ReplayRow.Idle) }
     {
         if !self.machine.idle_end() {
@@ -173,7 +172,7 @@ impl ReplayPool {
     /// `MaxOutOfRange` where the greatest size is below it or above that of the limits; `Memory` where
     /// memory runs out.
     pub(crate) fn resize(&mut self, core: u32, max: u32) -> Result<(), RowError>
-        ensures played { OnOk result ((limits : Sizes) (rows : List ReplayRow) → HasReplayed limits rows self.old → HasReplayed limits (rows ++ ReplayRow.Resize core max ∷ []) self.new) }
+        ensures played { OnOk result (IsCarriedOut (ReplayRow.Resize core max) self.old self.new) }
         ensures refused { IfErr result (IsRowError self.old.limits self.old.history (ReplayRow.Resize core max)) }
     {
         match self.machine.resize(core, max) {
@@ -186,7 +185,7 @@ impl ReplayPool {
 
     /// Closes the pool. A closed pool stays as it is.
     pub(crate) fn close(&mut self)
-        ensures { (limits : Sizes) (rows : List ReplayRow) → HasReplayed limits rows self.old → HasReplayed limits (rows ++ ReplayRow.Close ∷ []) self.new }
+        ensures { IsCarriedOut ReplayRow.Close self.old self.new }
     {
         self.machine.close();
     }

@@ -1,5 +1,5 @@
 use Rattle.std.proofs.Common.{take}
-use Rattle.resil_replay.proofs.PlayLaws.{row-done, row-stopped}
+use Rattle.resil_replay.proofs.PlayLaws.{row-done, row-played, row-stopped}
 use Rattle.resil_replay.proofs.play.apply_rows.Goals as goal
 
 pub returns-in-Err : goal.returns-in-Err
@@ -10,4 +10,4 @@ returns-in-Err c =
 pub loop-index-preserved : goal.loop-index-preserved
 loop-index-preserved c =
     row-done c.args.pool.now.limits c.args.rows.now c.loop-index.index _ c.apply_row.new.pool c.loop-index-test.true
-    (c.in_default.ensures.played c.args.pool.now.limits (take c.loop-index.index c.args.rows.now) c.loop-index.invariant)
+    (row-played c.args.pool.now.limits (take c.loop-index.index c.args.rows.now) c.loop-index.pool c.apply_row.new.pool c.loop-index.invariant _ c.in_default.ensures.played)

@@ -1,6 +1,5 @@
 use Rattle.std.proofs.Common.{◌≡◌, ◌∙◌, Some, None, sym}
 use Rattle.std.specs.List.{position}
-use Rattle.std.proofs.lemmas.Iterator.Adapters.{position_from-zero}
 use Rattle.std.proofs.lemmas.List.Quantifiers.{position-Some}
 use Rattle.resil_rule.specs.History.{is_same_id}
 use Rattle.resil_replay.proofs.PoolLaws.{none-placed, placed}
@@ -19,4 +18,4 @@ pub returns-in-None-clause-none : goal.returns-in-None-clause-none
 returns-in-None-clause-none c =
     let out = c.args.out.now.items in
     let none : position (λ job. is_same_id c.args.id job.0) out ≡ None = rw c.deref.ensures.value at (sym c.index_of.ensures ∙ c.in-None.is) in
-    none-placed c.args.id out 0 (sym (position_from-zero (λ job. is_same_id c.args.id job.0) out) ∙ none)
+    none-placed c.args.id out none

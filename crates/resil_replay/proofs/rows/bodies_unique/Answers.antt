@@ -7,11 +7,9 @@ use Rattle.resil_replay.proofs.rows.bodies_unique.Goals as goal
 headers-apart : length (replay_rows_header One) ≡ length (replay_rows_header Two) → ⊥
 headers-apart e = omega (arith, e)
 
-pub returns-clause-rows : goal.returns-clause-rows
-returns-clause-rows c = versions-unique replay_rows_header parse_replay_row headers-apart
-
-pub returns-clause-fault : goal.returns-clause-fault
-returns-clause-fault c = versions-exclude_errors replay_rows_header parse_replay_row headers-apart
-
-pub returns-clause-faults : goal.returns-clause-faults
-returns-clause-faults c = version-errors_unique replay_rows_header parse_replay_row headers-apart
+pub returns : goal.returns
+returns c = record {
+  rows = versions-unique replay_rows_header parse_replay_row headers-apart;
+  fault = versions-exclude_errors replay_rows_header parse_replay_row headers-apart;
+  faults = version-errors_unique replay_rows_header parse_replay_row headers-apart;
+}

@@ -1,16 +1,8 @@
-use Rattle.std.proofs.Common.{refl}
+use Rattle.std.proofs.Common.{rules}
 use Rattle.std.specs.Str.{chars, is_utf8}
 use Rattle.toml.proofs.OnLiterals.{toml_on_literals}
 use Rattle.resil_replay.proofs.worked_heads.worked_pool_heads.Goals as goal
 
 pub returns : goal.returns
 unfolding toml_on_literals chars is_utf8
-returns c = record {
-  two_sizes = refl;
-  three_sizes = refl;
-  not_toml = refl;
-  unknown_key = refl;
-  missing_key = refl;
-  bad_value = refl;
-  core_size = refl;
-}
+returns c = search rules

@@ -3,7 +3,7 @@ use Rattle.std.specs.Bool.{OnTrue, OnFalse}
 use Rattle.resil_admission.specs.MachineView.{MachineView, with_event}
 use Rattle.resil_rule.specs.declared.event.Event.TheVariants.{Close}
 use Rattle.resil_replay.specs.Pool.{ReplayPoolInvariant}
-use Rattle.resil_replay.proofs.PlayLaws.{closing-keeps}
+use Rattle.resil_replay.proofs.PlayLaws.{closing-played}
 use Rattle.resil_replay.proofs.PoolLaws.{kept-same}
 use Rattle.resil_replay.proofs.pool.ReplayPool.close.Goals as goal
 
@@ -21,5 +21,5 @@ invariant_of-self c = go c.close.result c.close.ensures.event c.close.ensures.un
     go false grown same = rw same c.self.invariant
 
 pub returns : goal.returns
-returns c = rw (← c.self.view_is) (λ limits rows played.
-    closing-keeps limits rows c.self.inside.machine c.close.new.self c.close.result played c.close.ensures.closes.0 c.close.ensures.closes.1 c.close.ensures.event c.close.ensures.unchanged)
+returns c = rw (← c.self.view_is)
+    (closing-played c.self.inside.machine c.close.new.self c.close.result c.close.ensures.closes.0 c.close.ensures.closes.1 c.close.ensures.event c.close.ensures.unchanged)

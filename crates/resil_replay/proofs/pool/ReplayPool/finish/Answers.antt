@@ -1,7 +1,5 @@
-use Rattle.std.proofs.Common.{refl}
-use Rattle.resil_admission.specs.MachineView.{with_finish}
+use Rattle.std.proofs.Common.{inl, refl}
 use Rattle.resil_rule.specs.declared.event.Event.TheVariants.{Finish}
-use Rattle.resil_replay.proofs.PlayLaws.{played-push}
 use Rattle.resil_replay.proofs.PoolLaws.{plan-out, finished-kept, left-kept, out-running, refused-idle, idle-where-none}
 use Rattle.resil_replay.proofs.pool.ReplayPool.finish.Goals as goal
 use Rattle.resil_replay.proofs.pool.ReplayPool.finish.Goals.{in-Ok, in-Err}
@@ -18,7 +16,7 @@ invariant_of-self-2 c =
     let job = c.in-Some.job in
     let taken_ = c.in-Some.ensures.taken in
     elim c.match-finish.branch [
-      | in-Ok w ↦ rw w.in-Ok.ensures.event (finished-kept m out left c.args.id job c.run.result c.self.invariant taken_)
+      | in-Ok w ↦ rw w.in-Ok.ensures.event (finished-kept m out left c.args.id job c.self.invariant taken_ c.run.result)
       | in-Err w ↦
           let idle = refused-idle m out c.args.id job _ c.self.invariant (plan-out m out left c.args.id job c.self.invariant taken_) (rw c.run.ensures.plan at w.in-Err.ensures.refused) in
           rw w.in-Err.ensures.unchanged (left-kept m out left c.args.id job c.self.invariant taken_ idle)
@@ -30,9 +28,8 @@ returns-clause-played c =
     let out = c.self.inside.out.items in
     elim c.match-finish.branch [
       | in-Ok w ↦
-          rw (w.result-is, ← c.self.view_is) (λ limits rows played.
           let runs = rw (out-running m out c.self.invariant) at (w.in-Ok.ensures.out.0 refl).0 in
-          rw w.in-Ok.ensures.event (played-push limits rows m (with_finish m c.args.id c.run.result) played (Finish c.args.id) refl refl runs refl))
+          rw (w.result-is, ← c.self.view_is, w.in-Ok.ensures.event) (inl (Finish c.args.id, refl, runs, refl, refl))
       | in-Err w ↦ rw w.result-is tt
     ]
 

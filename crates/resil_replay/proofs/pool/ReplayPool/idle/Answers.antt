@@ -1,7 +1,6 @@
-use Rattle.std.proofs.Common.{refl}
+use Rattle.std.proofs.Common.{inl, refl}
 use Rattle.resil_admission.specs.MachineView.{with_event}
 use Rattle.resil_rule.specs.declared.event.Event.TheVariants.{IdleEnd}
-use Rattle.resil_replay.proofs.PlayLaws.{played-push}
 use Rattle.resil_replay.proofs.PoolLaws.{kept-same}
 use Rattle.resil_replay.proofs.pool.ReplayPool.idle.Goals as goal
 
@@ -12,8 +11,6 @@ invariant_of-self-2 c =
     rw grown (kept-same m (with_event m IdleEnd) c.self.inside.out.items IdleEnd refl refl refl refl c.self.invariant.plans c.self.invariant)
 
 pub returns-clause-played : goal.returns-clause-played
-returns-clause-played c = rw (← c.self.view_is) (λ limits rows played.
-    let m = c.self.inside.machine in
+returns-clause-played c =
     let grown = rw c.if-not-idle_end.false at c.idle_end.ensures.event in
-    let allowed = c.idle_end.ensures.ends.0 (rw c.if-not-idle_end.false refl) in
-    rw grown (played-push limits rows m (with_event m IdleEnd) played IdleEnd refl refl allowed refl))
+    rw (← c.self.view_is, grown) (inl (IdleEnd, refl, c.idle_end.ensures.ends.0 (rw c.if-not-idle_end.false refl), refl, refl))

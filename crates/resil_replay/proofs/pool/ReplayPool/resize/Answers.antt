@@ -1,7 +1,6 @@
-use Rattle.std.proofs.Common.{refl}
+use Rattle.std.proofs.Common.{inl, refl}
 use Rattle.resil_admission.specs.MachineView.{with_event}
 use Rattle.resil_rule.specs.declared.event.Event.TheVariants.{Resized}
-use Rattle.resil_replay.proofs.PlayLaws.{played-push}
 use Rattle.resil_replay.proofs.PoolLaws.{kept-same}
 use Rattle.resil_replay.proofs.pool.ReplayPool.resize.Goals.{in-Ok, in-Err-CoreOutOfRange, in-Err-MaxOutOfRange, in-Err}
 use Rattle.resil_replay.proofs.pool.ReplayPool.resize.Goals as goal
@@ -19,10 +18,8 @@ invariant_of-self c =
 
 pub returns-clause-played : goal.returns-clause-played
 returns-clause-played c =
-    let m = c.self.inside.machine in
     elim c.match-resize.branch [
-      | in-Ok w ↦ rw (w.result-is, ← c.self.view_is) (λ limits rows played.
-          rw w.in-Ok.ensures.event (played-push limits rows m (with_event m (Resized c.args.core c.args.max)) played (Resized c.args.core c.args.max) refl refl w.in-Ok.ensures.allowed refl))
+      | in-Ok w ↦ rw (w.result-is, ← c.self.view_is, w.in-Ok.ensures.event) (inl (Resized c.args.core c.args.max, refl, w.in-Ok.ensures.allowed, refl, refl))
       | in-Err-CoreOutOfRange w ↦ rw w.result-is tt
       | in-Err-MaxOutOfRange w ↦ rw w.result-is tt
       | in-Err w ↦ rw w.result-is tt

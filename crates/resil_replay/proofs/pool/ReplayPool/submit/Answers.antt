@@ -1,8 +1,7 @@
-use Rattle.std.proofs.Common.{◌+◌, refl}
+use Rattle.std.proofs.Common.{inl, refl}
 use Rattle.resil_admission.specs.MachineView.{with_submission, newly_accepted}
 use Rattle.resil_rule.specs.declared.event.Event.TheVariants.{Submit}
 use Rattle.resil_admission.proofs.JobLaws.{plans-grow}
-use Rattle.resil_replay.proofs.PlayLaws.{played-push}
 use Rattle.resil_replay.proofs.PoolLaws.{kept-same, next-submitted, picked-submitted, submitted-kept, found}
 use Rattle.resil_replay.proofs.pool.ReplayPool.submit.Goals as goal
 
@@ -20,7 +19,7 @@ invariant_of-self-then-starts_worker c =
     let picked = rw c.unwrap-picked.ensures at c.pick.ensures.picked in
     let known = rw c.unwrap-picked.ensures at c.pick.ensures.plan in
     rw (c.push_reserved.ensures.items, c.reserve.ensures.items)
-    (submitted-kept m c.pick.new.self c.self.inside.out.items c.args.id c.in-Ok-submit.reply c.in-Ok.job p.0 p.1 c.self.invariant one
+    (submitted-kept m c.self.inside.out.items c.args.id c.in-Ok-submit.reply c.in-Ok.job c.self.invariant one c.pick.new.self p.0 p.1
     (rw c.in-Ok-submit.ensures.event at picked) (rw c.in-Ok-submit.ensures.event at known))
 
 pub invariant_of-self-else-starts_worker : goal.invariant_of-self-else-starts_worker
@@ -33,18 +32,13 @@ invariant_of-self-else-starts_worker c =
     (plans-grow m.jobs (newly_accepted c.args.id reply c.in-Ok.job) c.self.inside.out.items c.self.invariant.plans) c.self.invariant)
 
 pub returns-then-starts_worker-clause-played : goal.returns-then-starts_worker-clause-played
-returns-then-starts_worker-clause-played c = rw (← c.self.view_is) (λ limits rows played.
-    let m = c.self.inside.machine in
-    let p = c.unwrap-picked.result in
+returns-then-starts_worker-clause-played c =
     let reply = c.in-Ok-submit.reply in
     let one = rw c.if-starts_worker.true at (c.starts_worker.ensures c.args.id) in
     let picked = rw c.unwrap-picked.ensures at c.pick.ensures.picked in
-    let at = picked-submitted m c.pick.new.self c.self.inside.out.items c.args.id reply c.in-Ok.job p.0 c.self.invariant one (rw c.in-Ok-submit.ensures.event at picked) in
-    rw at.1 (played-push limits rows m (record (with_submission m c.args.id reply c.in-Ok.job) { picked = m.picked + 1 }) played (Submit c.args.id reply) refl refl c.in-Ok-submit.ensures.allowed refl))
+    let at = picked-submitted c.self.inside.machine c.self.inside.out.items c.args.id reply c.in-Ok.job c.self.invariant one c.pick.new.self c.unwrap-picked.result.0 (rw c.in-Ok-submit.ensures.event at picked) in
+    rw (← c.self.view_is, at.1) (inl (Submit c.args.id reply, refl, c.in-Ok-submit.ensures.allowed, refl, refl))
 
 pub returns-else-starts_worker-clause-played : goal.returns-else-starts_worker-clause-played
-returns-else-starts_worker-clause-played c = rw (← c.self.view_is) (λ limits rows played.
-    let m = c.self.inside.machine in
-    let reply = c.in-Ok-submit.reply in
-    rw c.in-Ok-submit.ensures.event
-    (played-push limits rows m (with_submission m c.args.id reply c.in-Ok.job) played (Submit c.args.id reply) refl refl c.in-Ok-submit.ensures.allowed refl))
+returns-else-starts_worker-clause-played c =
+    rw (← c.self.view_is, c.in-Ok-submit.ensures.event) (inl (Submit c.args.id c.in-Ok-submit.reply, refl, c.in-Ok-submit.ensures.allowed, refl, refl))

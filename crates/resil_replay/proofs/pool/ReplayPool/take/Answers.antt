@@ -1,7 +1,5 @@
-use Rattle.std.proofs.Common.{refl, rules}
-use Rattle.resil_admission.specs.MachineView.{with_event}
+use Rattle.std.proofs.Common.{inl, refl}
 use Rattle.resil_rule.specs.declared.event.Event.TheVariants.{Take}
-use Rattle.resil_replay.proofs.PlayLaws.{played-push}
 use Rattle.resil_replay.proofs.PoolLaws.{picked-taken, taken-kept}
 use Rattle.resil_replay.proofs.pool.ReplayPool.take.Goals as goal
 
@@ -12,11 +10,7 @@ invariant_of-self-in-Some c =
     (taken-kept c.self.inside.machine c.pick.new.self c.self.inside.out.items p.0 p.1 c.self.invariant c.in-Some.ensures.picked c.in-Some.ensures.plan)
 
 pub returns-in-Some-clause-played : goal.returns-in-Some-clause-played
-returns-in-Some-clause-played c = rw (← c.self.view_is) (λ limits rows played.
-    let m = c.self.inside.machine in
+returns-in-Some-clause-played c =
     let id = c.in-Some.picked.0 in
-    let taken_ = picked-taken m c.pick.new.self c.self.inside.out.items id c.self.invariant c.in-Some.ensures.picked in
-    rw taken_.1 (played-push limits rows m (with_event m (Take id)) played (Take id) refl refl taken_.0 refl))
-
-pub returns-in-None-clause-played : goal.returns-in-None-clause-played
-returns-in-None-clause-played = search rules fits 100
+    let taken_ = picked-taken c.self.inside.machine c.pick.new.self c.self.inside.out.items id c.self.invariant c.in-Some.ensures.picked in
+    rw (← c.self.view_is, taken_.1) (inl (Take id, refl, taken_.0, refl, refl))
