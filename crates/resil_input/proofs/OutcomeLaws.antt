@@ -20,7 +20,7 @@ use Rattle.resil_input.specs.TextEquality.{is_same}
 use Rattle.resil_input.proofs.NumberLaws.{numbers-round_trip, numbers-are_decimal, other-first}
 
 -- the value that a mapped one came from
-option_map-some : {A B P : Type 0} (f : A → B) (o : Option A) (y : B) → option_map f o ≡ Some y → ((x : A) → o ≡ Some x → f x ≡ y → P) → P
+pub option_map-some : {A B P : Type 0} (f : A → B) (o : Option A) (y : B) → option_map f o ≡ Some y → ((x : A) → o ≡ Some x → f x ≡ y → P) → P
 option_map-some f None y e more = cc e
 option_map-some f (Some x) y e more = more x refl (cc e)
 

@@ -9,6 +9,7 @@ use Rattle.std.specs.Prelude.{option_map}
 use Rattle.std.specs.Result.{OkIff, result_ok}
 use Rattle.resil_retry.specs.declared.outcome.Outcome.{Outcome}
 use Rattle.resil_input.specs.OutcomeText.{parse_outcome}
+use Rattle.resil_input.proofs.OutcomeLaws.{option_map-some}
 use Rattle.resil_input.specs.Script.{all_some, split_items, parse_script}
 
 -- the parts that a split has yet to give, of which it gave all once it is done
@@ -48,11 +49,8 @@ module _ {X A : Type 0} (f : X → Option A) (front : List A) (item : X) (items 
 all_some-length : {A : Type 0} (values : List (Option A)) (all : List A) → all_some values ≡ Some all → length values ≡ length all
 all_some-length [] all e = let none : [] ≡ all = cc e in ap length none
 all_some-length (None ∷ values) all e = cc e
-all_some-length {A} (Some value ∷ values) all e = by (all_some values) refl (all_some-length values)
-  where
-    by : (more : Option (List A)) → all_some values ≡ more → ((rest : List A) → all_some values ≡ Some rest → length values ≡ length rest) → length (Some value ∷ values) ≡ length all
-    by None none further = cc (rw none at e)
-    by (Some rest) some further = let whole : value ∷ rest ≡ all = cc (rw some at e) in omega (arith, further rest some, ap length whole)
+all_some-length (Some value ∷ values) all e =
+    option_map-some (λ rest. value ∷ rest) (all_some values) all e (λ rest some whole. omega (arith, all_some-length values rest some, ap length whole))
 
 -- a script of all outcomes of a text, of which there is at least one
 pub script-made : {E : Type 0} (made : Result (List Outcome) E) (outcomes : List Outcome) (text : List ℕ) → OkIff made (0 < length outcomes) outcomes

@@ -1,12 +1,11 @@
 -- Fields that need no quotes, and the text of their record.
-use Rattle.std.proofs.Common.{Some, length-append, ◌≡◌, ◌∙◌, ◌<◌, ◌++◌, ◌∷◌, [], ℕ, zero, suc, take, List, false, length, refl, sym, ap, arith, append-nil}
+use Rattle.std.proofs.Common.{Some, ◌≡◌, ◌∙◌, ◌<◌, ◌++◌, ◌∷◌, [], ℕ, zero, suc, take, List, false, length, refl, ap, arith, append-nil}
 use Rattle.std.specs.List.{list_all, join_with_byte}
 use Rattle.std.proofs.lemmas.Bool.{and_parts, ne_eqb, not-true}
 use Rattle.std.proofs.lemmas.Grind.{flat_map-append}
 use Rattle.csv.specs.Writing.{default_writer, field_text, fields_text, is_blank, needs_byte, needs_quotes, row_text}
 use Rattle.csv.specs.Machine.{next_record}
 use Rattle.csv.specs.Reading.{default_config}
-use Rattle.csv.specs.declared.parser.State.{State}
 use Rattle.csv.specs.declared.parser.State.TheVariants as st
 use Rattle.csv.proofs.RoundTrip.{read-write}
 use Rattle.resil_input.specs.CsvTable.{ArePlain, IsPlain, is_plain, record_text, table_text}
@@ -45,29 +44,10 @@ ArePlain-take (suc n) (field ∷ rest) plain =
     let (here, later) = and_parts (is_plain field) (list_all is_plain rest) plain in
     rw (here, ArePlain-take n rest later) refl
 
--- ---- No two tables of plain records have the same text.
-
-same-parts : (a b : List (List ℕ) × State × List ℕ) → Some a ≡ Some b → (a.0 ≡ b.0) × (a.2 ≡ b.2)
-same-parts a b e =
-    let same : a ≡ b = cc in
-    (ap (λ (r : List (List ℕ) × State × List ℕ). r.0) same, ap (λ (r : List (List ℕ) × State × List ℕ). r.2) same)
-
 -- `csv` reads a record from its text, and leaves what follows it
 pub record-read : (fields : List (List ℕ)) (s : List ℕ) → 1 < length fields → ArePlain fields → next_record default_config st.StartRecord [] [] (record_text fields ++ s) ≡ Some (fields, st.StartRecord, s)
 record-read [] s several plain = absurd (omega arith)
 record-read (x ∷ xs) s several plain = rw (row_text-plain (x ∷ xs) several plain) at (read-write (x ∷ xs) s)
-
--- where two equal texts begin with a record each, the records are equal, and so is what follows
-pub same-record : (one other : List (List ℕ)) (s t : List ℕ) → 1 < length one → 1 < length other → ArePlain one → ArePlain other
-    → record_text one ++ s ≡ record_text other ++ t → (one ≡ other) × (s ≡ t)
-same-record one other s t several several' plain plain' e =
-    same-parts (one, st.StartRecord, s) (other, st.StartRecord, t)
-    (sym (record-read one s several plain) ∙ ap (next_record default_config st.StartRecord [] []) e ∙ record-read other t several' plain')
-
--- a record is never empty
-pub not-empty : (fields : List (List ℕ)) (s : List ℕ) → [] ≡ record_text fields ++ s → ⊥
-not-empty fields s e =
-    omega (arith, ap length e, length-append (record_text fields) s, length-append (join_with_byte 44 fields) (10 ∷ []))
 
 -- the text of a table with one more record
 pub table_text-more : (records : List (List (List ℕ))) (fields : List (List ℕ)) → table_text (records ++ fields ∷ []) ≡ table_text records ++ record_text fields
