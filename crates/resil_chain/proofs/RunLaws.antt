@@ -13,9 +13,8 @@ use Rattle.resil_chain.specs.Rows.{ChainRowView}
 pub AreRunsOf-more : (layers : List Layer) (rows : List ChainRowView) (runs : List RunView) (row : ChainRowView) (run : RunView) → AreRunsOf layers rows runs → IsRunOf layers row run
     → AreRunsOf layers (rows ++ row ∷ []) (runs ++ run ∷ [])
 AreRunsOf-more layers [] [] row run all is = (is, tt)
-AreRunsOf-more layers [] (r ∷ rs) row run all is = absurd all
-AreRunsOf-more layers (x ∷ xs) [] row run all is = absurd all
 AreRunsOf-more layers (x ∷ xs) (r ∷ rs) row run all is = (all.0, AreRunsOf-more layers xs rs row run all.1 is)
+AreRunsOf-more layers xs rs row run all is = absurd all
 
 -- one more run, and its record
 pub IsTextOfRuns-more : (layers : List Layer) (rows : List ChainRowView) (row : ChainRowView) (run : RunView) (before after : List ℕ) (fields : List (List ℕ)) → IsRunOf layers row run → fields ≡ run_fields run

@@ -1,21 +1,17 @@
-use Rattle.std.proofs.Common.{◌≡◌, ◌∷◌, [], List, length, refl, sym, ap, subst, ◌∙◌, append_assoc, append-nil, arith}
+use Rattle.std.proofs.Common.{◌≡◌, ◌∷◌, [], List, refl, sym, subst, ◌∙◌, append_assoc, append-nil}
 use Rattle.std.specs.Vec.Iter.{into_iter_items}
+use Rattle.std.proofs.lemmas.List.{nil_from_length}
 use Rattle.std.proofs.lemmas.Result.{IfOk-weaker}
 use Rattle.resil_input.specs.CsvTable.{text_so_far}
 use Rattle.resil_chain.specs.Runs.{IsTextOfRuns}
 use Rattle.resil_chain.specs.Rows.{ChainRowView}
 use Rattle.resil_chain.proofs.runs.text_of_runs.Goals as goal
 
-nothing_left : {X : Type 0} (l : List X) → length l ≡ 0 → l ≡ []
-nothing_left [] none = refl
-nothing_left (x ∷ xs) none = absurd (omega arith)
-
 pub loop-row-init : goal.loop-row-init
 loop-row-init c = record {
   all = refl;
   columns = c.in_ok-table.ensures.columns;
   runs = ([], tt, rw c.new.ensures.items at c.in_ok-table.ensures.text);
-  left = c.into_iter-row-iterator.result.rest.ok.0;
 }
 
 pub loop-row-preserved : goal.loop-row-preserved
@@ -27,18 +23,12 @@ loop-row-preserved c =
       all = append_assoc at.yielded (row ∷ []) _ ∙ rw (← steps) at.invariant.all;
       columns = c.in_ok-push_row.ensures.columns;
       runs = c.in_ok-push_row.ensures.text at.yielded at.invariant.runs;
-      left =
-          let was = at.invariant.left in
-          let gone = c.in-Some.ensures.steps.1 in
-          let short = ap length steps in
-          omega arith;
     }
 
 pub returns : goal.returns
 returns c =
     let at = c.loop-row in
-    let none = c.in-None.ensures.steps in
-    let empty : into_iter_items at.row-iterator ≡ [] = nothing_left _ (sym at.invariant.left ∙ none.0) in
+    let empty = nil_from_length (into_iter_items at.row-iterator) (sym at.row-iterator.rest.ok.0 ∙ c.in-None.ensures.steps.0) in
     let all = sym (append-nil at.yielded) ∙ rw empty at at.invariant.all ∙ c.into_iter-row-iterator.ensures.into_iter_gives.0 in
     IfOk-weaker c.into_text.result (λ text. text.items ≡ text_so_far at.table) (λ text. IsTextOfRuns c.args.chain.now c.args.rows.items text.items)
     (λ text same. rw same (subst (λ (rows : List ChainRowView). IsTextOfRuns c.args.chain.now rows (text_so_far at.table)) all at.invariant.runs))

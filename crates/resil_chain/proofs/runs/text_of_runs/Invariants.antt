@@ -1,5 +1,5 @@
-use Rattle.std.proofs.Common.{◌≡◌, ◌++◌, length}
-use Rattle.std.specs.Vec.Iter.{into_iter_items, into_iter_len}
+use Rattle.std.proofs.Common.{◌≡◌, ◌++◌}
+use Rattle.std.specs.Vec.Iter.{into_iter_items}
 use Rattle.resil_input.specs.CsvTable.{HasColumns, text_so_far}
 use Rattle.resil_chain.specs.Runs.{IsTextOfRuns}
 use Rattle.resil_chain.proofs.runs.text_of_runs.Given as goal
@@ -10,5 +10,4 @@ invariant-loop-row l = record {
   all : l.yielded ++ into_iter_items l.row-iterator ≡ into_iter_items l.initial.row-iterator;
   columns : HasColumns l.table 4;
   runs : IsTextOfRuns l.chain l.yielded (text_so_far l.table);
-  left : into_iter_len l.row-iterator ≡ length (into_iter_items l.row-iterator);
 }

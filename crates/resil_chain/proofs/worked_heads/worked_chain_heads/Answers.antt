@@ -1,4 +1,4 @@
-use Rattle.std.proofs.Common.{refl}
+use Rattle.std.proofs.Common.{rules}
 use Rattle.std.specs.Str.{chars, is_utf8}
 use Rattle.toml.proofs.OnLiterals.{toml_on_literals}
 use Rattle.resil_decor.specs.ChainLimits.{max_calls}
@@ -9,17 +9,4 @@ use Rattle.resil_chain.proofs.worked_heads.worked_chain_heads.Goals as goal
 
 pub returns : goal.returns
 unfolding toml_on_literals chars is_utf8 max_calls chain_in parse_bulkhead parse_error_test parse_fallback parse_retry waits_from build_chain parse_chain
-returns c = record {
-  empty = refl;
-  plain_retry = refl;
-  growing_waits = refl;
-  three_bulkheads = refl;
-  fallback_outside = refl;
-  missing_kind = refl;
-  unknown_key = refl;
-  missing_name = refl;
-  bad_value = refl;
-  first_configuration = refl;
-  long_interval = refl;
-  many_calls = refl;
-}
+returns c = search rules
