@@ -15,7 +15,4 @@ pub weave-refused : (input : List ℕ) (permits : ℕ) (body : List ℕ) (steps 
     → IsWeaveBody body steps → IsStuckAt permits steps e → IsError (IsWeaveRefusal input) (from_weave_error e)
 weave-refused input permits body steps weave_error.Memory few parts is_body stuck = tt
 weave-refused input permits body steps weave_error.TooManyPermits few parts is_body stuck = absurd (omega (arith, few, stuck))
-weave-refused input permits body steps (weave_error.NotLoaded position) few parts is_body stuck = (permits, body, steps, parts, is_body, stuck)
-weave-refused input permits body steps (weave_error.NotHolding position) few parts is_body stuck = (permits, body, steps, parts, is_body, stuck)
-weave-refused input permits body steps (weave_error.StillLoaded position) few parts is_body stuck = (permits, body, steps, parts, is_body, stuck)
-weave-refused input permits body steps (weave_error.NotRetired position) few parts is_body stuck = (permits, body, steps, parts, is_body, stuck)
+weave-refused input permits body steps e few parts is_body stuck = (permits, body, steps, parts, is_body, stuck)

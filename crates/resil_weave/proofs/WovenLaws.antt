@@ -1,8 +1,7 @@
 -- The records of woven steps, one after the other.
-use Rattle.std.proofs.Common.{◌≡◌, ◌<◌, ◌+◌, ◌∷◌, ◌++◌, ◌∙◌, ℕ, suc, List, [], length, take, get_or, min, refl, sym, ap, arith, add-one}
-use Rattle.std.proofs.Math.Seq.{take-suc}
-use Rattle.std.proofs.lemmas.List.{get_or-map, length-map, take_all}
-use Rattle.std.proofs.lemmas.Slice.Zip.{get_or-zip, length-zip}
+use Rattle.std.proofs.Common.{Bor, ◌≡◌, ◌∷◌, ◌++◌, ◌∙◌, ℕ, suc, List, [], length, map, min, refl, sym, ap, arith}
+use Rattle.std.proofs.lemmas.List.{length-map, map_push}
+use Rattle.std.proofs.lemmas.Slice.Zip.{length-zip}
 use Rattle.std.specs.List.{zip}
 use Rattle.resil_permit.specs.declared.step.Step.{Step}
 use Rattle.resil_permit.specs.declared.step.Shown.{Shown}
@@ -16,38 +15,30 @@ pub length-all_shown : (m : Machine) (steps : List Step) → length (all_shown m
 length-all_shown m [] = refl
 length-all_shown m (step ∷ steps) = ap suc (length-all_shown (after_step m step) steps)
 
+-- what two iterators give together
+abbrev pub pair_of : Bor Step × Bor Shown → Step × Shown
+pair_of p = (p.0.now, p.1.now)
+
+-- the fields of a step with what it showed
+abbrev pub fields_of_pair : Step × Shown → List (List ℕ)
+fields_of_pair p = step_fields p.0 p.1
+
 step_records-length : (steps : List Step) (shown : List Shown) → length (step_records steps shown) ≡ min (length steps) (length shown)
-step_records-length steps shown = length-map (zip steps shown) (λ p. step_fields p.0 p.1) ∙ length-zip steps shown
+step_records-length steps shown = length-map (zip steps shown) fields_of_pair ∙ length-zip steps shown
 
 pub each-step_has_record : EachStepHasRecord
 each-step_has_record m steps = omega (arith, step_records-length steps (all_shown m steps), length-all_shown m steps)
 
--- the record of one more step
-step_records-more : (steps : List Step) (shown : List Shown) (i : ℕ) (step : Step) (s : Shown) → i < length steps → i < length shown
-    → step ≡ get_or steps i step → s ≡ get_or shown i s
-    → take (i + 1) (step_records steps shown) ≡ take i (step_records steps shown) ++ step_fields step s ∷ []
-step_records-more steps shown i step s here there is shows =
-    let pairs : i < length (zip steps shown) = omega (arith, length-zip steps shown) in
-    let records : i < length (step_records steps shown) = omega (arith, step_records-length steps shown) in
-    let more = take-suc (step_records steps shown) i (step_fields step s) records in
-    let record_of = get_or-map (λ (p : Step × Shown). step_fields p.0 p.1) (zip steps shown) i (step, s) (step_fields step s) pairs in
-    let pair = get_or-zip steps shown i (step, s) here there in
-    rw (add-one, more, record_of, pair, ← is, ← shows) refl
-
 -- the text so far, with one more step
-pub step_text-more : (steps : List Step) (shown : List Shown) (i : ℕ) (step : Step) (s : Shown) (before after : List ℕ) → i < length steps → i < length shown
-    → step ≡ get_or steps i step → s ≡ get_or shown i s
-    → before ≡ table_text (woven_text_header ∷ take i (step_records steps shown)) → after ≡ before ++ record_text (step_fields step s)
-    → after ≡ table_text (woven_text_header ∷ take (i + 1) (step_records steps shown))
-step_text-more steps shown i step s before after here there is shows old new =
-    let more = step_records-more steps shown i step s here there is shows in
-    new ∙ ap (λ l. l ++ record_text (step_fields step s)) old ∙ sym (table_text-more (woven_text_header ∷ take i (step_records steps shown)) (step_fields step s))
-    ∙ ap (λ l. table_text (woven_text_header ∷ l)) (sym more)
+pub step_text-more : (pairs : List (Step × Shown)) (step : Step) (s : Shown) (before after : List ℕ) → before ≡ table_text (woven_text_header ∷ map fields_of_pair pairs)
+    → after ≡ before ++ record_text (step_fields step s) → after ≡ table_text (woven_text_header ∷ map fields_of_pair (pairs ++ (step, s) ∷ []))
+step_text-more pairs step s before after old new =
+    new ∙ ap (λ l. l ++ record_text (step_fields step s)) old ∙ sym (table_text-more (woven_text_header ∷ map fields_of_pair pairs) (step_fields step s))
+    ∙ ap (λ l. table_text (woven_text_header ∷ l)) (sym (map_push fields_of_pair pairs (step, s)))
 
 -- the whole text: all steps, and the word
-pub woven_text-end : (steps : List Step) (shown : List Shown) (word i : ℕ) (before after : List ℕ) → i ≡ min (length steps) (length shown)
-    → before ≡ table_text (woven_text_header ∷ take i (step_records steps shown)) → after ≡ before ++ record_text (word_fields word) → after ≡ woven_text steps shown word
-woven_text-end steps shown word i before after all old new =
-    let whole = take_all i (step_records steps shown) (omega (arith, step_records-length steps shown)) in
-    new ∙ ap (λ l. l ++ record_text (word_fields word)) (old ∙ ap (λ l. table_text (woven_text_header ∷ l)) whole)
+pub woven_text-end : (steps : List Step) (shown : List Shown) (word : ℕ) (pairs : List (Step × Shown)) (before after : List ℕ) → pairs ≡ zip steps shown
+    → before ≡ table_text (woven_text_header ∷ map fields_of_pair pairs) → after ≡ before ++ record_text (word_fields word) → after ≡ woven_text steps shown word
+woven_text-end steps shown word pairs before after all old new =
+    new ∙ ap (λ l. l ++ record_text (word_fields word)) (old ∙ ap (λ l. table_text (woven_text_header ∷ map fields_of_pair l)) all)
     ∙ sym (table_text-more (woven_text_header ∷ step_records steps shown) (word_fields word))

@@ -1,8 +1,9 @@
-use Rattle.resil_weave.proofs.RowLaws.{callers-round_trip, callers-are_decimal}
+use Rattle.std.proofs.Common.{◌^◌, arith}
+use Rattle.resil_input.proofs.NumberLaws.{from_zero-are_decimal, from_zero-round_trip}
 use Rattle.resil_weave.proofs.rows.callers_round_trip.Goals as goal
 
 pub returns-clause-written : goal.returns-clause-written
-returns-clause-written c = callers-round_trip
+returns-clause-written c = λ n. from_zero-round_trip (2 ^ 16) n (omega arith)
 
 pub returns-clause-read : goal.returns-clause-read
-returns-clause-read c = callers-are_decimal
+returns-clause-read c = λ field n. from_zero-are_decimal (2 ^ 16) field n (omega arith) (omega arith)

@@ -1,14 +1,8 @@
-use Rattle.std.proofs.Common.{refl}
+use Rattle.std.proofs.Common.{rules}
 use Rattle.std.specs.Str.{chars, is_utf8}
 use Rattle.toml.proofs.OnLiterals.{toml_on_literals}
 use Rattle.resil_weave.proofs.worked_heads.worked_weave_heads.Goals as goal
 
 pub returns : goal.returns
 unfolding toml_on_literals chars is_utf8
-returns c = record {
-  empty = refl;
-  three_permits = refl;
-  unknown_key = refl;
-  bad_value = refl;
-  too_many = refl;
-}
+returns c = search rules
