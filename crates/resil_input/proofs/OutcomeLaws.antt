@@ -43,15 +43,13 @@ parse_nonzero_signed-plain (x ∷ xs) first = rw (ne_eqb x 45 first) refl
 negative-is : (size : ℕ) (value : ℤ) → 1 ≤ size → negative size ≡ Some value → FitsValue value × (45 ∷ decimal size ≡ signed_decimal value)
 negative-is zero value positive e = absurd (omega arith)
 negative-is (suc n) value positive e =
-    let parts = cond_some (nat_le (suc n) (2 ^ 63)) (negsuc n) value e in
-    let small : suc n ≤ 2 ^ 63 = grind (arith, common_steps, parts.0) in
-    rw (← parts.1) (record { sfits = omega arith }, refl)
+    let (fits, is) = cond_some (nat_le (suc n) (2 ^ 63)) (negsuc n) value e in
+    rw (← is) (record { sfits = grind (arith, common_steps, fits) }, refl)
 
 non_negative-is : (size : ℕ) (value : ℤ) → non_negative size ≡ Some value → FitsValue value × (decimal size ≡ signed_decimal value)
 non_negative-is size value e =
-    let parts = cond_some (nat_lt size (2 ^ 63)) (pos size) value e in
-    let small : size < 2 ^ 63 = grind (arith, common_steps, parts.0) in
-    rw (← parts.1) (record { sfits = omega arith }, refl)
+    let (fits, is) = cond_some (nat_lt size (2 ^ 63)) (pos size) value e in
+    rw (← is) (record { sfits = grind (arith, common_steps, fits) }, refl)
 
 parse_nonzero_signed-is : (text : List ℕ) (value : ℤ) → parse_nonzero_signed text ≡ Some value → FitsValue value × (text ≡ signed_decimal value)
 parse_nonzero_signed-is [] value e = cc e
@@ -100,9 +98,8 @@ signed-reads text value = (signed-is text value, (λ written. rw (written.1) (si
 
 code-is : (integer : ℤ) (code : ℕ) → code_in_range integer ≡ Some code → (code < 2 ^ 16) × (signed_decimal integer ≡ decimal code)
 code-is (pos n) code e =
-    let parts = cond_some (nat_lt n (2 ^ 16)) n code e in
-    let small : n < 2 ^ 16 = grind (arith, common_steps, parts.0) in
-    rw (← parts.1) (small, refl)
+    let (fits, is) = cond_some (nat_lt n (2 ^ 16)) n code e in
+    rw (← is) (grind (arith, common_steps, fits), refl)
 code-is (negsuc n) code e = cc e
 
 parse_code_kind-is : (text : List ℕ) (kind : Kind) → parse_code_kind text ≡ Some kind → FitsKind kind × (text ≡ kind_text kind)

@@ -49,14 +49,14 @@ plain-digits_onto (suc k) n text plain =
       | inr further ↦ rw further (plain-digits_onto k (n / 10) (digit_glyph false (n % 10) ∷ text) more)
     ]
 
-pub IsPlain-number : (n : ℕ) → IsPlain (decimal n)
+pub IsPlain_number : (n : ℕ) → IsPlain (decimal n)
 unfolding digits
-IsPlain-number n = plain-digits_onto 64 n [] refl
+IsPlain_number n = plain-digits_onto 64 n [] refl
 
 IsPlain-outcome_text : (outcome : Outcome) → IsPlain (outcome_text outcome)
-IsPlain-outcome_text (Value (pos n)) = IsPlain-number n
-IsPlain-outcome_text (Value (negsuc n)) = IsPlain-number (suc n)
-IsPlain-outcome_text (Error (Code code)) = IsPlain-number code
+IsPlain-outcome_text (Value (pos n)) = IsPlain_number n
+IsPlain-outcome_text (Value (negsuc n)) = IsPlain_number (suc n)
+IsPlain-outcome_text (Error (Code code)) = IsPlain_number code
 IsPlain-outcome_text (Error kind) = refl
 
 IsPlain-letter : (granted : Bool) → IsPlain (answer_letter granted)
@@ -64,12 +64,12 @@ IsPlain-letter true = refl
 IsPlain-letter false = refl
 
 IsPlain-asked_item : (asked : Asked) → IsPlain (asked_item asked)
-IsPlain-asked_item asked = IsPlain-append (decimal asked.id) (answer_letter asked.granted) (IsPlain-number asked.id) (IsPlain-letter asked.granted)
+IsPlain-asked_item asked = IsPlain-append (decimal asked.id) (answer_letter asked.granted) (IsPlain_number asked.id) (IsPlain-letter asked.granted)
 
 -- no field of a run needs quotes
 pub ArePlain-run_fields : (run : RunView) → ArePlain (run_fields run)
 ArePlain-run_fields run =
     let outcome = IsPlain-outcome_text run.outcome in
-    let waits = IsPlain-items decimal IsPlain-number run.waits in
+    let waits = IsPlain-items decimal IsPlain_number run.waits in
     let asked = IsPlain-items asked_item IsPlain-asked_item run.asked in
-    rw (outcome, IsPlain-number run.calls, waits, asked) refl
+    rw (outcome, IsPlain_number run.calls, waits, asked) refl
