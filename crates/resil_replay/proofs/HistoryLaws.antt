@@ -15,7 +15,7 @@ use Rattle.resil_input.specs.CsvTable.{ArePlain, IsPlain, record_text}
 use Rattle.resil_replay.specs.declared.history.Version.{Version}
 use Rattle.resil_replay.specs.declared.history.Version.TheVariants.{One, Two}
 use Rattle.resil_replay.specs.History.{FitsEvent, FitsId, HistoryTextInjective, history_text, columns_of, event_fields, history_header, job_fields, record_fields, reply_name}
-use Rattle.resil_input.proofs.PlainLaws.{IsPlain-number}
+use Rattle.resil_input.proofs.PlainLaws.{IsPlain_number}
 use Rattle.resil_input.proofs.RecordLaws.{records_from-end, records_from-next}
 use Rattle.resil_input.proofs.TableLaws.{ArePlain-take, record-read}
 
@@ -24,7 +24,7 @@ IsPlain-reply_name Core = refl
 IsPlain-reply_name reply = refl
 
 ArePlain-job_fields : (name : List ℕ) (id : Id) (reply : List ℕ) → IsPlain name → IsPlain reply → ArePlain (job_fields name id reply)
-ArePlain-job_fields name id reply plain plain' = rw (plain, IsPlain-number id.caller, IsPlain-number id.number, plain') refl
+ArePlain-job_fields name id reply plain plain' = rw (plain, IsPlain_number id.caller, IsPlain_number id.number, plain') refl
 
 ArePlain-event_fields : (event : Event) → ArePlain (event_fields event)
 ArePlain-event_fields (Submit id reply) = ArePlain-job_fields (codes "submit") id (reply_name reply) refl (IsPlain-reply_name reply)
@@ -32,7 +32,7 @@ ArePlain-event_fields (Take id) = ArePlain-job_fields (codes "take") id [] refl 
 ArePlain-event_fields (Finish id) = ArePlain-job_fields (codes "finish") id [] refl refl
 ArePlain-event_fields IdleEnd = refl
 ArePlain-event_fields Close = refl
-ArePlain-event_fields (Resized core max) = rw (IsPlain-number core, IsPlain-number max) refl
+ArePlain-event_fields (Resized core max) = rw (IsPlain_number core, IsPlain_number max) refl
 
 -- fields of which none needs quotes, in the columns of a version
 ArePlain-record_fields : (version : Version) (event : Event) → ArePlain (record_fields version event)

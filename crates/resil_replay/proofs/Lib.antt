@@ -2,5 +2,4 @@ pub mod EventLaws
 pub mod HistoryLaws
 pub mod PlayLaws
 pub mod PoolLaws
-pub mod SizeLaws
 pub mod VersionLaws

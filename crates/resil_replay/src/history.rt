@@ -59,6 +59,7 @@ fn push_fields(table: &mut CsvTable, version: Version, fields: &[&[u8]]) -> Resu
 }
 
 // Writes the record of an event that names a job. Errors: `AllocError` where memory runs out.
+#[tactic(auto, using(resil_input::proofs::PlainLaws::IsPlain_number))]
 fn push_job(
     table: &mut CsvTable,
     version: Version,
@@ -80,6 +81,7 @@ fn push_job(
 }
 
 // Writes the record of a resize. Errors: `AllocError` where memory runs out.
+#[tactic(auto, using(resil_input::proofs::PlainLaws::IsPlain_number))]
 fn push_resize(
     table: &mut CsvTable,
     version: Version,

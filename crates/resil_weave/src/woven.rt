@@ -28,6 +28,7 @@ fn shown_name(shown: Shown) -> &'static [u8]
 }
 
 // Writes the record of a step of this name. Errors: `AllocError` where memory runs out.
+#[tactic(auto, using(resil_input::proofs::PlainLaws::IsPlain_number))]
 fn push_named(
     table: &mut CsvTable,
     name: &[u8],
@@ -60,6 +61,7 @@ fn push_step(table: &mut CsvTable, step: Step, shown: Shown) -> Result<(), Alloc
 }
 
 // Writes the record of the word. Errors: `AllocError` where memory runs out.
+#[tactic(auto, using(resil_input::proofs::PlainLaws::IsPlain_number))]
 fn push_word(table: &mut CsvTable, word: u32) -> Result<(), AllocError>
     requires { HasColumns table.old 3 }
     ensures { OnOk result (text_so_far table.new ≡ text_so_far table.old ++ record_text (word_fields word)) }

@@ -1,8 +1,9 @@
-use Rattle.resil_replay.proofs.SizeLaws.{sizes-are_decimal, sizes-round_trip}
+use Rattle.std.proofs.Common.{◌^◌, arith}
+use Rattle.resil_input.proofs.NumberLaws.{from_zero-are_decimal, from_zero-round_trip}
 use Rattle.resil_replay.proofs.sizes.sizes_round_trip.Goals as goal
 
 pub returns-clause-written : goal.returns-clause-written
-returns-clause-written c = sizes-round_trip
+returns-clause-written c = λ n. from_zero-round_trip (2 ^ 32) n (omega arith)
 
 pub returns-clause-read : goal.returns-clause-read
-returns-clause-read c = sizes-are_decimal
+returns-clause-read c = λ field n. from_zero-are_decimal (2 ^ 32) field n (omega arith) (omega arith)
