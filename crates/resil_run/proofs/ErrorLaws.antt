@@ -25,8 +25,7 @@ module _ (MayAnswer : RunSettings → List BulkheadView → List JobRow → Resu
   pub run-body-refused : (words : RunOptions) (input : List ℕ) (said : RunHeadView) (body : List ℕ) (e : BodyError) → SplitsInto run_head_of input said body
       → IsRunBodyError words.callers body e → IsErrorFor MayAnswer words input (from_body_error e)
   run-body-refused words input said body body_error.Memory parts bad = tt
-  run-body-refused words input said body body_error.BadHeader parts bad = (said, body, parts, bad)
-  run-body-refused words input said body (body_error.BadRow position) parts bad = (said, body, parts, bad)
+  run-body-refused words input said body why parts bad = (said, body, parts, bad)
 
   -- what the carrying out of a run may end with
   pub run-refused : (words : RunOptions) (input : List ℕ) (said : RunHeadView) (body : List ℕ) (jobs : List ScriptedJob) (e : CommandError) → SplitsInto run_head_of input said body

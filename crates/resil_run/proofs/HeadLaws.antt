@@ -1,5 +1,5 @@
 -- The ranges of what the head of a `run` gives.
-use Rattle.std.proofs.Common.{IfOk, Result, Ok, Err, codes, length}
+use Rattle.std.proofs.Common.{IfOk, Result, codes, length}
 use Rattle.toml.specs.Data.{Members}
 use Rattle.resil_heads.specs.Checks.{Gives}
 use Rattle.resil_heads.specs.Keys.{parse_at, parse_count}
@@ -10,7 +10,7 @@ use Rattle.resil_heads.specs.declared.error.HeadError.{HeadError}
 use Rattle.resil_heads.proofs.RangeLaws.{AreAsked, IsBuilt, any-ok, asked-ok, built-ok, gives-ok, then-ok}
 use Rattle.resil_run.specs.Head.{RunHeadView, parse_run, run_keys}
 
-abbrev IsRunHead : RunHeadView → Type 0
+abbrev pub IsRunHead : RunHeadView → Type 0
 IsRunHead said = AreLayersInRange (length said.bulkheads.instances) said.layers × ArePermitsInRange said.bulkheads
 
 run-said-ok : (head : Members) → IfOk (parse_run head) IsRunHead
@@ -22,14 +22,5 @@ run-said-ok head =
     then-ok IsBuilt IsRunHead (build_chain asked) _ (built-ok asked all) (λ built is. (is.layers, is.permits)))))
 
 -- what a call gives of a head
-run-in-range : (r : Result RunHeadView HeadError) (head : Members) → Gives r (parse_run head) → IfOk r IsRunHead
+pub run-in-range : (r : Result RunHeadView HeadError) (head : Members) → Gives r (parse_run head) → IfOk r IsRunHead
 run-in-range r head given = gives-ok IsRunHead r (parse_run head) given (run-said-ok head)
-
-pub run-layers-in-range : (r : Result RunHeadView HeadError) (head : Members) → Gives r (parse_run head)
-    → IfOk r (λ said. AreLayersInRange (length said.bulkheads.instances) said.layers)
-run-layers-in-range (Ok said) head given = (run-in-range (Ok said) head given).0
-run-layers-in-range (Err why) head given = tt
-
-pub run-permits-in-range : (r : Result RunHeadView HeadError) (head : Members) → Gives r (parse_run head) → IfOk r (λ said. ArePermitsInRange said.bulkheads)
-run-permits-in-range (Ok said) head given = (run-in-range (Ok said) head given).1
-run-permits-in-range (Err why) head given = tt

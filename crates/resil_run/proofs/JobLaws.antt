@@ -13,11 +13,10 @@ use Rattle.resil_input.proofs.RowLaws.{ParseAs-length}
 -- the two parts that a job is read from
 parts_of_job : (caller : Option ℕ) (script : Option (List Outcome)) (job : ScriptedJob)
     → option_and_then (λ c. option_map (λ outcomes. record { caller = c; script = outcomes }) script) caller ≡ Some job → caller ≡ Some job.caller
-parts_of_job None script job e = cc e
-parts_of_job (Some c) None job e = cc e
 parts_of_job (Some c) (Some outcomes) job e =
     let same : ◌≡◌ {A = ScriptedJob} (record { caller = c; script = outcomes }) job = cc e in
     ap (λ (j : ScriptedJob). Some j.caller) same
+parts_of_job caller script job e = cc e
 
 module _ (callers : ℕ) (few : callers ≤ 64) where
   of_fields : (caller script : List ℕ) (job : ScriptedJob) → parse_job_fields callers caller script ≡ Some job → IsOfCaller callers job

@@ -2,7 +2,7 @@ use Rattle.std.proofs.Common.{◌∷◌, ◌++◌, ◌∙◌, [], ℕ, List, ap,
 use Rattle.std.proofs.lemmas.Result.{on_ok_weaker}
 use Rattle.std.specs.Fmt.{decimal}
 use Rattle.resil_input.specs.CsvTable.{ArePlain, record_text, text_so_far}
-use Rattle.resil_input.proofs.PlainLaws.{ArePlain-run_fields, IsPlain-number}
+use Rattle.resil_input.proofs.PlainLaws.{ArePlain-run_fields, IsPlain_number}
 use Rattle.resil_run.proofs.ReportLaws.{texts-of_run}
 use Rattle.resil_run.proofs.report.push_result.Goals as goal
 
@@ -10,7 +10,7 @@ pub push-requires-clause-plain : goal.push-requires-clause-plain
 push-requires-clause-plain c =
     let texts = texts-of_run c.fields.result (record { ref_ptr = (0, 0); now = [] }) c.args.row.now.run (c.fields.ensures ∙ c.in_ok-write.ensures) in
     let plain = subst (λ (fields : List (List ℕ)). ArePlain fields) (sym texts) (ArePlain-run_fields c.args.row.now.run) in
-    rw (c.as_bytes-caller.ensures.value, c.format.ensures.text, c.as_bytes-number.ensures.value, c.format-2.ensures.text, IsPlain-number c.args.row.now.id.caller, IsPlain-number c.args.row.now.id.number) plain
+    rw (c.as_bytes-caller.ensures.value, c.format.ensures.text, c.as_bytes-number.ensures.value, c.format-2.ensures.text, IsPlain_number c.args.row.now.id.caller, IsPlain_number c.args.row.now.id.number) plain
 
 pub returns-clause-text : goal.returns-clause-text
 returns-clause-text c =

@@ -1,4 +1,4 @@
-use Rattle.std.proofs.Common.{refl}
+use Rattle.std.proofs.Common.{rules}
 use Rattle.std.specs.Str.{chars, is_utf8}
 use Rattle.toml.proofs.OnLiterals.{toml_on_literals}
 use Rattle.resil_decor.specs.ChainLimits.{max_calls}
@@ -10,10 +10,4 @@ use Rattle.resil_run.proofs.worked_heads.worked_run_heads.Goals as goal
 
 pub returns : goal.returns
 unfolding toml_on_literals chars is_utf8 max_calls parse_bulkhead parse_error_test parse_retry build_chain parse_chain parse_run parse_limits
-returns c = record {
-  two_sizes = refl;
-  one_bulkhead = refl;
-  no_layers = refl;
-  bad_value = refl;
-  core_size = refl;
-}
+returns c = search rules
