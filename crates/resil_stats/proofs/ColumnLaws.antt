@@ -1,19 +1,10 @@
--- The greatest of some numbers with one more, and columns with one more.
-use Rattle.std.proofs.Common.{◌≡◌, ◌<◌, ◌≤◌, ◌+◌, ◌⊎◌, inl, inr, ◌∷◌, [], ◌++◌, ◌∙◌, ℕ, List, Some, length, slice_get, get_or, take, map, max, min, refl, sym, ap, subst, arith, below_more}
-use Rattle.std.proofs.lemmas.List.{map_more}
+-- The peak of some levels with one more, and columns with one more.
+use Rattle.std.proofs.Common.{◌≡◌, ◌<◌, ◌≤◌, ◌+◌, ◌⊎◌, inl, inr, ◌∷◌, [], ◌++◌, ◌∙◌, ℕ, List, Some, length, slice_get, get_or, min, sym, subst, arith, below_more}
 use Rattle.resil_rule.specs.declared.event.Event.{Event}
-use Rattle.resil_stats.specs.Columns.{AreColumnsFrom, HasLastSizes, IsColumnOf, IsPeakAmong, greatest}
+use Rattle.resil_stats.specs.Columns.{AreColumnsFrom, HasLastSizes, IsColumnOf, IsPeakAmong}
 use Rattle.resil_stats.specs.declared.columns.Column.{Column}
 use Rattle.resil_stats.specs.declared.depth.Level.{Level}
 use Rattle.std.proofs.lemmas.Option.{slice_get-get_or}
-
-greatest-push : (xs : List ℕ) (y : ℕ) → greatest (xs ++ y ∷ []) ≡ max y (greatest xs)
-greatest-push [] y = refl
-greatest-push (x ∷ xs) y = let ih = greatest-push xs y in omega (arith, ih)
-
-pub greatest-more : (f : Level → ℕ) (xs : List Level) (i most next : ℕ) (d : Level) → i < length xs → most ≡ greatest (map f (take i xs)) → next ≡ max (f (get_or xs i d)) most → next ≡ greatest (map f (take (i + 1) xs))
-greatest-more f xs i most next d lt is raised =
-    raised ∙ ap (max (f (get_or xs i d))) is ∙ sym (greatest-push (map f (take i xs)) (f (get_or xs i d))) ∙ ap greatest (sym (map_more f xs i d lt))
 
 -- the first level is the peak of none
 pub peak-none : (levels : List Level) (d : Level) → 0 < length levels → IsPeakAmong levels 0 (get_or levels 0 d)

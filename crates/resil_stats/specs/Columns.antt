@@ -1,5 +1,5 @@
 -- The columns of a history that is too long for each event to be drawn: this many events each, with the greatest of each number.
-use Rattle.std.specs.Prelude.{ℕ, ◌≡◌, ◌≤◌, ◌<◌, ◌+◌, ◌-◌, ◌*◌, ◌∷◌, [], List, Some, count_by, drop, length, map, max, min, slice_get, take}
+use Rattle.std.specs.Prelude.{ℕ, ◌≡◌, ◌≤◌, ◌<◌, ◌+◌, ◌-◌, ◌*◌, ◌∷◌, [], List, Some, count_by, drop, fold, length, map, max, min, slice_get, take}
 use Rattle.resil_rule.specs.declared.event.Event.{Event}
 use Rattle.resil_stats.specs.Stats.{is_closed_reply, is_full_reply}
 use Rattle.resil_stats.specs.declared.columns.Column.{Column}
@@ -12,8 +12,7 @@ pub record IsWidth (events width : ℕ) : Type 0 where
 
 -- the greatest of some numbers, 0 where there are none
 abbrev pub greatest : List ℕ → ℕ
-greatest [] = 0
-greatest (x ∷ xs) = max x (greatest xs)
+greatest numbers = fold max 0 numbers
 
 -- what stands at the places from one to another, which count from 1
 abbrev pub stretch : {A : Type 0} → ℕ → ℕ → List A → List A

@@ -72,15 +72,6 @@ fn count_replies(events: &[Event], reply: Reply) -> usize
         .count()
 }
 
-// The greatest numbers of some levels.
-#[derive(Clone, Copy)]
-struct Greatest {
-    waiting: usize,
-    workers: usize,
-    // The first level at which most jobs run.
-    peak: Level,
-}
-
 // The level of two at which more jobs run, the first one where as many do.
 fn higher(peak: Level, next: Level) -> Level
     ensures { ((peak.running < next.running) × (result ≡ next)) ⊎ ((next.running ≤ peak.running) × (result ≡ peak)) }
@@ -92,26 +83,36 @@ fn higher(peak: Level, next: Level) -> Level
     }
 }
 
-// The greatest numbers of levels.
-fn greatest_of(levels: &[Level]) -> Greatest
-    requires { 0 < length levels.now }
-    ensures waiting { result.waiting ≡ greatest (map (λ level. level.waiting) levels.now) }
-    ensures workers { result.workers ≡ greatest (map (λ level. level.workers) levels.now) }
-    ensures peak { IsPeakAmong levels.now (length levels.now) result.peak }
+// The most jobs that wait at some levels.
+fn most_waiting(levels: &[Level]) -> usize
+    ensures { result ≡ greatest (map (λ level. level.waiting) levels.now) }
 {
-    let mut waiting = 0;
-    let mut workers = 0;
+    levels
+        .iter()
+        .map(|level| level.waiting)
+        .fold(0, |most, waiting| most.max(waiting))
+}
+
+// The most workers at some levels.
+fn most_workers(levels: &[Level]) -> usize
+    ensures { result ≡ greatest (map (λ level. level.workers) levels.now) }
+{
+    levels
+        .iter()
+        .map(|level| level.workers)
+        .fold(0, |most, workers| most.max(workers))
+}
+
+// The first level at which most jobs run.
+fn peak_of(levels: &[Level]) -> Level
+    requires { 0 < length levels.now }
+    ensures { IsPeakAmong levels.now (length levels.now) result }
+{
     let mut peak = levels[0];
     for level in levels {
-        waiting = level.waiting.max(waiting);
-        workers = level.workers.max(workers);
         peak = higher(peak, *level);
     }
-    Greatest {
-        waiting,
-        workers,
-        peak,
-    }
+    peak
 }
 
 // The column of the events from one index up to another.
@@ -124,16 +125,16 @@ fn gather_column(events: &[Event], levels: &[Level], start: usize, end: usize) -
     ensures from { result.from ≡ start + 1 }
     ensures to { result.to ≡ end }
 {
-    let most = greatest_of(&levels[start..end]);
+    let (own, after) = (&events[start..end], &levels[start..end]);
     let last = levels[end - 1];
     Column {
         from: start + 1,
         to: end,
-        waiting: most.waiting,
-        workers: most.workers,
-        peak: most.peak.at,
-        full: count_replies(&events[start..end], Reply::Full),
-        closed: count_replies(&events[start..end], Reply::Closed),
+        waiting: most_waiting(after),
+        workers: most_workers(after),
+        peak: peak_of(after).at,
+        full: count_replies(own, Reply::Full),
+        closed: count_replies(own, Reply::Closed),
         core: last.core,
         max: last.max,
     }
