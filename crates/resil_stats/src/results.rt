@@ -4,10 +4,10 @@
 //! its outcome and its calls, its waits, and the bulkheads that it asked for a permit, with their
 //! answers.
 
-ghost use Rattle.std.specs.Prelude.{◌≡◌, ◌&&◌, length, map, MatchResult, option_map};
+ghost use Rattle.std.specs.Prelude.{◌≡◌, ◌&&◌, ℕ, [], get_or, length, map, MatchResult, option_map};
 ghost use Rattle.csv.specs.Records.{fields_of};
 ghost use Rattle.resil_input.specs.Framing.{lines_of};
-ghost use Rattle.resil_stats.specs.Results.{AreResults, IsResultsError, are_items, begins_results, is_answer, is_empty_line, is_results_line, is_wait, parse_count, parse_result, parse_result_fields, results_of};
+ghost use Rattle.resil_stats.specs.Results.{AreResults, IsResultsError, are_items, begins_results, is_answer, is_empty_line, is_results_line, is_wait, parse_count, parse_result_fields, results_of};
 
 use csv::ByteRecord;
 use resil_input::csv_rows::{self, BodyError, RowFormat, has_fields};
@@ -153,40 +153,20 @@ fn are_answers(field: &[u8]) -> bool
             .all(|item| is_answer(item))
 }
 
-// Reads a result from six fields, of which the first two name its job.
-fn parse_result_fields(
-    job: (&[u8], &[u8]),
-    outcome: &[u8],
-    calls: &[u8],
-    waits: &[u8],
-    asked: &[u8],
-) -> Option<JobResult>
-    ensures { result ≡ parse_result_fields job.entry.0.now job.entry.1.now outcome.now calls.now waits.now asked.now }
+// Reads the result of a record of six fields, of which the first two name its job.
+fn parse_result(fields: &ByteRecord) -> Option<JobResult>
+    ensures { let at = λ (i : ℕ). get_or (fields_of fields.now) i [] in result ≡ parse_result_fields (at 0) (at 1) (at 2) (at 3) (at 4) (at 5) }
 {
-    let caller = parse_caller(job.0)?;
-    let number = parse_number(job.1)?;
-    let outcome = parse_outcome(outcome)?;
-    let calls = parse_count(calls)?;
-    if are_waits(waits) && are_answers(asked) {
+    let caller = parse_caller(field_at(fields, 0))?;
+    let number = parse_number(field_at(fields, 1))?;
+    let outcome = parse_outcome(field_at(fields, 2))?;
+    let calls = parse_count(field_at(fields, 3))?;
+    if are_waits(field_at(fields, 4)) && are_answers(field_at(fields, 5)) {
         let id = Id { caller, number };
         Some(JobResult { id, outcome, calls })
     } else {
         None
     }
-}
-
-// Reads the result of a record of six fields.
-fn parse_result(fields: &ByteRecord) -> Option<JobResult>
-    requires { length (fields_of fields.now) ≡ 6 }
-    ensures { result ≡ parse_result (fields_of fields.now) }
-{
-    parse_result_fields(
-        (field_at(fields, 0), field_at(fields, 1)),
-        field_at(fields, 2),
-        field_at(fields, 3),
-        field_at(fields, 4),
-        field_at(fields, 5),
-    )
 }
 
 /// Reads results, in order.
