@@ -1,7 +1,5 @@
 -- How many jobs of a legal history run, and how many were never started.
-use Rattle.std.proofs.Common.{◌≡◌, ◌≤◌, ◌<◌, ◌+◌, ◌-◌, ◌^◌, ◌∷◌, [], ◌++◌, ◌∙◌, ℕ, zero, suc, true, false, not, cond, List, length, filter, take, get_or, add-one, append-nil, append_assoc, refl, ap, arith, length-append, length-drop}
-use Rattle.std.proofs.Math.Seq.{take-suc}
-use Rattle.std.proofs.lemmas.List.{length-take-le}
+use Rattle.std.proofs.Common.{◌≡◌, ◌≤◌, ◌<◌, ◌+◌, ◌-◌, ◌^◌, ◌∷◌, [], ◌++◌, ◌∙◌, ℕ, zero, suc, true, false, not, cond, List, length, filter, take, append-nil, append_assoc, refl, ap, arith, length-append, length-drop}
 use Rattle.resil_rule.specs.Limits.{Sizes}
 use Rattle.resil_rule.specs.Admission.{AreAllowedAfter, IsLegal}
 use Rattle.resil_rule.specs.History.{accepted, accepted_id, finished, is_among, queued, running, started, taken, times}
@@ -16,7 +14,7 @@ use Rattle.resil_rule.proofs.TimesLaws.{among-times, is_positive, left-fewer, ti
 use Rattle.resil_stats.specs.Stats.{AreCountsOf, AreLegalCounts, IsLoadAfter, is_core_reply, is_extra_reply, never_started}
 use Rattle.resil_stats.specs.declared.stats.Counts.{Counts}
 use Rattle.resil_stats.specs.declared.stats.Load.{Load}
-use Rattle.resil_stats.proofs.CountLaws.{made-few}
+use Rattle.resil_stats.proofs.CountLaws.{made_few}
 
 -- ---- Ids, and how often they stand among ids.
 
@@ -104,12 +102,12 @@ pub record ArePossible (counts : Counts) : Type 0 where
   pub ends : counts.idle_ends ≤ counts.core + counts.extra
   pub finishes : counts.finished ≤ counts.core + counts.extra + counts.taken
 
-pub are-possible : (counts : Counts) → AreLegalCounts counts → ArePossible counts
-are-possible counts (limits, h, legal, are, short) =
+pub are_possible : (counts : Counts) → AreLegalCounts counts → ArePossible counts
+are_possible counts (limits, h, legal, are, short) =
     let starts = started-replies h in
     let numbers = numbers-legal limits h legal in
     let all = parts-length h in
-    let few = made-few accepted_id h in
+    let few = made_few accepted_id h in
     let runs = running-count limits h legal in
     record {
       fits = omega (arith, starts, numbers.taken_few, all, few, short, are.core, are.extra, are.taken);
@@ -136,7 +134,7 @@ never-after counts limits h legal are = let count = never-count limits h legal i
 
 -- ---- The first events of a legal history.
 
-allowed-take : (limits : Sizes) (before events : List Event) (k : ℕ) → AreAllowedAfter limits before events → AreAllowedAfter limits before (take k events)
+pub allowed-take : (limits : Sizes) (before events : List Event) (k : ℕ) → AreAllowedAfter limits before events → AreAllowedAfter limits before (take k events)
 allowed-take limits before events zero legal = tt
 allowed-take limits before [] (suc k) legal = tt
 allowed-take limits before (e ∷ events) (suc k) legal = (legal.0, allowed-take limits (before ++ e ∷ []) events k legal.1)
@@ -144,20 +142,3 @@ allowed-take limits before (e ∷ events) (suc k) legal = (legal.0, allowed-take
 -- an event, for what is never read
 abbrev pub no_event : Event
 no_event = Submit (record { caller = 0; number = 0 }) Core
-
--- the events up to one, and that one
-abbrev pub up_to : List Event → ℕ → List Event
-up_to events i = take i events ++ get_or events i no_event ∷ []
-
-module _ (events : List Event) (i : ℕ) (lt : i < length events) where
-  pub one-more : take (i + 1) events ≡ up_to events i
-  one-more = rw add-one (take-suc events i no_event lt)
-
-  pub more-length : length (up_to events i) ≡ i + 1
-  more-length = let few = length-take-le i events (omega arith) in let more = length-append (take i events) (get_or events i no_event ∷ []) in omega (arith, few, more)
-
-  pub legal-more : (limits : Sizes) → IsLegal limits events → IsLegal limits (up_to events i)
-  legal-more limits legal = rw one-more at (allowed-take limits [] events (i + 1) legal)
-
-  pub told-more : (P : List Event → Type 0) → P (up_to events i) → P (take (i + 1) events)
-  told-more P p = rw one-more p

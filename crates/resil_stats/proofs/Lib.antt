@@ -7,5 +7,4 @@ pub mod ResultLaws
 pub mod ListLaws
 pub mod PlaceLaws
 pub mod BarLaws
-pub mod DepthLaws
 pub mod ColumnLaws

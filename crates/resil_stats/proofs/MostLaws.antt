@@ -1,6 +1,6 @@
 -- The greatest of a number over the prefixes of a history, with one more event.
-use Rattle.std.proofs.Common.{◌≡◌, ◌+◌, ◌∷◌, [], ◌++◌, ◌∙◌, ◌⊎◌, inl, inr, ℕ, List, length, take, max, sym, ap, arith, length-append}
-use Rattle.std.proofs.lemmas.List.{take-append-le, take_all}
+use Rattle.std.proofs.Common.{◌≡◌, ◌+◌, ◌∷◌, [], ◌++◌, ◌∙◌, ◌⊎◌, inl, inr, ℕ, List, length, take, max, min, sym, ap, arith, length-append}
+use Rattle.std.proofs.lemmas.List.{take-append-le, take_all, take_min}
 use Rattle.std.proofs.lemmas.Bool.Decides.{leb_tells}
 use Rattle.resil_rule.specs.History.{running, waiting, workers}
 use Rattle.resil_rule.specs.declared.event.Event.{Event}
@@ -17,11 +17,7 @@ prefix-push k h e =
 
 -- and each prefix of the events is one of the events with one more
 prefix-kept : (k : ℕ) (h : List Event) (e : Event) → (n : ℕ) × (take n (h ++ e ∷ []) ≡ take k h)
-prefix-kept k h e =
-    elim (leb_tells k (length h)) [
-      | inl le ↦ (k, take-append-le k h (e ∷ []) le.1)
-      | inr lt ↦ (length h, take-append-le (length h) h (e ∷ []) (omega arith) ∙ take_all (length h) h (omega arith) ∙ sym (take_all k h (let more = lt.1 in omega (arith, more))))
-    ]
+prefix-kept k h e = (min k (length h), take-append-le (min k (length h)) h (e ∷ []) (omega arith) ∙ take_min k h)
 
 module _ (number : List Event → ℕ) where
   pub most-push : (h : List Event) (e : Event) (most now next : ℕ) → now ≡ number (h ++ e ∷ []) → next ≡ max most now → IsMost number h most → IsMost number (h ++ e ∷ []) next

@@ -4,6 +4,7 @@ use Rattle.std.specs.List.{cons_option, position_or_len}
 use Rattle.std.proofs.lemmas.List.{drop_more, length-take-le, take-append-drop, take_more}
 use Rattle.std.proofs.lemmas.List.Elements.{filter_map-append}
 use Rattle.std.proofs.lemmas.List.Sums.{passes_at_first}
+use Rattle.std.proofs.lemmas.Option.{some_pair_parts}
 use Rattle.resil_rule.specs.Limits.{Sizes}
 use Rattle.resil_rule.specs.Admission.{AreAllowedAfter, IsAllowed, IsLegal}
 use Rattle.resil_rule.specs.History.{finished, is_among, is_same_id}
@@ -47,14 +48,11 @@ parts-legal : (limits : Sizes) (before h : List Event) (e : Event) (t : List Eve
 parts-legal limits before [] e t legal = (tt, rw append-nil legal.0)
 parts-legal limits before (x ∷ h) e t legal = let rest = parts-legal limits (before ++ x ∷ []) h e t legal.1 in ((legal.0, rest.0), rw append_assoc at rest.1)
 
-same-job : (x id : Id) (s start : Start) → (let o : Option (Id × Start) = Some (x, s) in o) ≡ Some (id, start) → x ≡ id
-same-job x id s start is = let pair : (x, s) ≡ (id, start) = cc is in ap (λ (p : Id × Start). p.0) pair
-
 -- a job that starts isn't finished before
 fresh : (limits : Sizes) (h : List Event) (e : Event) (id : Id) (start : Start) → IsLegal limits h → IsAllowed limits h e → start_at e ≡ Some (id, start) → is_among id (finished h) ≡ false
-fresh limits h (Submit x reply.Core) id start legal allowed is = subst (λ y. is_among y (finished h) ≡ false) (same-job x id _ start is) (new-unfinished limits h legal x allowed.0)
-fresh limits h (Submit x reply.Extra) id start legal allowed is = subst (λ y. is_among y (finished h) ≡ false) (same-job x id _ start is) (new-unfinished limits h legal x allowed.0)
-fresh limits h (Take x) id start legal allowed is = subst (λ y. is_among y (finished h) ≡ false) (same-job x id _ start is) (front-unfinished limits h legal x allowed.0)
+fresh limits h (Submit x reply.Core) id start legal allowed is = subst (λ y. is_among y (finished h) ≡ false) (some_pair_parts x id _ start is).0 (new-unfinished limits h legal x allowed.0)
+fresh limits h (Submit x reply.Extra) id start legal allowed is = subst (λ y. is_among y (finished h) ≡ false) (some_pair_parts x id _ start is).0 (new-unfinished limits h legal x allowed.0)
+fresh limits h (Take x) id start legal allowed is = subst (λ y. is_among y (finished h) ≡ false) (some_pair_parts x id _ start is).0 (front-unfinished limits h legal x allowed.0)
 fresh limits h e id start legal allowed is = absurd (cc is)
 
 -- an event at which a job starts is no finish

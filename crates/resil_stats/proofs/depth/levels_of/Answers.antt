@@ -1,32 +1,37 @@
-use Rattle.std.proofs.Common.{List, arith, subst, sym}
-use Rattle.resil_rule.specs.Numbers.{AreSizesOf}
-use Rattle.resil_stats.specs.Stats.{AreCountsOf}
-use Rattle.resil_stats.proofs.LegalLaws.{legal-more, more-length, told-more, up_to}
-use Rattle.resil_stats.specs.Depth.{AreLevelsOf}
+use Rattle.std.proofs.Common.{[], ◌≡◌, ◌+◌, ℕ, List, Some, arith, slice_get, subst, sym, take}
+use Rattle.std.proofs.lemmas.List.{length-take-le, length_push, take_more}
+use Rattle.resil_stats.specs.Depth.{IsLevelAfter}
 use Rattle.resil_stats.specs.declared.depth.Level.{Level}
-use Rattle.resil_stats.proofs.DepthLaws.{levels-push}
+use Rattle.resil_stats.proofs.LegalLaws.{allowed-take, no_event}
+use Rattle.resil_stats.proofs.ListLaws.{each-more}
 use Rattle.resil_stats.proofs.depth.levels_of.Goals as goal
 
 pub load-load-requires : goal.load-load-requires
 load-load-requires c =
-    let counts = c.record.ensures _ c.loop-index.invariant.counts in
-    let long = more-length c.args.events.now c.loop-index.index c.loop-index-test.true in
-    (c.args.limits.now, up_to c.args.events.now c.loop-index.index, legal-more c.args.events.now c.loop-index.index c.loop-index-test.true c.args.limits.now c.requires, counts, omega (arith, long))
+    let events = c.args.events.now in
+    let i = c.loop-index.index in
+    let counts = rw (← take_more events i no_event c.loop-index-test.true) at (c.record.ensures _ c.loop-index.invariant.counts) in
+    let few = length-take-le (i + 1) events (omega arith) in
+    (c.args.limits.now, take (i + 1) events, allowed-take c.args.limits.now [] events (i + 1) c.requires, counts, omega (arith, few))
 
 pub loop-index-preserved : goal.loop-index-preserved
 loop-index-preserved c =
+    let limits = c.args.limits.now in
     let events = c.args.events.now in
     let i = c.loop-index.index in
-    let lt = c.loop-index-test.true in
-    let counts = c.record.ensures _ c.loop-index.invariant.counts in
-    let sizes = c.after-sizes.ensures c.args.limits.now _ c.loop-index.invariant.sizes in
-    let legal = legal-more events i lt c.args.limits.now c.requires in
-    let load = c.load-load.ensures c.args.limits.now _ legal counts in
-    let long = more-length events i lt in
-    let levels = levels-push c.args.limits.now _ _ _ _ (record { at = omega (arith, long); waiting = load.waiting; running = load.running; workers = load.workers; core = sizes.core_is; max = sizes.max_is }) c.loop-index.invariant.levels in
-    let P : List Level → Type 0 = λ xs. AreLevelsOf c.args.limits.now (up_to events i) xs in
+    let was = c.loop-index.invariant in
+    let more = take_more events i no_event c.loop-index-test.true in
+    let counts = rw (← more) at (c.record.ensures _ was.counts) in
+    let sizes = rw (← more) at (c.after-sizes.ensures limits _ was.sizes) in
+    let load = c.load-load.ensures limits _ (allowed-take limits [] events (i + 1) c.requires) counts in
+    let long = length-take-le (i + 1) events (omega arith) in
+    let each = was.each in
+    let items = c.in_ok-push.ensures.items in
+    let Told : List Level → Type 0 = λ levels. (k : ℕ) (level : Level) → slice_get levels k ≡ Some level → IsLevelAfter limits (take (k + 1) events) level in
     record {
-      counts = told-more events i lt (λ h. AreCountsOf h c.record.new.self) counts;
-      sizes = told-more events i lt (λ h. AreSizesOf c.args.limits.now h c.after-sizes.result.core c.after-sizes.result.max) sizes;
-      levels = told-more events i lt (λ h. AreLevelsOf c.args.limits.now h c.push.new.self.items) (subst P (sym c.in_ok-push.ensures.items) levels);
+      counts = counts;
+      sizes = sizes;
+      each = rw (items, length_push) (omega (arith, each));
+      after = subst Told (sym items) (each-more (λ k level. IsLevelAfter limits (take (k + 1) events) level) c.loop-index.levels.items _ was.after
+          (rw each (record { at = omega (arith, long); waiting = load.waiting; running = load.running; workers = load.workers; core = sizes.core_is; max = sizes.max_is })));
     }

@@ -1,13 +1,15 @@
-use Rattle.std.proofs.Common.{take}
+use Rattle.std.proofs.Common.{◌≡◌, ◌+◌, ℕ, Some, length, slice_get, take}
 use Rattle.resil_rule.specs.Numbers.{AreSizesOf}
 use Rattle.resil_stats.specs.Stats.{AreCountsOf}
-use Rattle.resil_stats.specs.Depth.{AreLevelsOf}
+use Rattle.resil_stats.specs.Depth.{IsLevelAfter}
+use Rattle.resil_stats.specs.declared.depth.Level.{Level}
 use Rattle.resil_stats.proofs.depth.levels_of.Given as goal
 
--- the counts, the sizes and the levels so far are those of the events so far
+-- the counts and the sizes so far are those of the events so far, each of which has its level
 abbrev pub invariant-loop-index : goal.invariant-loop-index
 invariant-loop-index l = record {
   counts : AreCountsOf (take l.index l.events) l.counts;
   sizes : AreSizesOf l.limits (take l.index l.events) l.sizes.core l.sizes.max;
-  levels : AreLevelsOf l.limits (take l.index l.events) l.levels.items;
+  each : length l.levels.items ≡ l.index;
+  after : (k : ℕ) (level : Level) → slice_get l.levels.items k ≡ Some level → IsLevelAfter l.limits (take (k + 1) l.events) level;
 }

@@ -1,20 +1,19 @@
-use Rattle.std.proofs.Common.{◌∙◌, sym, subst, rules}
+use Rattle.std.proofs.Common.{◌∙◌, rules, sym, subst}
 use Rattle.resil_stats.specs.Stats.{HasRoomFor}
-use Rattle.resil_stats.proofs.CallerLaws.{callers-quiet, callers-submit, has-room, looked-up, others-same, unwrapped}
+use Rattle.resil_stats.proofs.CallerLaws.{callers-quiet, callers-submit, has-room, numbers-read}
 use Rattle.resil_stats.proofs.stats.record_caller.Goals as goal
 
 pub returns-in_default : goal.returns-in_default
-returns-in_default c = record {
-  counted = λ h are. callers-quiet c.args.callers.now h c.args.event (λ caller. others-same h c.args.event caller c.in_default.not-Submit) are;
-  ordered = c.requires.ordered;
-}
+returns-in_default c = record { counted = λ h are. callers-quiet c.args.callers.now h c.args.event c.in_default.not-Submit are; ordered = c.requires.ordered }
 
 pub with-requires : goal.with-requires
 with-requires c =
-    let before = looked-up c.requires.room.0 c.in-Submit.id.caller _ (c.get.ensures.value ∙ c.requires.room.1 c.in-Submit.id.caller) c.unwrap_or-before.result (unwrapped _ c.unwrap_or-before.result c.default-nothing.result (search rules) (rw c.copied.ensures at c.unwrap_or-before.ensures)) in
+    let found = c.get.ensures.value ∙ c.requires.room.1 c.in-Submit.id.caller in
+    let before = numbers-read c.requires.room.0 c.in-Submit.id.caller _ c.default-nothing.result c.unwrap_or-before.result found (search rules) (rw c.copied.ensures at c.unwrap_or-before.ensures) in
     subst HasRoomFor (sym before) (has-room c.requires.room.0 c.in-Submit.id.caller c.requires.room.2)
 
 pub returns-clause-counted : goal.returns-clause-counted
 returns-clause-counted c = λ h are.
-    let before = looked-up h c.in-Submit.id.caller _ (c.get.ensures.value ∙ are c.in-Submit.id.caller) c.unwrap_or-before.result (unwrapped _ c.unwrap_or-before.result c.default-nothing.result (search rules) (rw c.copied.ensures at c.unwrap_or-before.ensures)) in
+    let found = c.get.ensures.value ∙ are c.in-Submit.id.caller in
+    let before = numbers-read h c.in-Submit.id.caller _ c.default-nothing.result c.unwrap_or-before.result found (search rules) (rw c.copied.ensures at c.unwrap_or-before.ensures) in
     rw c.in-Submit.is (callers-submit c.args.callers.now c.insert.new.self c.in-Submit.id c.in-Submit.reply c.unwrap_or-before.result (rw c.with.ensures at c.in_ok-insert.ensures.updates) h before are)

@@ -1,6 +1,15 @@
-use Rattle.resil_rule.proofs.SizeLaws.{sizes-resized}
-use Rattle.resil_stats.proofs.DepthLaws.{sizes-other}
+use Rattle.std.proofs.Common.{◌≡◌, ◌∷◌, [], ◌++◌, ℕ, List, refl}
+use Rattle.resil_rule.specs.Limits.{Sizes}
+use Rattle.resil_rule.specs.Numbers.{AreSizesOf}
+use Rattle.resil_rule.specs.declared.event.Event.{Event}
+use Rattle.resil_rule.specs.declared.event.Event.TheVariants.{Resized}
+use Rattle.resil_rule.proofs.SizeLaws.{sizes-quiet, sizes-resized}
 use Rattle.resil_stats.proofs.depth.PoolSizes.after.Goals as goal
+
+-- an event that is no resize leaves the sizes
+sizes-other : (limits : Sizes) (h : List Event) (e : Event) (core max : ℕ) → ((c m : ℕ) → e ≡ Resized c m → ⊥) → AreSizesOf limits h core max → AreSizesOf limits (h ++ e ∷ []) core max
+sizes-other limits h (Resized c m) core max other are = absurd (other c m refl)
+sizes-other limits h e core max other are = sizes-quiet limits h e core max refl refl are
 
 pub returns-in-Resized : goal.returns-in-Resized
 returns-in-Resized c = λ limits h are. rw c.in-Resized.is (sizes-resized limits h c.in-Resized.core c.in-Resized.max)
