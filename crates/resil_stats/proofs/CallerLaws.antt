@@ -53,7 +53,7 @@ submit-numbers h x Full c = numbers-more h (Submit x Full) c ∙ refuses-one (x.
 submit-numbers h x Closed c = numbers-more h (Submit x Closed) c ∙ refuses-one (x.caller == c) (Submit x Closed) _ _ _
 
 -- any other event changes those of none
-other-numbers : (h : List Event) (e : Event) (c : ℕ) → ((id : Id) (reply : Reply) → e ≡ Submit id reply → ⊥) → numbers_of (h ++ e ∷ []) c ≡ numbers_of h c
+pub other-numbers : (h : List Event) (e : Event) (c : ℕ) → ((id : Id) (reply : Reply) → e ≡ Submit id reply → ⊥) → numbers_of (h ++ e ∷ []) c ≡ numbers_of h c
 other-numbers h (Submit x reply) c other = absurd (other x reply refl)
 other-numbers h e c other = numbers-more h e c ∙ same-three _ _ _ _ _ _ (omega arith) (omega arith) (omega arith)
 
@@ -72,7 +72,7 @@ parts (Submit x Closed ∷ h) c = let ih = parts h c in simp length-one_if (omeg
 parts (e ∷ h) c = parts h c
 
 -- what is kept of a caller's numbers, nothing where there are no submissions, and what is read of it
-abbrev kept : CallerStats → Option CallerStats
+abbrev pub kept : CallerStats → Option CallerStats
 kept stats = if stats.submissions == 0 then None else Some stats
 
 read-back : (s a r : ℕ) → a + r ≡ s → unwrap_or (kept (three s a r)) (three 0 0 0) ≡ three s a r
@@ -110,7 +110,3 @@ module _ (old new : BTreeMap ℕ CallerStats) (x : Id) (reply : Reply) (before :
       at false other =
           let apart : is_eq (nat_cmp x.caller c) ≡ false = grind (arith, common_steps, other) in
           rw apart (are c)
-
--- the table with any other event
-pub callers-quiet : (old : BTreeMap ℕ CallerStats) (h : List Event) (e : Event) → ((id : Id) (reply : Reply) → e ≡ Submit id reply → ⊥) → AreCallersOf h old → AreCallersOf (h ++ e ∷ []) old
-callers-quiet old h e other are c = are c ∙ sym (ap kept (other-numbers h e c other))

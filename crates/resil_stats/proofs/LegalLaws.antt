@@ -129,9 +129,6 @@ load-after counts load waits runs works limits h legal are =
       workers = omega (arith, works, starts, are.core, are.extra, are.idle_ends);
     }
 
-pub never-after : (counts : Counts) (limits : Sizes) (h : List Event) → IsLegal limits h → AreCountsOf h counts → counts.queued - counts.taken ≡ length (never_started h)
-never-after counts limits h legal are = let count = never-count limits h legal in omega (arith, count, are.taken, are.queued)
-
 -- ---- The first events of a legal history.
 
 pub allowed-take : (limits : Sizes) (before events : List Event) (k : ℕ) → AreAllowedAfter limits before events → AreAllowedAfter limits before (take k events)

@@ -1,5 +1,5 @@
 -- What is made of the events at their places, with one more event, and the places of finishes.
-use Rattle.std.proofs.Common.{◌≡◌, ◌<◌, ◌+◌, ◌∷◌, [], ◌++◌, ◌∙◌, ◌||◌, ℕ, Bool, true, false, List, Option, Some, None, drop, filter_map, get_or, length, take, refl, sym, ap, subst, arith, append-nil, append_assoc}
+use Rattle.std.proofs.Common.{◌≡◌, ◌<◌, ◌+◌, ◌∷◌, [], ◌++◌, ◌∙◌, ◌||◌, ℕ, Bool, false, List, Option, Some, None, drop, filter_map, get_or, length, take, refl, sym, ap, subst, arith, append-nil, append_assoc}
 use Rattle.std.specs.List.{cons_option, position_or_len}
 use Rattle.std.proofs.lemmas.List.{drop_more, length-take-le, take-append-drop, take_more}
 use Rattle.std.proofs.lemmas.List.Elements.{filter_map-append}
@@ -61,8 +61,7 @@ start-no_finish (Finish x) id other start is = absurd (cc is)
 start-no_finish e id other start is = refl
 
 or-none : (a b : Bool) → (a || b) ≡ false → (a ≡ false) × (b ≡ false)
-or-none true b h = absurd (cc h)
-or-none false b h = (refl, h)
+or-none a b h = grind arith
 
 -- what isn't finished in the first events is so later, if at all
 finish-after : (h t : List Event) (id : Id) → is_among id (finished h) ≡ false → position_or_len (is_finish_of id) (h ++ t) ≡ length h + position_or_len (is_finish_of id) t

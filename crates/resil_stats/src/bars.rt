@@ -76,8 +76,8 @@ fn finish_in(events: &[Event], id: Id) -> usize
     ensures finish { result ≡ position_or_len (is_finish_of id) events.now }
     ensures within { result ≤ length events.now }
 {
-    let found = events.iter().position(|event| is_finish_of(event, id));
-    found.unwrap_or(events.len())
+    let before = events.iter().take_while(|event| !is_finish_of(event, id));
+    before.count()
 }
 
 // The first row whose last bar ends before a place, from 0: a new one where each ends later.
@@ -85,8 +85,7 @@ fn free_row(ends: &[usize], place: usize) -> usize
     ensures row { result ≡ free_row place ends.now }
     ensures within { result ≤ length ends.now }
 {
-    let found = ends.iter().position(|end| *end < place);
-    found.unwrap_or(ends.len())
+    ends.iter().take_while(|end| **end >= place).count()
 }
 
 // Puts the end of a bar into a row, which may be one more than there are. Errors: `AllocError` where memory runs out.

@@ -44,12 +44,7 @@ pub struct Column {
 pub fn column_width(events: usize) -> usize
     ensures { IsWidth events result }
 {
-    let full = events / MOST_COLUMNS;
-    if events % MOST_COLUMNS == 0 {
-        full
-    } else {
-        full + 1
-    }
+    events.div_ceil(MOST_COLUMNS)
 }
 
 // Whether an event is a submission with this reply.

@@ -1,7 +1,7 @@
 use Rattle.std.proofs.Common.{[], ◌+◌, arith, take}
 use Rattle.std.proofs.lemmas.List.{length-take-le, take_all, take_more}
 use Rattle.resil_rule.proofs.FreshLaws.{taken-le}
-use Rattle.resil_stats.proofs.LegalLaws.{allowed-take, never-after, no_event}
+use Rattle.resil_stats.proofs.LegalLaws.{allowed-take, never-count, no_event}
 use Rattle.resil_stats.proofs.MostLaws.{are-most_push}
 use Rattle.resil_stats.proofs.stats.count_legal.Goals as goal
 
@@ -37,4 +37,6 @@ overflow_sub-result c =
 
 pub returns-clause-never_started : goal.returns-clause-never_started
 returns-clause-never_started c =
-    never-after c.loop-event.counts c.requires.0 c.args.events.now c.requires.1 (rw (take_all c.loop-event.event-index c.args.events.now (omega arith)) at c.loop-event.invariant.counts)
+    let counts = rw (take_all c.loop-event.event-index c.args.events.now (omega arith)) at c.loop-event.invariant.counts in
+    let never = never-count c.requires.0 c.args.events.now c.requires.1 in
+    omega (arith, never, counts.taken, counts.queued)

@@ -1,10 +1,10 @@
-use Rattle.std.proofs.Common.{◌∙◌, rules, sym, subst}
+use Rattle.std.proofs.Common.{◌∙◌, ap, rules, sym, subst}
 use Rattle.resil_stats.specs.Stats.{HasRoomFor}
-use Rattle.resil_stats.proofs.CallerLaws.{callers-quiet, callers-submit, has-room, numbers-read}
+use Rattle.resil_stats.proofs.CallerLaws.{callers-submit, has-room, kept, numbers-read, other-numbers}
 use Rattle.resil_stats.proofs.stats.record_caller.Goals as goal
 
 pub returns-in_default : goal.returns-in_default
-returns-in_default c = record { counted = λ h are. callers-quiet c.args.callers.now h c.args.event c.in_default.not-Submit are; ordered = c.requires.ordered }
+returns-in_default c = record { counted = λ h are caller. are caller ∙ sym (ap kept (other-numbers h c.args.event caller c.in_default.not-Submit)); ordered = c.requires.ordered }
 
 pub with-requires : goal.with-requires
 with-requires c =
