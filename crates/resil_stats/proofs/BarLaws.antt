@@ -12,13 +12,13 @@ use Rattle.resil_stats.specs.Bars.{IsDrawn, IsPut, IsTaken, finish_place, free_r
 use Rattle.resil_stats.specs.declared.bars.Bar.{Bar}
 use Rattle.resil_stats.specs.declared.bars.Start.{Start}
 use Rattle.resil_stats.proofs.ListLaws.{each-more, get-kept, get-more, last-is, position-before, position-passes}
-use Rattle.resil_stats.proofs.PlaceLaws.{finish-elsewhere, finish-later, made-none, made-one}
+use Rattle.resil_stats.proofs.PlaceLaws.{finish-elsewhere, finish-later, made_none, made_one}
 
 module _ (events : List Event) (i : ℕ) (d : Event) (lt : i < length events) (bars : List Bar) (ends : List ℕ) (old : IsDrawn (take i events) events bars ends) where
   -- at the event no job starts
   pub drawn-quiet : start_at (get_or events i d) ≡ None → IsDrawn (take (i + 1) events) events bars ends
   drawn-quiet none = record {
-    are = record { started = old.are.started ∙ made-none started_at events i d lt (ap (option_map (λ job. record { id = job.0; start = job.1; from = i + 1 })) (sym none)); ends = old.are.ends; apart = old.are.apart; first = old.are.first; rows = old.are.rows };
+    are = record { started = old.are.started ∙ made_none started_at events i d lt (ap (option_map (λ job. record { id = job.0; start = job.1; from = i + 1 })) (sym none)); ends = old.are.ends; apart = old.are.apart; first = old.are.first; rows = old.are.rows };
     shown = old.shown;
     held = old.held;
   }
@@ -77,7 +77,7 @@ module _ (events : List Event) (i : ℕ) (d : Event) (lt : i < length events) (b
     drawn-start = record {
       are = record {
         started = map-append started_of bars (new ∷ []) ∙ ap (λ l. l ++ started_of new ∷ []) old.are.started
-            ∙ made-one started_at events i d lt (started_of new) (ap (option_map (λ job. record { id = job.0; start = job.1; from = i + 1 })) (sym is));
+            ∙ made_one started_at events i d lt (started_of new) (ap (option_map (λ job. record { id = job.0; start = job.1; from = i + 1 })) (sym is));
         ends = each-more (λ k bar. bar.to ≡ finish_place events bar.id) bars new old.are.ends to-place;
         apart = λ k j one other less at_one at. each-more (λ j other. (k : ℕ) (one : Bar) → k < j → slice_get longer k ≡ Some one → one.row ≡ other.row → one.to < other.from) bars new
             (λ j other at k one less at_one. old.are.apart k j one other less (before k one (let within = slice_get_within bars j other at in omega (arith, less, within)) at_one) at)

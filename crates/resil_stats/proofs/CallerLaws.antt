@@ -1,14 +1,13 @@
 -- The numbers of the callers of a history, with one more event.
-use Rattle.std.proofs.Common.{◌≡◌, ◌<◌, ◌+◌, ◌^◌, ◌==◌, ◌∷◌, [], ◌++◌, ◌∙◌, ℕ, zero, suc, cond, Bool, true, false, List, Option, Some, None, if◌then◌else◌, length, filter, refl, sym, ap, unwrap_or, arith, length-append}
+use Rattle.std.proofs.Common.{◌≡◌, ◌<◌, ◌+◌, ◌^◌, ◌==◌, ◌∷◌, [], ◌++◌, ◌∙◌, ℕ, cond, Bool, true, false, List, Option, Some, None, if◌then◌else◌, length, refl, sym, ap, unwrap_or, arith, length-append}
 use Rattle.std.proofs.lemmas.Grind.{common_steps}
 use Rattle.std.proofs.lemmas.List.Elements.{filter_map-append, filter-append}
 use Rattle.std.specs.BTreeMap.{BTreeMap, Updates}
 use Rattle.std.specs.BTreeMap as tree
 use Rattle.std.specs.Ordering.{is_eq, nat_cmp}
-use Rattle.resil_rule.specs.History.{accepted, accepted_id, is_submit_of, submissions}
+use Rattle.resil_rule.specs.History.{is_submit_of, submissions}
 use Rattle.resil_rule.specs.declared.event.Id.{Id}
 use Rattle.resil_rule.specs.declared.event.Reply.{Reply}
-use Rattle.resil_rule.specs.declared.event.Reply.TheVariants.{Core, Queued, Extra, Full, Closed}
 use Rattle.resil_rule.specs.declared.event.Event.{Event}
 use Rattle.resil_rule.specs.declared.event.Event.TheVariants.{Submit}
 use Rattle.resil_stats.specs.Stats.{AreCallersOf, HasRoomFor, accepted_of, caller_stats, is_refused_of, refused_of, with_reply}
@@ -28,56 +27,28 @@ numbers_of h c = three (length (submissions h c)) (length (accepted_of h c)) (le
 -- what one event adds to each number of a caller
 numbers-more : (h : List Event) (e : Event) (c : ℕ)
     → numbers_of (h ++ e ∷ []) c ≡ three (length (submissions h c) + length (submissions (e ∷ []) c)) (length (accepted_of h c) + length (accepted_of (e ∷ []) c)) (length (refused_of h c) + length (refused_of (e ∷ []) c))
-numbers-more h e c = same-three _ _ _ _ _ _ (filter_more (is_submit_of c) h e) accepts (filter_more (is_refused_of c) h e)
-  where
-    accepts : length (accepted_of (h ++ e ∷ []) c) ≡ length (accepted_of h c) + length (accepted_of (e ∷ []) c)
-    accepts =
-        ap (λ ids. length (filter (λ id. id.caller == c) ids)) (filter_map-append accepted_id h (e ∷ []))
-        ∙ ap length (filter-append (λ id. id.caller == c) (accepted h) (accepted (e ∷ [])))
-        ∙ length-append (accepted_of h c) (accepted_of (e ∷ []) c)
-
-accepts-one : (own : Bool) (e : Event) (x : Id) (s a r : ℕ) → three (s + length (cond own (e ∷ []) [])) (a + length (cond own (x ∷ []) [])) (r + 0) ≡ cond own (three (s + 1) (a + 1) r) (three s a r)
-accepts-one true e x s a r = same-three _ _ _ _ _ _ refl refl (omega arith)
-accepts-one false e x s a r = same-three _ _ _ _ _ _ (omega arith) (omega arith) (omega arith)
-
-refuses-one : (own : Bool) (e : Event) (s a r : ℕ) → three (s + length (cond own (e ∷ []) [])) (a + 0) (r + length (cond own (e ∷ []) [])) ≡ cond own (three (s + 1) a (r + 1)) (three s a r)
-refuses-one true e s a r = same-three _ _ _ _ _ _ refl (omega arith) refl
-refuses-one false e s a r = same-three _ _ _ _ _ _ (omega arith) (omega arith) (omega arith)
+numbers-more h e c = same-three _ _ _ _ _ _ (filter_more (is_submit_of c) h e) (rw (filter_map-append, filter-append, length-append) refl) (filter_more (is_refused_of c) h e)
 
 -- a submission changes the numbers of its caller alone
 submit-numbers : (h : List Event) (x : Id) (reply : Reply) (c : ℕ) → numbers_of (h ++ Submit x reply ∷ []) c ≡ cond (x.caller == c) (with_reply (numbers_of h c) reply) (numbers_of h c)
-submit-numbers h x Core c = numbers-more h (Submit x Core) c ∙ accepts-one (x.caller == c) (Submit x Core) x _ _ _
-submit-numbers h x Queued c = numbers-more h (Submit x Queued) c ∙ accepts-one (x.caller == c) (Submit x Queued) x _ _ _
-submit-numbers h x Extra c = numbers-more h (Submit x Extra) c ∙ accepts-one (x.caller == c) (Submit x Extra) x _ _ _
-submit-numbers h x Full c = numbers-more h (Submit x Full) c ∙ refuses-one (x.caller == c) (Submit x Full) _ _ _
-submit-numbers h x Closed c = numbers-more h (Submit x Closed) c ∙ refuses-one (x.caller == c) (Submit x Closed) _ _ _
+submit-numbers h x reply c = grind (arith, common_steps, numbers-more h (Submit x reply) c)
 
 -- any other event changes those of none
 pub other-numbers : (h : List Event) (e : Event) (c : ℕ) → ((id : Id) (reply : Reply) → e ≡ Submit id reply → ⊥) → numbers_of (h ++ e ∷ []) c ≡ numbers_of h c
 other-numbers h (Submit x reply) c other = absurd (other x reply refl)
 other-numbers h e c other = numbers-more h e c ∙ same-three _ _ _ _ _ _ (omega arith) (omega arith) (omega arith)
 
-length-one_if : {A : Type 0} (b : Bool) (x : A) (xs : List A) → length (cond b (x ∷ xs) xs) ≡ cond b 1 0 + length xs
-length-one_if true x xs = omega arith
-length-one_if false x xs = omega arith
-
 -- each submission of a caller was accepted or refused
 parts : (h : List Event) (c : ℕ) → length (accepted_of h c) + length (refused_of h c) ≡ length (submissions h c)
 parts [] c = refl
-parts (Submit x Core ∷ h) c = let ih = parts h c in simp length-one_if (omega (arith, ih))
-parts (Submit x Queued ∷ h) c = let ih = parts h c in simp length-one_if (omega (arith, ih))
-parts (Submit x Extra ∷ h) c = let ih = parts h c in simp length-one_if (omega (arith, ih))
-parts (Submit x Full ∷ h) c = let ih = parts h c in simp length-one_if (omega (arith, ih))
-parts (Submit x Closed ∷ h) c = let ih = parts h c in simp length-one_if (omega (arith, ih))
-parts (e ∷ h) c = parts h c
+parts (e ∷ h) c = grind (arith, common_steps, parts h c)
 
 -- what is kept of a caller's numbers, nothing where there are no submissions, and what is read of it
 abbrev pub kept : CallerStats → Option CallerStats
 kept stats = if stats.submissions == 0 then None else Some stats
 
 read-back : (s a r : ℕ) → a + r ≡ s → unwrap_or (kept (three s a r)) (three 0 0 0) ≡ three s a r
-read-back zero a r sum = same-three _ _ _ _ _ _ refl (omega (arith, sum)) (omega (arith, sum))
-read-back (suc s) a r sum = let some : (suc s == 0) ≡ false = grind (arith, common_steps) in rw some refl
+read-back s a r sum = grind (arith, common_steps)
 
 pub numbers-read : (h : List Event) (c : ℕ) (found : Option CallerStats) (nothing before : CallerStats) → found ≡ caller_stats h c → nothing ≡ three 0 0 0 → before ≡ unwrap_or found nothing → before ≡ numbers_of h c
 numbers-read h c found nothing before is zeros read = read ∙ ap (unwrap_or found) zeros ∙ ap (λ o. unwrap_or o (three 0 0 0)) is ∙ read-back _ _ _ (parts h c)
@@ -94,13 +65,8 @@ module _ (old new : BTreeMap ℕ CallerStats) (x : Id) (reply : Reply) (before :
   pub callers-submit : (h : List Event) → before ≡ numbers_of h x.caller → AreCallersOf h old → AreCallersOf (h ++ Submit x reply ∷ []) new
   callers-submit h is are c = put.0 c ∙ at (x.caller == c) refl ∙ sym (ap kept (submit-numbers h x reply c))
     where
-      some : (n : ℕ) → (n + 1 == 0) ≡ false
-      some n = grind (arith, common_steps)
-
       some-made : (stats : CallerStats) (reply : Reply) → Some (with_reply stats reply) ≡ kept (with_reply stats reply)
-      some-made stats Full = rw some refl
-      some-made stats Closed = rw some refl
-      some-made stats reply = rw some refl
+      some-made stats reply = grind (arith, common_steps)
 
       at : (own : Bool) → (x.caller == c) ≡ own → cond (is_eq (nat_cmp x.caller c)) (Some (with_reply before reply)) (tree.get nat_cmp old c) ≡ kept (cond own (with_reply (numbers_of h c) reply) (numbers_of h c))
       at true own =

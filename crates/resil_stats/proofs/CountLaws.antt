@@ -1,6 +1,6 @@
 -- The counts of a history, with one more event.
-use Rattle.std.proofs.Common.{◌≡◌, ◌≤◌, ◌+◌, ◌∷◌, [], ◌++◌, ◌∙◌, suc, Bool, List, Option, Some, None, length, filter, ap, arith, length-append}
-use Rattle.std.specs.List.{cons_option, filter_map}
+use Rattle.std.proofs.Common.{◌≡◌, ◌≤◌, ◌+◌, ◌∷◌, [], ◌++◌, ◌∙◌, Bool, List, Option, length, filter, ap, arith, length-append}
+use Rattle.std.specs.List.{filter_map}
 use Rattle.std.proofs.lemmas.List.Elements.{filter_map-append, filter-append}
 use Rattle.std.proofs.lemmas.List.Sums.{count_by-le-length, length-filter}
 use Rattle.resil_rule.specs.History.{finished, finished_id, is_idle_end, new_core, queued, queued_id, taken, taken_id}
@@ -30,18 +30,20 @@ pub record IsOneMore (e : Event) (old new : Counts) : Type 0 where
   pub resizes : new.resizes ≡ old.resizes + length (filter_map new_core (e ∷ []))
 
 pub counts_push : (e : Event) (old new : Counts) → IsOneMore e old new → (h : List Event) → AreCountsOf h old → AreCountsOf (h ++ e ∷ []) new
-counts_push e old new more h counts = record {
-  submissions = let m = filter_more is_submit h e in omega (arith, more.submissions, counts.submissions, m);
-  core = let m = filter_more is_core_reply h e in omega (arith, more.core, counts.core, m);
-  queued = let m = made_more queued_id h e in omega (arith, more.queued, counts.queued, m);
-  extra = let m = filter_more is_extra_reply h e in omega (arith, more.extra, counts.extra, m);
-  full = let m = filter_more is_full_reply h e in omega (arith, more.full, counts.full, m);
-  closed = let m = filter_more is_closed_reply h e in omega (arith, more.closed, counts.closed, m);
-  taken = let m = made_more taken_id h e in omega (arith, more.taken, counts.taken, m);
-  finished = let m = made_more finished_id h e in omega (arith, more.finished, counts.finished, m);
-  idle_ends = let m = filter_more is_idle_end h e in omega (arith, more.idle_ends, counts.idle_ends, m);
-  resizes = let m = made_more new_core h e in omega (arith, more.resizes, counts.resizes, m);
-}
+counts_push e old new more h counts =
+    omega (
+      arith,
+      filter_more is_submit h e,
+      filter_more is_core_reply h e,
+      filter_more is_extra_reply h e,
+      filter_more is_full_reply h e,
+      filter_more is_closed_reply h e,
+      filter_more is_idle_end h e,
+      made_more queued_id h e,
+      made_more taken_id h e,
+      made_more finished_id h e,
+      made_more new_core h e,
+    )
 
 -- no more events pass a test, and no more items are made, than there are events
 pub filter_few : (p : Event → Bool) (h : List Event) → length (filter p h) ≤ length h
@@ -49,6 +51,4 @@ filter_few p h = rw length-filter (count_by-le-length p h)
 
 pub made_few : {A : Type 0} (f : Event → Option A) (h : List Event) → length (filter_map f h) ≤ length h
 made_few f [] = omega arith
-made_few f (e ∷ h) =
-    let few = made_few f h in
-    elim (f e) as (λ o. length (cons_option o (filter_map f h)) ≤ suc (length h)) [ None ↦ omega (arith, few) | Some x ↦ omega (arith, few) ]
+made_few f (e ∷ h) = grind (arith, made_few f h)

@@ -4,7 +4,7 @@ use Rattle.resil_rule.specs.Limits.{Sizes}
 use Rattle.resil_rule.specs.Admission.{AreAllowedAfter, IsLegal}
 use Rattle.resil_rule.specs.History.{accepted, accepted_id, finished, is_among, queued, running, started, taken, times}
 use Rattle.resil_rule.specs.declared.event.Id.{Id}
-use Rattle.resil_rule.specs.declared.event.Reply.TheVariants.{Core, Queued, Extra}
+use Rattle.resil_rule.specs.declared.event.Reply.TheVariants.{Core}
 use Rattle.resil_rule.specs.declared.event.Event.{Event}
 use Rattle.resil_rule.specs.declared.event.Event.TheVariants.{Submit}
 use Rattle.resil_rule.proofs.ConservationLaws.{accepted-parts, times-cons, tracked}
@@ -54,17 +54,12 @@ outside-count done ids once within = outside-more [] done ids once within ∙ ap
 -- each accepted job was started or queued
 parts-length : (h : List Event) → length (started h) + length (queued h) ≡ length (accepted h)
 parts-length [] = refl
-parts-length (Submit x Core ∷ h) = let ih = parts-length h in omega (arith, ih)
-parts-length (Submit x Queued ∷ h) = let ih = parts-length h in omega (arith, ih)
-parts-length (Submit x Extra ∷ h) = let ih = parts-length h in omega (arith, ih)
-parts-length (e ∷ h) = parts-length h
+parts-length (e ∷ h) = grind (arith, parts-length h)
 
 -- a worker was started for each submission below the core size, and for each one above it
 started-replies : (h : List Event) → length (started h) ≡ length (filter is_core_reply h) + length (filter is_extra_reply h)
 started-replies [] = refl
-started-replies (Submit x Core ∷ h) = let ih = started-replies h in omega (arith, ih)
-started-replies (Submit x Extra ∷ h) = let ih = started-replies h in omega (arith, ih)
-started-replies (e ∷ h) = started-replies h
+started-replies (e ∷ h) = grind (arith, started-replies h)
 
 -- ---- The lists of a legal history.
 
@@ -109,12 +104,7 @@ are_possible counts (limits, h, legal, are, short) =
     let all = parts-length h in
     let few = made_few accepted_id h in
     let runs = running-count limits h legal in
-    record {
-      fits = omega (arith, starts, numbers.taken_few, all, few, short, are.core, are.extra, are.taken);
-      takes = omega (arith, numbers.taken_few, are.taken, are.queued);
-      ends = omega (arith, numbers.ended_few, starts, are.core, are.extra, are.idle_ends);
-      finishes = omega (arith, runs, starts, are.core, are.extra, are.taken, are.finished);
-    }
+    omega arith
 
 -- the load that is computed from the counts of a legal history
 pub load-after : (counts : Counts) (load : Load) → load.waiting ≡ counts.queued - counts.taken → load.running ≡ counts.core + counts.extra + counts.taken - counts.finished
@@ -123,11 +113,7 @@ load-after counts load waits runs works limits h legal are =
     let starts = started-replies h in
     let line = length-drop (length (taken h)) (queued h) in
     let count = running-count limits h legal in
-    record {
-      waiting = omega (arith, waits, line, are.taken, are.queued);
-      running = omega (arith, runs, count, starts, are.core, are.extra, are.taken, are.finished);
-      workers = omega (arith, works, starts, are.core, are.extra, are.idle_ends);
-    }
+    omega arith
 
 -- ---- The first events of a legal history.
 

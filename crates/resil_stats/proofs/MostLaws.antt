@@ -1,5 +1,6 @@
 -- The greatest of a number over the prefixes of a history, with one more event.
 use Rattle.std.proofs.Common.{◌≡◌, ◌+◌, ◌∷◌, [], ◌++◌, ◌∙◌, ◌⊎◌, inl, inr, ℕ, List, length, take, max, min, sym, ap, arith, length-append}
+use Rattle.std.proofs.lemmas.Grind.{common_steps}
 use Rattle.std.proofs.lemmas.List.{take-append-le, take_all, take_min}
 use Rattle.std.proofs.lemmas.Bool.Decides.{leb_tells}
 use Rattle.resil_rule.specs.History.{running, waiting, workers}
@@ -9,11 +10,7 @@ use Rattle.resil_stats.specs.declared.stats.Load.{Load}
 
 -- a prefix of the events with one more is one of the events, or all of them
 prefix-push : (k : ℕ) (h : List Event) (e : Event) → (take k (h ++ e ∷ []) ≡ take k h) ⊎ (take k (h ++ e ∷ []) ≡ h ++ e ∷ [])
-prefix-push k h e =
-    elim (leb_tells k (length h)) [
-      | inl le ↦ inl (take-append-le k h (e ∷ []) le.1)
-      | inr lt ↦ let long = length-append h (e ∷ []) in let more = lt.1 in inr (take_all k (h ++ e ∷ []) (omega (arith, long, more)))
-    ]
+prefix-push k h e = grind (arith, common_steps, take-append-le, take_all)
 
 -- and each prefix of the events is one of the events with one more
 prefix-kept : (k : ℕ) (h : List Event) (e : Event) → (n : ℕ) × (take n (h ++ e ∷ []) ≡ take k h)
@@ -22,10 +19,7 @@ prefix-kept k h e = (min k (length h), take-append-le (min k (length h)) h (e �
 module _ (number : List Event → ℕ) where
   pub most-push : (h : List Event) (e : Event) (most now next : ℕ) → now ≡ number (h ++ e ∷ []) → next ≡ max most now → IsMost number h most → IsMost number (h ++ e ∷ []) next
   most-push h e most now next is raised old = record {
-    bound = λ k. elim (prefix-push k h e) [
-      | inl same ↦ let le = old.bound k in let s = ap number same in omega (arith, le, s, raised)
-      | inr all ↦ let s = ap number all in omega (arith, s, is, raised)
-    ];
+    bound = λ k. grind (arith, prefix-push k h e, old.bound k);
     reached = elim (leb_tells now most) [
       | inl le ↦ let kept = prefix-kept old.reached.0 h e in (kept.0, ap number kept.1 ∙ old.reached.1 ∙ let less = le.1 in let s : most ≡ next = omega (arith, less, raised) in s)
       | inr lt ↦

@@ -1,28 +1,27 @@
 -- What is made of the events at their places, with one more event, and the places of finishes.
-use Rattle.std.proofs.Common.{◌≡◌, ◌<◌, ◌+◌, ◌∷◌, [], ◌++◌, ◌∙◌, ◌||◌, ℕ, Bool, false, List, Option, Some, None, drop, filter_map, get_or, length, take, refl, sym, ap, subst, arith, append-nil, append_assoc}
-use Rattle.std.specs.List.{cons_option, position_or_len}
+use Rattle.std.proofs.Common.{◌≡◌, ◌<◌, ◌+◌, ◌∷◌, [], ◌++◌, ◌∙◌, ℕ, false, List, Option, Some, None, drop, filter_map, get_or, length, take, refl, sym, ap, subst, arith, append-nil, append_assoc}
+use Rattle.std.specs.List.{cons_option, enumerate_from, position_or_len}
+use Rattle.std.proofs.lemmas.Grind.{common_steps}
 use Rattle.std.proofs.lemmas.List.{drop_more, length-take-le, take-append-drop, take_more}
 use Rattle.std.proofs.lemmas.List.Elements.{filter_map-append}
 use Rattle.std.proofs.lemmas.List.Sums.{passes_at_first}
 use Rattle.std.proofs.lemmas.Option.{some_pair_parts}
 use Rattle.resil_rule.specs.Limits.{Sizes}
 use Rattle.resil_rule.specs.Admission.{AreAllowedAfter, IsAllowed, IsLegal}
-use Rattle.resil_rule.specs.History.{finished, is_among, is_same_id}
+use Rattle.resil_rule.specs.History.{finished, is_among}
 use Rattle.resil_rule.specs.declared.event.Id.{Id}
 use Rattle.resil_rule.specs.declared.event.Reply.TheVariants as reply
 use Rattle.resil_rule.specs.declared.event.Event.{Event}
-use Rattle.resil_rule.specs.declared.event.Event.TheVariants.{Submit, Take, Finish}
+use Rattle.resil_rule.specs.declared.event.Event.TheVariants.{Submit, Take}
 use Rattle.resil_rule.proofs.ConservationLaws.{front-unfinished, new-unfinished}
-use Rattle.resil_stats.specs.Bars.{finish_place, is_finish_of, placed, placed_from, start_at}
+use Rattle.resil_stats.specs.Bars.{finish_place, is_finish_of, placed, start_at}
 use Rattle.resil_stats.specs.declared.bars.Start.{Start}
 
 -- ---- Events with their places.
 
-placed-push : (p : ℕ) (h : List Event) (e : Event) → placed_from p (h ++ e ∷ []) ≡ placed_from p h ++ (p + length h, e) ∷ []
-placed-push p [] e = let same : p ≡ p + 0 = omega arith in ap (λ n. (n, e) ∷ []) same
-placed-push p (x ∷ h) e =
-    let same : p + 1 + length h ≡ p + length (x ∷ h) = omega arith in
-    ap (λ l. (p, x) ∷ l) (placed-push (p + 1) h e ∙ ap (λ n. placed_from (p + 1) h ++ (n, e) ∷ []) same)
+placed-push : (p : ℕ) (h : List Event) (e : Event) → enumerate_from p (h ++ e ∷ []) ≡ enumerate_from p h ++ (p + length h, e) ∷ []
+placed-push p [] e = grind (arith, common_steps)
+placed-push p (x ∷ h) e = grind (arith, common_steps, placed-push (p + 1) h e)
 
 -- what is made of the events up to one, of which nothing is made or something is
 module _ {A : Type 0} (f : ℕ × Event → Option A) (events : List Event) (i : ℕ) (d : Event) (lt : i < length events) where
@@ -35,11 +34,11 @@ module _ {A : Type 0} (f : ℕ × Event → Option A) (events : List Event) (i :
       ap (λ l. filter_map f (placed l)) (take_more events i d lt) ∙ ap (filter_map f) (placed-push 1 h e)
       ∙ filter_map-append f (placed h) ((1 + length h, e) ∷ []) ∙ ap (λ n. filter_map f (placed h) ++ cons_option (f (n, e)) []) same
 
-  pub made-none : None ≡ f (i + 1, get_or events i d) → filter_map f (placed (take i events)) ≡ filter_map f (placed (take (i + 1) events))
-  made-none none = sym (made-more ∙ ap (λ o. filter_map f (placed (take i events)) ++ cons_option o []) (sym none) ∙ append-nil _)
+  pub made_none : None ≡ f (i + 1, get_or events i d) → filter_map f (placed (take i events)) ≡ filter_map f (placed (take (i + 1) events))
+  made_none none = sym (made-more ∙ ap (λ o. filter_map f (placed (take i events)) ++ cons_option o []) (sym none) ∙ append-nil _)
 
-  pub made-one : (x : A) → Some x ≡ f (i + 1, get_or events i d) → filter_map f (placed (take i events)) ++ x ∷ [] ≡ filter_map f (placed (take (i + 1) events))
-  made-one x one = sym (made-more ∙ ap (λ o. filter_map f (placed (take i events)) ++ cons_option o []) (sym one))
+  pub made_one : (x : A) → Some x ≡ f (i + 1, get_or events i d) → filter_map f (placed (take i events)) ++ x ∷ [] ≡ filter_map f (placed (take (i + 1) events))
+  made_one x one = sym (made-more ∙ ap (λ o. filter_map f (placed (take i events)) ++ cons_option o []) (sym one))
 
 -- ---- The places of finishes.
 
@@ -57,17 +56,12 @@ fresh limits h e id start legal allowed is = absurd (cc is)
 
 -- an event at which a job starts is no finish
 start-no_finish : (e : Event) (id other : Id) (start : Start) → start_at e ≡ Some (id, start) → is_finish_of other e ≡ false
-start-no_finish (Finish x) id other start is = absurd (cc is)
-start-no_finish e id other start is = refl
-
-or-none : (a b : Bool) → (a || b) ≡ false → (a ≡ false) × (b ≡ false)
-or-none a b h = grind arith
+start-no_finish e id other start is = grind arith
 
 -- what isn't finished in the first events is so later, if at all
 finish-after : (h t : List Event) (id : Id) → is_among id (finished h) ≡ false → position_or_len (is_finish_of id) (h ++ t) ≡ length h + position_or_len (is_finish_of id) t
 finish-after [] t id none = omega arith
-finish-after (Finish x ∷ h) t id none = let parts = or-none (is_same_id id x) _ none in let ih = finish-after h t id parts.1 in rw parts.0 (omega (arith, ih))
-finish-after (e ∷ h) t id none = let ih = finish-after h t id none in omega (arith, ih)
+finish-after (e ∷ h) t id none = let ih = finish-after h t id in grind (arith, common_steps, ih)
 
 -- at the place of a start no job is finished, and the one that starts is so later
 module _ (events : List Event) (i : ℕ) (d : Event) (id : Id) (start : Start) (lt : i < length events) (is : start_at (get_or events i d) ≡ Some (id, start)) where

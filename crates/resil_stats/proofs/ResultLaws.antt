@@ -1,5 +1,5 @@
 -- The parts of a body with results.
-use Rattle.std.proofs.Common.{◌≡◌, ◌+◌, ◌&&◌, ◌∷◌, ◌++◌, ◌∙◌, ℕ, Bool, true, false, List, [], length, take, drop, Some, None, Option, refl, sym, ap, arith, append_assoc, append-nil}
+use Rattle.std.proofs.Common.{◌≡◌, ◌+◌, ◌&&◌, ◌++◌, ◌∙◌, ℕ, Bool, true, false, List, [], length, take, drop, Some, None, Option, refl, sym, ap, arith, append-nil}
 use Rattle.std.proofs.Math.Seq.{take-add}
 use Rattle.std.proofs.lemmas.Grind.{common_steps}
 use Rattle.resil_input.specs.Framing.{lines_of, with_prefix}
@@ -7,8 +7,7 @@ use Rattle.resil_input.proofs.FramingLaws.{IsLineAt, concat-lines_of, rest-drop}
 use Rattle.resil_stats.specs.Results.{begins_results, cut_at_results, is_empty_line, results_of}
 
 with_prefix-append : (a b : List ℕ) (parts : Option (List ℕ × List ℕ)) → with_prefix a (with_prefix b parts) ≡ with_prefix (a ++ b) parts
-with_prefix-append a b None = refl
-with_prefix-append a b (Some p) = ap (λ head. Some (head, p.1)) (sym (append_assoc a b p.0))
+with_prefix-append a b parts = grind (arith, common_steps)
 
 -- a text that isn't parted before `start`, and the line that begins there
 module _ (text line rest : List ℕ) (start : ℕ) (at : IsLineAt text start line rest)
@@ -42,8 +41,3 @@ module _ (text line rest : List ℕ) (start : ℕ) (at : IsLineAt text start lin
 pub results-end : (text : List ℕ) (start : ℕ) → length (drop start text) ≡ 0 → results_of text ≡ with_prefix (take start text) (results_of (drop start text)) → results_of text ≡ None
 unfolding cut_at_results lines_of
 results-end text start past before = let none : drop start text ≡ [] = search (arith, common_steps) in before ∙ rw none refl
-
-pub begins-none : (text : List ℕ) → length text ≡ 0 → false ≡ begins_results (lines_of text)
-unfolding lines_of
-begins-none [] none = refl
-begins-none (x ∷ xs) none = absurd (omega arith)

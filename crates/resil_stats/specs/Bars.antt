@@ -1,6 +1,6 @@
 -- The bars of a history: one for each job that started, from its start to its finish, each in the first row that is free.
-use Rattle.std.specs.Prelude.{ℕ, ◌≡◌, ◌≤◌, ◌<◌, ◌+◌, ◌∷◌, [], Bool, false, List, Option, Some, None, map, nat_lt, slice_get}
-use Rattle.std.specs.List.{filter_map, position_or_len}
+use Rattle.std.specs.Prelude.{ℕ, ◌≡◌, ◌≤◌, ◌<◌, ◌+◌, Bool, false, List, Option, Some, None, map, nat_lt, slice_get}
+use Rattle.std.specs.List.{enumerate_from, filter_map, position_or_len}
 use Rattle.std.specs.Option.{option_map}
 use Rattle.resil_rule.specs.History.{is_same_id}
 use Rattle.resil_rule.specs.declared.event.Id.{Id}
@@ -13,14 +13,9 @@ use Rattle.resil_stats.specs.declared.bars.Start.TheVariants.{Core, Extra, Queue
 
 -- ---- Events and their places.
 
--- the events with their places, which count from a first one
-abbrev pub placed_from : ℕ → List Event → List (ℕ × Event)
-placed_from place [] = []
-placed_from place (event ∷ events) = (place, event) ∷ placed_from (place + 1) events
-
 -- the events of a history with their places, from 1
 abbrev pub placed : List Event → List (ℕ × Event)
-placed history = placed_from 1 history
+placed history = enumerate_from 1 history
 
 -- the job that starts at an event, and how: with a new worker, or taken from the queue; no job starts where it is refused
 abbrev pub start_at : Event → Option (Id × Start)

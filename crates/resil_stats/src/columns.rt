@@ -3,7 +3,7 @@
 //! So many events make a column that there are 350 at most. A column has the greatest of each number,
 //! since a peak is what one looks for.
 
-ghost use Rattle.std.specs.Prelude.{◌≡◌, ◌≤◌, ◌+◌, ◌<◌, ◌⊎◌, IfOk, count_by, length, map};
+ghost use Rattle.std.specs.Prelude.{◌≡◌, ◌≤◌, ◌+◌, ◌<◌, IfOk, count_by, length, map};
 ghost use Rattle.resil_stats.specs.Stats.{has_reply};
 ghost use Rattle.resil_stats.specs.Columns.{AreColumnsOf, HasLastSizes, IsColumnOf, IsPeakAmong, IsWidth, greatest};
 
@@ -67,17 +67,6 @@ fn count_replies(events: &[Event], reply: Reply) -> usize
         .count()
 }
 
-// The level of two at which more jobs run, the first one where as many do.
-fn higher(peak: Level, next: Level) -> Level
-    ensures { ((peak.running < next.running) × (result ≡ next)) ⊎ ((next.running ≤ peak.running) × (result ≡ peak)) }
-{
-    if peak.running < next.running {
-        next
-    } else {
-        peak
-    }
-}
-
 // The most jobs that wait at some levels.
 fn most_waiting(levels: &[Level]) -> usize
     ensures { result ≡ greatest (map (λ level. level.waiting) levels.now) }
@@ -99,18 +88,22 @@ fn most_workers(levels: &[Level]) -> usize
 }
 
 // The first level at which most jobs run.
+#[tactic(auto, using(crate::proofs::ColumnLaws::peak_is))]
 fn peak_of(levels: &[Level]) -> Level
     requires { 0 < length levels.now }
     ensures { IsPeakAmong levels.now (length levels.now) result }
 {
-    let mut peak = levels[0];
-    for level in levels {
-        peak = higher(peak, *level);
+    let mut peak = 0;
+    for index in 1..levels.len() {
+        if levels[peak].running < levels[index].running {
+            peak = index;
+        }
     }
-    peak
+    levels[peak]
 }
 
 // The column of the events from one index up to another.
+#[tactic(auto, using(std::proofs::lemmas::Option::gets))]
 fn gather_column(events: &[Event], levels: &[Level], start: usize, end: usize) -> Column
     requires order { start < end }
     requires within { end ≤ length events.now }

@@ -73,6 +73,7 @@ fn is_results_line(line: &[u8]) -> bool
 }
 
 // Whether the first line of a text is the header of results.
+#[tactic(auto, unfolding(resil_input::specs::Framing::lines_of))]
 fn begins_results(text: &[u8]) -> bool
     ensures { result ≡ begins_results (lines_of text.now) }
 {

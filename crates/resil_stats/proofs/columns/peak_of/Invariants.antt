@@ -1,6 +1,6 @@
-use Rattle.resil_stats.specs.Columns.{IsPeakAmong}
+use Rattle.std.specs.List.{IsFirstMaxByKey}
 use Rattle.resil_stats.proofs.columns.peak_of.Given as goal
 
--- the peak of the levels so far
-abbrev pub invariant-loop-level : goal.invariant-loop-level
-invariant-loop-level l = IsPeakAmong l.levels l.level-index l.peak
+-- the first of the levels so far at which most jobs run
+abbrev pub invariant-loop-index : goal.invariant-loop-index
+invariant-loop-index l = IsFirstMaxByKey (λ level. level.running) l.levels l.index l.peak
