@@ -36,7 +36,7 @@ module _ (events : List Event) (i : ℕ) (d : Event) (lt : i < length events) (b
     longer = bars ++ new ∷ []
 
     to-place : to ≡ finish_place events id
-    to-place = let later = finish-later events i d id start lt is limits legal in omega (arith, to-is, later)
+    to-place = omega (arith, finish-later events i d id start lt is limits legal)
 
     -- each bar before it in its row ended
     ended : (k : ℕ) (one : Bar) → slice_get bars k ≡ Some one → one.row ≡ row + 1 → one.to < i + 1

@@ -21,10 +21,8 @@ module _ (number : List Event → ℕ) where
   most-push h e most now next is raised old = record {
     bound = λ k. grind (arith, prefix-push k h e, old.bound k);
     reached = elim (leb_tells now most) [
-      | inl le ↦ let kept = prefix-kept old.reached.0 h e in (kept.0, ap number kept.1 ∙ old.reached.1 ∙ let less = le.1 in let s : most ≡ next = omega (arith, less, raised) in s)
-      | inr lt ↦
-          let long = length-append h (e ∷ []) in
-          (length h + 1, ap number (take_all (length h + 1) (h ++ e ∷ []) (omega (arith, long))) ∙ sym is ∙ let more = lt.1 in let s : now ≡ next = omega (arith, more, raised) in s)
+      | inl le ↦ let kept = prefix-kept old.reached.0 h e in (kept.0, grind (arith, kept.1, old.reached.1))
+      | inr lt ↦ (length h + 1, grind (arith, common_steps, take_all (length h + 1) (h ++ e ∷ [])))
     ];
   }
 

@@ -26,13 +26,7 @@ placed-push p (x ∷ h) e = grind (arith, common_steps, placed-push (p + 1) h e)
 -- what is made of the events up to one, of which nothing is made or something is
 module _ {A : Type 0} (f : ℕ × Event → Option A) (events : List Event) (i : ℕ) (d : Event) (lt : i < length events) where
   made-more : filter_map f (placed (take (i + 1) events)) ≡ filter_map f (placed (take i events)) ++ cons_option (f (i + 1, get_or events i d)) []
-  made-more =
-      let h = take i events in
-      let e = get_or events i d in
-      let few = length-take-le i events (omega (arith, lt)) in
-      let same : 1 + length h ≡ i + 1 = omega (arith, few) in
-      ap (λ l. filter_map f (placed l)) (take_more events i d lt) ∙ ap (filter_map f) (placed-push 1 h e)
-      ∙ filter_map-append f (placed h) ((1 + length h, e) ∷ []) ∙ ap (λ n. filter_map f (placed h) ++ cons_option (f (n, e)) []) same
+  made-more = grind (arith, common_steps, placed-push 1 (take i events) (get_or events i d), filter_map-append f (placed (take i events)))
 
   pub made_none : None ≡ f (i + 1, get_or events i d) → filter_map f (placed (take i events)) ≡ filter_map f (placed (take (i + 1) events))
   made_none none = sym (made-more ∙ ap (λ o. filter_map f (placed (take i events)) ++ cons_option o []) (sym none) ∙ append-nil _)

@@ -1,5 +1,6 @@
 -- A text to which records are added.
-use Rattle.std.proofs.Common.{◌≡◌, ◌∷◌, [], ◌++◌, ◌∙◌, ℕ, List, sym, ap, append_assoc, append-nil}
+use Rattle.std.proofs.Common.{◌≡◌, ◌∷◌, [], ◌++◌, ◌∙◌, ℕ, List, sym, ap, append_assoc, arith, append-nil}
+use Rattle.std.proofs.lemmas.Grind.{common_steps}
 use Rattle.std.proofs.lemmas.List.Concat.{flat_map-append}
 use Rattle.resil_input.specs.CsvTable.{record_text, table_text}
 use Rattle.resil_stats.specs.Text.{IsExtended, caller_records, callers_records}
@@ -19,9 +20,4 @@ at-end {s} rs r first next = record { is = (after first (alone r next)).is ∙ a
 -- a text with the records of one more caller
 pub caller-pushed : (old new whole : List ℕ) (entry : ℕ × CallerStats) (left after : List (ℕ × CallerStats)) → left ≡ entry ∷ after
     → IsExtended old new (table_text (caller_records entry)) → old ++ table_text (callers_records left) ≡ whole → new ++ table_text (callers_records after) ≡ whole
-caller-pushed old new whole entry left after is more was =
-    ap (λ (l : List ℕ). l ++ table_text (callers_records after)) more.is
-    ∙ append_assoc old (table_text (caller_records entry)) (table_text (callers_records after))
-    ∙ ap (λ (l : List ℕ). old ++ l) (sym (flat_map-append record_text (caller_records entry) (callers_records after)))
-    ∙ ap (λ (l : List (ℕ × CallerStats)). old ++ table_text (callers_records l)) (sym is)
-    ∙ was
+caller-pushed old new whole entry left after is more was = grind (arith, common_steps, more.is, flat_map-append record_text (caller_records entry) (callers_records after))
