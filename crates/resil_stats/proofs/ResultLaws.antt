@@ -31,9 +31,7 @@ module _ (text line rest : List ℕ) (start : ℕ) (at : IsLineAt text start lin
   unfolding cut_at_results
   results-next other =
       let here : (is_empty_line line && begins_results (lines_of rest)) ≡ false = sym same ∙ other in
-      let whole : take (length line) (line ++ rest) ≡ line = grind (arith, common_steps) in
-      let front : take (start + length line) text ≡ take start text ++ line =
-      take-add start (length line) text ∙ ap (λ l. take start text ++ l) (ap (take (length line)) at.cut ∙ whole) in
+      let front : take (start + length line) text ≡ take start text ++ line = grind (arith, common_steps, at.cut, take-add start (length line) text) in
       before ∙ rw (at.first, here) (with_prefix-append (take start text) line (results_of rest) ∙ ap (λ l. with_prefix l (results_of rest)) (sym front))
       ∙ ap (λ (l : List ℕ). with_prefix (take (start + length line) text) (results_of l)) (rest-drop text line rest start at)
 
