@@ -1,6 +1,6 @@
 //! How full the pool is after each event of a history.
 
-ghost use Rattle.std.specs.Prelude.{◌≡◌, ◌++◌, ◌∷◌, [], ◌<◌, ◌^◌, ◌+◌, IfOk, List, length};
+ghost use Rattle.std.specs.Prelude.{◌++◌, ◌∷◌, [], IfOk, List};
 ghost use Rattle.resil_rule.specs.Admission.{IsLegal};
 ghost use Rattle.resil_rule.specs.Numbers.{AreSizesOf};
 ghost use Rattle.resil_rule.specs.declared.event.Event.{Event};

@@ -4,7 +4,7 @@
 //! its outcome and its calls, its waits, and the bulkheads that it asked for a permit, with their
 //! answers.
 
-ghost use Rattle.std.specs.Prelude.{◌≡◌, ◌&&◌, ℕ, [], get_or, length, map, MatchResult, option_map};
+ghost use Rattle.std.specs.Prelude.{◌≡◌, ◌&&◌, ℕ, [], get_or, MatchResult, option_map};
 ghost use Rattle.csv.specs.Records.{fields_of};
 ghost use Rattle.resil_input.specs.Framing.{lines_of};
 ghost use Rattle.resil_stats.specs.Results.{AreResults, IsResultsError, are_items, begins_results, is_answer, is_empty_line, is_results_line, is_wait, parse_count, parse_result_fields, results_of};
