@@ -3,10 +3,10 @@
 ghost use Rattle.std.specs.Prelude.{◌≡◌};
 ghost use Rattle.resil_heads.specs.declared.error.HeadError.TheVariants.{Memory};
 
-use resil_admission::AdmitError;
 use resil_decor::DecorError;
 use resil_registry::RegistryError;
 use resil_retry::RetryError;
+use resil_rule::AdmitError;
 use std::alloc::{AllocError, AllocFailed};
 use thiserror::Error;
 

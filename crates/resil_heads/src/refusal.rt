@@ -7,10 +7,10 @@ ghost use Rattle.std.specs.Prelude.{◌≡◌, IfOk, string_bytes};
 ghost use Rattle.resil_heads.specs.Refusal.{chain_name, head_name, part_line, pool_name, refusal_line, registry_name, retry_name, row_line, row_name, run_name, step_name};
 
 use crate::error::HeadError;
-use resil_admission::AdmitError;
 use resil_decor::DecorError;
 use resil_registry::RegistryError;
 use resil_retry::RetryError;
+use resil_rule::AdmitError;
 use std::alloc::{AllocError, Global};
 
 /// Why an input is refused, in the order of the steps.

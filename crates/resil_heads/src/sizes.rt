@@ -11,7 +11,7 @@ ghost use Rattle.resil_heads.specs.Sizes.{parse_sizes, parse_limits};
 use crate::error::HeadError;
 use crate::forms::{COUNT, Key};
 use crate::keys::{count_at, parse_count, required};
-use resil_admission::Limits;
+use resil_rule::Limits;
 use toml::Table;
 
 /// The core size, in workers.
