@@ -18,8 +18,9 @@ use Rattle.resil_rule.specs.declared.event.Reply.{Reply}
 use Rattle.resil_rule.specs.declared.event.Reply.TheVariants.{Core}
 use Rattle.resil_rule.specs.declared.event.Event.{Event}
 use Rattle.resil_rule.specs.declared.event.Event.TheVariants.{Submit, Take, Finish, IdleEnd, Close}
-use Rattle.resil_rule.proofs.EventLaws.{or-of, waiting-quiet}
+use Rattle.resil_rule.proofs.EventLaws.{or-of}
 use Rattle.resil_rule.proofs.IdLaws.{in_flight-running}
+use Rattle.resil_rule.proofs.UnpickedLaws.{waiting-same}
 use Rattle.resil_pool.specs.declared.lock.logged_event.LoggedEvent.{LoggedEvent}
 use Rattle.resil_pool.specs.declared.lock.logged_event.Note.{Note}
 use Rattle.resil_pool.specs.declared.lock.logged_event.Note.TheVariants as note
@@ -105,7 +106,7 @@ finish-told jobs id run last is kept = ap (entries_of jobs) is ∙ ap (finish_wi
 -- after an idle end nothing waits
 no_take_after_idle_end : (limits : Sizes) (h : List Event) → IsAllowed limits h IdleEnd → (id : Id) → ¬ IsAllowed limits (h ++ IdleEnd ∷ []) (Take id)
 no_take_after_idle_end limits h allowed id take =
-    let none : waiting (h ++ IdleEnd ∷ []) ≡ [] = waiting-quiet h IdleEnd refl refl refl refl refl ∙ allowed.0 in none-some id (sym (ap (λ (ids : List Id). slice_get ids 0) none) ∙ take.0)
+    let none : waiting (h ++ IdleEnd ∷ []) ≡ [] = waiting-same h IdleEnd refl refl ∙ allowed.0 in none-some id (sym (ap (λ (ids : List Id). slice_get ids 0) none) ∙ take.0)
 
 -- what an idle end leaves, whether it was one or not
 pub idle_end_after : (ended : Bool) (old new : MachineView) (last : Option Written) → (IsTrue ended ↔ IsAllowed old.limits old.history IdleEnd) → OnTrue ended (new ≡ with_event old IdleEnd) → OnFalse ended (new ≡ old)
