@@ -10,7 +10,6 @@
 ghost use Rattle.std.specs.Prelude.{◌≡◌, ◌≤◌, ℕ, Err, List, MatchResult};
 ghost use Rattle.resil_rule.specs.Limits.{AreLimits};
 ghost use Rattle.resil_run.specs.Head.{run_head_of};
-ghost use Rattle.resil_run.specs.Report.{report_text};
 ghost use Rattle.resil_heads.specs.CommandError.{IsRunError};
 ghost use Rattle.resil_heads.specs.Parts.{SplitsInto};
 ghost use Rattle.resil_run.specs.Run.{HasRun, IsErrorFor, IsRunRefusal, IsRunText};
@@ -30,7 +29,7 @@ use report::report_text;
 use resil_heads::{CommandError, Refusal};
 use resil_input::framing::split_input;
 use resil_words::RunOptions;
-use resil_workers::{Report, RunError};
+use resil_workers::RunError;
 use rows::read_rows;
 pub use runner::{JobRunner, RunBatch, RunSettings, ThreadRunner};
 use std::alloc::Global;
@@ -78,12 +77,5 @@ fn text_for<J: JobRunner, R: Threads + Wait + Sync>(
 {
     let jobs = read_rows(alloc, request.words.callers, body)?;
     let report = play_run(runner, rt, alloc, request, jobs)?;
-    text_of(alloc, &report)
-}
-
-// The text of a report. Errors: `Memory`.
-fn text_of(alloc: Global, report: &Report) -> Result<Vec<u8>, CommandError>
-    ensures { MatchResult result (λ text. text.items ≡ report_text report.now.history.items report.now.results.items) (λ error. error ≡ CommandError.Memory) }
-{
     Ok(report_text(alloc, &report.history, &report.results)?)
 }

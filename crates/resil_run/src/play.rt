@@ -41,20 +41,9 @@ fn rows_of(alloc: Global, chain: &Chain, jobs: Vec<ScriptedJob>) -> Result<Vec<J
     let Ok(shared) = chain.copy(alloc) else {
         return Err(AllocError);
     };
-    rows_under(alloc, &shared, jobs)
-}
-
-// The rows of the jobs, in order. Errors: `AllocError` where memory runs out.
-fn rows_under(
-    alloc: Global,
-    chain: &Chain,
-    jobs: Vec<ScriptedJob>,
-) -> Result<Vec<JobRow>, AllocError>
-    ensures { IfOk result (λ rows. rows.items ≡ map (row_for_job chain.now) jobs.items) }
-{
     let mut rows = Vec::new(alloc);
     for job in jobs {
-        let row = row_for_job(alloc, chain, job)?;
+        let row = row_for_job(alloc, &shared, job)?;
         rows.push(row)?;
     }
     Ok(rows)

@@ -4,9 +4,7 @@
 //! result in order of acceptance: the job's caller and number, then the fields of its run as in the
 //! text of a `chain`. No record of a history is an empty line, so the first one parts the two.
 
-ghost use Rattle.std.specs.Prelude.{◌≡◌, ◌++◌, codes, IfOk, OnOk};
-ghost use Rattle.resil_replay.specs.declared.history.Version.TheVariants.{One};
-ghost use Rattle.resil_replay.specs.History.{history_text};
+ghost use Rattle.std.specs.Prelude.{◌≡◌, ◌++◌, IfOk, OnOk};
 ghost use Rattle.resil_run.specs.Report.{ReportExample, report_text, result_fields};
 ghost use Rattle.resil_input.specs.CsvTable.{HasColumns, record_text, text_so_far};
 
@@ -32,15 +30,6 @@ fn push_result(table: &mut CsvTable, texts: &mut RunTexts, row: &Row) -> Result<
     table.push(&[caller, number, outcome, calls, waits, asked])
 }
 
-// The text of the history, version 1, and one empty line. Errors: `AllocError` where memory runs out.
-fn history_part(alloc: Global, history: &[Event]) -> Result<Vec<u8>, AllocError>
-    ensures { IfOk result (λ text. text.items ≡ history_text One history.now ++ codes "\n") }
-{
-    let mut text = history_text(alloc, Version::One, history)?;
-    text.push(b'\n')?;
-    Ok(text)
-}
-
 /// The text of the report of a `run`: the text of the history, version 1, one empty line, the
 /// header `caller,number,outcome,calls,waits,asked`, then a record for each result, in order of
 /// acceptance.
@@ -51,7 +40,8 @@ fn history_part(alloc: Global, history: &[Event]) -> Result<Vec<u8>, AllocError>
 pub fn report_text(alloc: Global, history: &[Event], results: &[Row]) -> Result<Vec<u8>, AllocError>
     ensures { IfOk result (λ text. text.items ≡ report_text history.now results.now) }
 {
-    let text = history_part(alloc, history)?;
+    let mut text = history_text(alloc, Version::One, history)?;
+    text.push(b'\n')?;
     let header: [&[u8]; 6] = [
         b"caller", b"number", b"outcome", b"calls", b"waits", b"asked",
     ];

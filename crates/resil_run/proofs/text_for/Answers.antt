@@ -1,4 +1,3 @@
-use Rattle.std.proofs.lemmas.Result.{MatchResult-weaker}
 use Rattle.resil_run.specs.Run.{IsErrorFor}
 use Rattle.resil_heads.proofs.ErrorLaws.{err-returned}
 use Rattle.resil_run.proofs.ErrorLaws.{run-body-refused, run-refused}
@@ -22,6 +21,5 @@ returns-in_err-report g c = λ input parts.
 
 pub returns : goal.returns
 returns g c = λ input parts.
-    MatchResult-weaker c.text_of.result c.text_of.ensures
-    (λ text written. (c.in_ok-report.report, (c.args.request.head.now, c.args.body.now, c.in_ok-jobs.jobs.items, parts, c.in_ok-jobs.ensures, c.in_ok-report.ensures.report), written))
-    (λ error memory. rw memory tt)
+    let written = rw (c.deref.ensures.value, c.deref-2.ensures.value) at c.in_ok-report_text.ensures in
+    (c.in_ok-report.report, (c.args.request.head.now, c.args.body.now, c.in_ok-jobs.jobs.items, parts, c.in_ok-jobs.ensures, c.in_ok-report.ensures.report), written)

@@ -1,13 +1,9 @@
--- What the prover finds by itself, written down because edits that must fail open it; and a report whose answers the bulkheads can't have given.
+-- A report whose answers the bulkheads can't have given.
 use Rattle.std.proofs.Common.{◌≡◌, ◌≤◌, List, true, false, inr, sym, ◌∙◌, subst, arith}
-use Rattle.std.proofs.lemmas.Grind.{common_steps}
 use Rattle.std.proofs.lemmas.List.{length-map}
 use Rattle.resil_admission.specs.declared.row.Row.{Row}
 use Rattle.resil_run.specs.Grants.{AreWithin}
 use Rattle.resil_run.proofs.runner.ThreadRunnerJobRunner.run.Goals as goal
-
-pub returns-clause-answer : goal.returns-clause-answer
-returns-clause-answer g c = grind (arith, common_steps)
 
 pub returns-in-Ok-clause-answer : goal.returns-in-Ok-clause-answer
 returns-in-Ok-clause-answer g c =
