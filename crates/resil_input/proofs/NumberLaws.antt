@@ -1,7 +1,7 @@
 -- Numbers, their decimal texts, and what `parse` makes of them.
 use lib.Pointwise.{bytes_decides}
 use Rattle.std.proofs.Common.{◌≡◌, ◌≢◌, ◌<◌, ◌≤◌, ◌^◌, ◌==◌, ◌∷◌, ◌∙◌, ℕ, List, [], Some, None, Result, Ok, Err, Bor, true, false, not, length, get_or, refl, sym, ap, arith, MatchResult, inl, inr, zero, suc}
-use Rattle.std.proofs.lemmas.Bool.{and_parts, cases_Bool, eqb-false, ne_eqb, not-true}
+use Rattle.std.proofs.lemmas.Bool.{and_parts, cases_Bool, eqb-false, false_from_ne_true, ne_eqb, not-true}
 use Rattle.std.proofs.lemmas.Grind.{common_steps}
 use Rattle.std.proofs.lemmas.Str.{IsUtf8-from_ascii}
 use Rattle.std.proofs.lemmas.Str.Parse.{IsNumeralModel, numerals_by_value, tells_all_ascii_digits, parse_plain}
@@ -31,17 +31,12 @@ is_numeral-first : (field : List ℕ) → 0 < length field → get_or field 0 0 
 is_numeral-first [] some first = absurd (omega arith)
 is_numeral-first (digit ∷ digits) some first = let no : (digit == 48) ≡ false = grind (arith, common_steps) in rw no refl
 
-parse_number_below-refused : (bound : ℕ) (field : List ℕ) → is_numeral field ≡ false → parse_number_below bound field ≡ None
-parse_number_below-refused bound field e = rw e refl
-
 -- bytes that are no text are read as no number
 pub parse_number-no_text : (field : List ℕ) → (IsUtf8 field → ⊥) → 49 ≤ get_or field 0 0 → 0 < length field → None ≡ parse_number field
 parse_number-no_text field no_text first some =
     let not_zero : get_or field 0 0 ≢ 48 = λ e. omega arith in
-    elim (cases_Bool (all_ascii_digits field)) [
-      | inl digits ↦ absurd (no_text (IsUtf8-from_ascii field (IsAscii-from_digits field (own.to field digits))))
-      | inr other ↦ sym (parse_number_below-refused (2 ^ 64) field (is_numeral-first field some not_zero ∙ other))
-    ]
+    let other = false_from_ne_true (all_ascii_digits field) (λ digits. no_text (IsUtf8-from_ascii field (IsAscii-from_digits field (own.to field digits)))) in
+    rw (is_numeral-first field some not_zero, other) refl
 
 -- what `parse` makes of a text whose first digit isn't 0
 parsed : (field : List ℕ) {E : Type 0} (r : Result ℕ E) → is_numeral field ≡ all_ascii_digits field → 0 < length field
