@@ -1,6 +1,6 @@
 -- Laws of the bulkheads of a head.
-use Rattle.std.proofs.Common.{◌≡◌, ◌≢◌, ◌∙◌, ◌∷◌, ◌++◌, ◌&&◌, ℕ, true, false, List, [], Option, Some, None, IfSome, IfNone, is_ok, Result, Ok, Err, length, map, nat_le, string_bytes, append_assoc, refl, sym, ap, inl, inr}
-use Rattle.std.proofs.lemmas.Bool.{and_from, and_parts, cases_Bool, false≢true, le-leb, leb-true}
+use Rattle.std.proofs.Common.{◌≡◌, ◌≢◌, ◌∙◌, ◌∷◌, ◌++◌, ◌&&◌, ℕ, true, false, List, [], Option, Some, None, IfSome, IfNone, is_ok, Result, Ok, Err, length, map, nat_le, string_bytes, append_assoc, refl, sym, ap}
+use Rattle.std.proofs.lemmas.Bool.{and_from, and_parts, both_ways, false_from_ne_true, false≢true, le-leb, leb-true, true_from_ne_false}
 use Rattle.std.proofs.lemmas.List.Sums.{AllPass-from_list_all, list_all-from_AllPass}
 use Rattle.std.specs.Cmp.Lexicographic.{bytes_decides}
 use Rattle.std.specs.List.{list_all}
@@ -37,28 +37,16 @@ name-from name is =
 
 -- and another text has not
 pub bad-name : (name : List ℕ) → ¬ IsName name → is_good_name name ≡ false
-bad-name name bad =
-    elim (cases_Bool (is_good_name name)) [
-      | inl good ↦ absurd (bad (name-from name good))
-      | inr not ↦ not
-    ]
+bad-name name bad = false_from_ne_true (is_good_name name) (λ good. bad (name-from name good))
 
 pub no-bad-name : (name : List ℕ) → ¬ ¬ IsName name → is_good_name name ≡ true
-no-bad-name name good =
-    elim (cases_Bool (is_good_name name)) [
-      | inl is ↦ is
-      | inr not ↦ absurd (good (λ named. false≢true (sym not ∙ good-name name named)))
-    ]
+no-bad-name name good = true_from_ne_false (is_good_name name) (λ bad. good (λ named. both_ways (is_good_name name) bad (good-name name named)))
 
 same : (a b : List ℕ) → a ≡ b → is_same a b ≡ true
 same a b is = (bytes_decides a b).1 is
 
 other : (a b : List ℕ) → a ≢ b → is_same a b ≡ false
-other a b differ =
-    elim (cases_Bool (is_same a b)) [
-      | inl is ↦ absurd (differ ((bytes_decides a b).0 is))
-      | inr not ↦ not
-    ]
+other a b differ = false_from_ne_true (is_same a b) (λ is. differ ((bytes_decides a b).0 is))
 
 -- ---- Configurations.
 

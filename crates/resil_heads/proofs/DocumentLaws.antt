@@ -1,6 +1,6 @@
 -- Laws of the definitions of heads.
-use Rattle.std.proofs.Common.{◌≡◌, ℕ, ◌||◌, ◌&&◌, Bool, is_some, List, [], ◌∷◌, map, string_bytes, Err, refl, ap, inl, inr}
-use Rattle.std.proofs.lemmas.Bool.{cases_Bool}
+use Rattle.std.proofs.Common.{◌≡◌, ℕ, ◌||◌, ◌&&◌, Bool, is_some, List, [], ◌∷◌, map, string_bytes, Err, refl, ap}
+use Rattle.std.proofs.lemmas.Bool.{false_from_ne_true}
 use Rattle.std.proofs.lemmas.Str.{IsUtf8-from_is_utf8}
 use Rattle.std.specs.List.{list_any, list_all}
 use Rattle.std.specs.Map.{keys_of}
@@ -31,8 +31,4 @@ has_all-needed table (Optional name form ∷ keys) = has_all-needed table keys
 
 -- bytes that aren't UTF-8 are no document
 pub document_of-bytes : (bytes : List ℕ) → ¬ IsUtf8 bytes → document_of bytes ≡ Err error.BadToml
-document_of-bytes bytes h =
-    elim (cases_Bool (is_utf8 bytes)) [
-      | inl is ↦ absurd (h (IsUtf8-from_is_utf8 bytes is))
-      | inr not ↦ rw not
-    ]
+document_of-bytes bytes h = rw (false_from_ne_true (is_utf8 bytes) (λ is. h (IsUtf8-from_is_utf8 bytes is))) refl

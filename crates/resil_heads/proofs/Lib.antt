@@ -1,6 +1,5 @@
 pub mod BulkheadLaws
 pub mod ByteOrderLaws
 pub mod DocumentLaws
-pub mod ErrorLaws
 pub mod LayerLaws
 pub mod RangeLaws
