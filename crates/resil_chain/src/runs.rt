@@ -57,18 +57,11 @@ pub fn run_chain(alloc: Global, chain: &Chain, rows: Vec<ChainRow>) -> Result<Ve
     let Ok(shared) = chain.copy(alloc) else {
         return Err(AllocError);
     };
-    text_of_runs(alloc, &shared, rows)
-}
-
-// The text of the runs of these rows. Errors: `AllocError` where memory runs out.
-fn text_of_runs(alloc: Global, chain: &Chain, rows: Vec<ChainRow>) -> Result<Vec<u8>, AllocError>
-    ensures { IfOk result (λ text. IsTextOfRuns chain.now rows.items text.items) }
-{
     let header: [&[u8]; 4] = [b"outcome", b"calls", b"waits", b"asked"];
     let mut table = CsvTable::new(Vec::new(alloc), &header)?;
     let mut texts = RunTexts::new(alloc);
     for row in rows {
-        push_row(alloc, &mut table, &mut texts, chain, row)?;
+        push_row(alloc, &mut table, &mut texts, &shared, row)?;
     }
     table.into_text()
 }
