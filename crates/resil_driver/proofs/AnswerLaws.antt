@@ -1,10 +1,8 @@
 -- Answers, from an input of known length and onto a writer.
-use Rattle.std.proofs.Common.{refl, ◌≡◌, ◌≢◌, ◌||◌, ℕ, Bool, true, false, List, Option, Some, None, Result, Ok, Err, IfSome, MatchResult, inl, inr}
-use Rattle.std.specs.Io.KnownBytes.{Appends}
+use Rattle.std.proofs.Common.{refl, ◌≡◌, ◌≢◌, ℕ, List, Option, Some, Result, Ok, Err, IfSome, MatchResult, inl, inr}
 use Rattle.resil_workers.specs.declared.batch.run.RunError.TheVariants as run_error
-use Rattle.resil_input.specs.Output.{IsWritten, bytes_of, code_of, status_of}
+use Rattle.resil_input.specs.Output.{code_of}
 use Rattle.resil_input.specs.declared.output.Output.{Output}
-use Rattle.resil_input.specs.declared.output.Output.TheVariants as output
 use Rattle.resil_input.specs.declared.output.Status.{Status}
 use Rattle.resil_input.specs.declared.output.Status.TheVariants as status
 use Rattle.resil_heads.specs.CommandError.{IsError, IsErrorOutput, IsRunError}
@@ -22,7 +20,7 @@ use Rattle.resil_run.specs.Run.{HasRun, IsRunRefusal, IsRunText}
 use Rattle.resil_run.specs.Play.{MayAnswerOnThreads}
 use Rattle.resil_driver.specs.Command.{IsTextOf, IsRefusalOf}
 use Rattle.resil_driver.specs.Answer.{IsAnswerOf, IsRefusalFor, IsRefusedFor, LacksThread}
-use Rattle.resil_driver.specs.Program.{IsAnswerTo, Drives}
+use Rattle.resil_driver.specs.Program.{IsAnswerTo}
 
 refused-short : (requested : Request) (input : List ℕ) (why : Refusal) → FitsLimit input → IsRefusalFor requested input why → IsRefusedFor requested input why
 refused-short (request.Single Replay) input refusal.TooLong short h = absurd h
@@ -48,32 +46,6 @@ run_answered-short items words input (Ok v) short h = (short, h)
 run_answered-short items words input (Err error.Memory) short h = tt
 run_answered-short items words input (Err error.NoThread) short h = (short, h)
 run_answered-short items words input (Err (error.Refused why)) short h = refused-short (request.Run words) input why short h
-
--- what follows of a value that may be known
-pub IfSome-follows : {A : Type 0} (known : Option A) (P Q : A → Type 0) → ((x : A) → P x → Q x) → IfSome known P → IfSome known Q
-IfSome-follows None P Q f h = tt
-IfSome-follows (Some x) P Q f h = f x h
-
-module _ (requested : Option Request) (input before after : Option (List ℕ)) where
-  whole : (out : Output) → IsAnswerTo requested input out → Appends before after (bytes_of out) → Drives requested input before after (status_of out)
-  whole (output.Text text) answer wrote = (text.items, answer, wrote)
-  whole (output.Line line) answer wrote = (bytes_of (output.Line line), answer, wrote)
-  whole output.Usage answer wrote = (bytes_of output.Usage, answer, wrote)
-  whole output.NoMemory answer wrote = (bytes_of output.NoMemory, answer, wrote)
-  whole output.NoThread answer wrote = (bytes_of output.NoThread, answer, wrote)
-
-  -- an output that was written, or of which a prefix was
-  pub Drives-written : (out : Output) (s : Status) (failed_before failed_after : Bool) → IsAnswerTo requested input out → IsWritten before after failed_before failed_after out s
-      → Drives requested input before after s
-  Drives-written out s a b answer (inl h) = rw h.0 (whole out answer h.1)
-  Drives-written out s a b answer (inr h) = rw h.0 (inr (status_of out, bytes_of out, answer, h.1))
-
--- a command of one thread never has the error that a thread can't be started
-pub no_threads : {V : Type 0} (r : Result V CommandError) (P : V → Type 0) (IsWhy : Refusal → Type 0) → MatchResult r P (IsError IsWhy) → r ≡ Err error.NoThread → ⊥
-no_threads (Ok v) P IsWhy h e = cc e
-no_threads (Err error.Memory) P IsWhy h e = cc e
-no_threads (Err error.NoThread) P IsWhy h e = h
-no_threads (Err (error.Refused why)) P IsWhy h e = cc e
 
 module _ (what : Request) (input : Option (List ℕ)) where
   refusal_answers : (why : Refusal) (out : Output) → IfSome input (λ bytes. IsRefusedFor what bytes why) → IsErrorOutput (error.Refused why) out → IsAnswerTo (Some what) input out
@@ -101,7 +73,3 @@ code-failed status.Usage e = cc e
 code-failed status.NoMemory e = cc e
 code-failed status.NoThread e = cc e
 code-failed status.Failed e = refl
-
-pub or-right : (a b : Bool) → b ≡ true → (a || b) ≡ true
-or-right true b is = refl
-or-right false b is = is

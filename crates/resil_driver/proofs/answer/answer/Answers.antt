@@ -1,5 +1,5 @@
 use Rattle.std.proofs.Common.{◌∙◌}
-use Rattle.resil_driver.proofs.AnswerLaws.{answered-short, no_threads}
+use Rattle.resil_driver.proofs.AnswerLaws.{answered-short}
 use Rattle.resil_driver.proofs.answer.answer.Goals as goal
 
 pub returns-in-Whole-clause-answer : goal.returns-in-Whole-clause-answer
@@ -8,4 +8,4 @@ returns-in-Whole-clause-answer c = λ bytes is_input.
     answered-short (λ v. v.items) c.args.single bytes c.command_text.result read.1 (rw (c.deref.ensures.value ∙ read.0) at c.command_text.ensures)
 
 pub returns-in-Whole-clause-no_threads : goal.returns-in-Whole-clause-no_threads
-returns-in-Whole-clause-no_threads c = no_threads c.command_text.result _ _ c.command_text.ensures
+returns-in-Whole-clause-no_threads c = λ lacks. rw lacks at c.command_text.ensures
