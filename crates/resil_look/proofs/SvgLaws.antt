@@ -4,10 +4,6 @@ use Rattle.std.proofs.lemmas.List.{take_more}
 use Rattle.resil_stats.specs.declared.picture.Picture.{Picture}
 use Rattle.resil_look.specs.Svg.{IsAddition, IsEachDrawn, IsGatheredDrawn, IsMadeOf, bar_opening, column_opening, mark_opening}
 
--- a text to which pieces were added, one after the other
-pub joined : (a b c s t : List ℕ) → s ≡ a ++ b → t ≡ s ++ c → t ≡ a ++ (b ++ c)
-joined a b c s t p q = q ∙ ap (λ (l : List ℕ). l ++ c) p ∙ append_assoc a b c
-
 -- a text with one more piece
 piece-push : {A : Type 0} (begins : A → List ℕ) (xs : List A) (x : A) (text look : List ℕ) → IsMadeOf begins xs text → IsMadeOf begins (xs ++ x ∷ []) (text ++ (begins x ++ look))
 piece-push begins [] x text look is = (look, [], ap (λ (l : List ℕ). l ++ (begins x ++ look)) is ∙ ap (λ (l : List ℕ). begins x ++ l) (sym (append-nil look)), refl)
@@ -23,7 +19,7 @@ pub made-more : {A : Type 0} (begins : A → List ℕ) (xs : List A) (i : ℕ) (
     → (look : List ℕ) × (new ≡ old ++ (begins x ++ look)) → IsAddition (IsMadeOf begins (take (i + 1) xs)) start new
 made-more begins xs i x start old new lt same (text, at, made) (look, is) = (
   text ++ (begins x ++ look),
-  joined start text (begins x ++ look) old new at is,
+  rw (is, at) (simp append_assoc),
   subst (λ l. IsMadeOf begins l (text ++ (begins x ++ look))) (sym (take_more xs i x lt))
       (subst (λ y. IsMadeOf begins (take i xs ++ y ∷ []) (text ++ (begins x ++ look))) same (piece-push begins (take i xs) x text look made)),
 )
@@ -33,8 +29,7 @@ pub each-drawn : (picture : Picture) (a b c d e f : List ℕ) → (part : List �
     → IsAddition (IsMadeOf mark_opening picture.marks.items) d e → (part : List ℕ) × (f ≡ e ++ part) → IsAddition (IsEachDrawn picture) a f
 each-drawn picture a b c d e f (front, at_front) (bars, at_bars, of_bars) (middle, at_middle) (refusals, at_refusals, of_marks) (back, at_back) = (
   front ++ (bars ++ (middle ++ (refusals ++ back))),
-  joined a front (bars ++ (middle ++ (refusals ++ back))) b f at_front
-      (joined b bars (middle ++ (refusals ++ back)) c f at_bars (joined c middle (refusals ++ back) d f at_middle (joined d refusals back e f at_refusals at_back))),
+  rw (at_back, at_refusals, at_middle, at_bars, at_front) (simp append_assoc),
   record { front = front; bars = bars; middle = middle; refusals = refusals; back = back; whole = refl; of_bars = of_bars; of_marks = of_marks },
 )
 
@@ -43,6 +38,6 @@ pub gathered-drawn : (picture : Picture) (a b c d : List ℕ) → (part : List �
     → IsAddition (IsGatheredDrawn picture) a d
 gathered-drawn picture a b c d (front, at_front) (columns, at_columns, of_columns) (back, at_back) = (
   front ++ (columns ++ back),
-  joined a front (columns ++ back) b d at_front (joined b columns back c d at_columns at_back),
+  rw (at_back, at_columns, at_front) (simp append_assoc),
   record { front = front; columns = columns; back = back; whole = refl; of_columns = of_columns },
 )

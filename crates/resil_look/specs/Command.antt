@@ -53,14 +53,9 @@ abbrev pub IsHistoryRefusal : List ℕ → Refusal → Type 0
 IsHistoryRefusal input why = IsPartRefusal pool_head_of (λ body error. IsAuditBodyError (history_part body) error) input why
 
 -- why results can't be read: memory ran out, or one of them is no result
-abbrev pub IsCheckError : List ℕ → StatsError → Type 0
-IsCheckError text (Command error) = error ≡ command_error.Memory
-IsCheckError text BadResult = (why : BodyError) × IsResultsError text why × (why ≢ body_error.Memory)
-
--- the same, where there are results
 abbrev pub IsResultsRefusal : Option (List ℕ) → StatsError → Type 0
 IsResultsRefusal results (Command error) = error ≡ command_error.Memory
-IsResultsRefusal results BadResult = (text : List ℕ) × (results ≡ Some text) × IsCheckError text BadResult
+IsResultsRefusal results BadResult = (text : List ℕ) × (results ≡ Some text) × (why : BodyError) × IsResultsError text why × (why ≢ body_error.Memory)
 
 -- the head and the history of the input are read, and its results aren't
 abbrev pub HasBadResult : List ℕ → Type 0

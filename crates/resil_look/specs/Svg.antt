@@ -26,28 +26,17 @@ start_class Core = codes "core"
 start_class Extra = codes "extra"
 start_class Queued = codes "queued"
 
--- the data of a bar: its job, its places and its row
-abbrev pub bar_data : Bar → List ℕ
-bar_data bar =
-    codes "\" data-job=\"" ++ decimal bar.id.caller ++ codes "." ++ decimal bar.id.number
+-- how the element of a bar begins: with its class, its job, its places and its row
+abbrev pub bar_opening : Bar → List ℕ
+bar_opening bar =
+    codes "<rect class=\"job " ++ start_class bar.start ++ codes "\" data-job=\"" ++ decimal bar.id.caller ++ codes "." ++ decimal bar.id.number
     ++ codes "\" data-from=\"" ++ decimal bar.from ++ codes "\" data-to=\"" ++ decimal bar.to ++ codes "\" data-row=\"" ++ decimal bar.row ++ codes "\" "
 
--- how the element of a bar begins, with its class
-abbrev pub job_opening : List ℕ → Bar → List ℕ
-job_opening class bar = codes "<rect class=\"job " ++ class ++ bar_data bar
-
-abbrev pub bar_opening : Bar → List ℕ
-bar_opening bar = job_opening (start_class bar.start) bar
-
--- the data of a refusal: its job and its place
-abbrev pub refusal_data : Id → ℕ → List ℕ
-refusal_data id at =
-    codes "\" data-job=\"" ++ decimal id.caller ++ codes "." ++ decimal id.number
-    ++ codes "\" data-at=\"" ++ decimal at ++ codes "\" "
-
--- how the element of a refusal begins, with its reason
+-- how the element of a refusal begins: with its reason, its job and its place
 abbrev pub refusal_opening : List ℕ → Id → ℕ → List ℕ
-refusal_opening reason id at = codes "<path class=\"refused " ++ reason ++ refusal_data id at
+refusal_opening reason id at =
+    codes "<path class=\"refused " ++ reason ++ codes "\" data-job=\"" ++ decimal id.caller ++ codes "." ++ decimal id.number
+    ++ codes "\" data-at=\"" ++ decimal at ++ codes "\" "
 
 abbrev pub sign_opening : Sign → ℕ → List ℕ
 sign_opening (shown.Full id) at = refusal_opening (codes "full") id at

@@ -3,11 +3,10 @@
 //! The input is that of `audit`; the results of a run may stand behind the history. They are read, and
 //! a result that can't be read is refused once the history is read.
 
-ghost use Rattle.std.specs.Prelude.{◌≡◌, IfOk, List, MatchResult, option_map};
+ghost use Rattle.std.specs.Prelude.{◌≡◌, IfOk, MatchResult, option_map};
 ghost use Rattle.resil_heads.specs.CommandError.{IsError};
-ghost use Rattle.resil_stats.specs.Results.{AreResults, history_part, results_of};
-ghost use Rattle.resil_stats.specs.declared.results.JobResult.{JobResult};
-ghost use Rattle.resil_look.specs.Command.{AreRead, IsCheckError, IsHistoryRefusal, IsNumbersText, IsReadFrom, IsResultsRefusal, IsStatsError, IsTextOf, IsViewText};
+ghost use Rattle.resil_stats.specs.Results.{history_part, results_of};
+ghost use Rattle.resil_look.specs.Command.{AreRead, IsHistoryRefusal, IsNumbersText, IsReadFrom, IsResultsRefusal, IsStatsError, IsTextOf, IsViewText};
 ghost use Rattle.resil_look.specs.Svg.{IsHistorySvg};
 
 use crate::outcomes::Outcomes;
@@ -40,17 +39,6 @@ pub(crate) enum StatsError {
     BadResult,
 }
 
-impl From<CommandError> for StatsError {
-    ghost use Rattle.std.specs.Prelude.{◌≡◌};
-    ghost use Rattle.resil_look.specs.declared.command.StatsError.TheVariants.{Command};
-
-    ghost from_gives = { λ why error. error ≡ Command why };
-
-    fn from(why: CommandError) -> StatsError {
-        StatsError::Command(why)
-    }
-}
-
 // The history and the results of a body: all of it is the history where it has no results.
 fn split_body(body: &[u8]) -> (&[u8], Option<&[u8]>)
     ensures history { result.0.now ≡ history_part body.now }
@@ -77,24 +65,17 @@ fn read_history(
     Ok((limits, events, results))
 }
 
-// The results of a text. Errors: `Command` of `Memory` where memory runs out; `BadResult`.
-fn results_in(alloc: Global, text: &[u8]) -> Result<Vec<JobResult>, StatsError>
-    ensures { MatchResult result (λ _. (rows : List JobResult) × AreResults text.now rows) (IsCheckError text.now) }
+// The results of a text where there is one, else none. Errors: `Command` of `Memory` where memory runs out; `BadResult`.
+fn known_results(alloc: Global, results: Option<&[u8]>) -> Result<Vec<JobResult>, StatsError>
+    ensures { MatchResult result (λ _. AreRead (option_map (λ text. text.now) results.entry)) (IsResultsRefusal (option_map (λ text. text.now) results.entry)) }
 {
+    let Some(text) = results else {
+        return Ok(Vec::new(alloc));
+    };
     match read_results(alloc, text) {
         Ok(rows) => Ok(rows),
         Err(BodyError::Memory) => Err(StatsError::Command(CommandError::Memory)),
         Err(_) => Err(StatsError::BadResult),
-    }
-}
-
-// The results of a text where there is one, else none. Errors: as `results_in`.
-fn known_results(alloc: Global, results: Option<&[u8]>) -> Result<Vec<JobResult>, StatsError>
-    ensures { MatchResult result (λ _. AreRead (option_map (λ text. text.now) results.entry)) (IsResultsRefusal (option_map (λ text. text.now) results.entry)) }
-{
-    match results {
-        Some(text) => results_in(alloc, text),
-        None => Ok(Vec::new(alloc)),
     }
 }
 
@@ -111,12 +92,13 @@ fn drawn(
     alloc: Global,
     limits: &Limits,
     history: &[Event],
-    outcomes: &Outcomes,
+    results: &[JobResult],
 ) -> Result<Vec<u8>, AllocError>
     ensures { IfOk result (λ text. IsHistorySvg limits.now history.now text.items) }
 {
+    let outcomes = Outcomes::of(alloc, results)?;
     let picture = picture_of(alloc, limits, history)?;
-    svg_text(alloc, &picture, outcomes)
+    svg_text(alloc, &picture, &outcomes)
 }
 
 // The text of a view of a history, with the results of its jobs. Errors: `AllocError` where memory runs out.
@@ -131,27 +113,7 @@ fn written(
 {
     match view {
         View::Stats => counted(alloc, limits, history),
-        View::Timeline => {
-            let outcomes = Outcomes::of(alloc, results)?;
-            drawn(alloc, limits, history, &outcomes)
-        }
-    }
-}
-
-// The same, where the results can be read. Errors: as `known_results`.
-fn checked_text(
-    alloc: Global,
-    view: View,
-    limits: &Limits,
-    history: &[Event],
-    results: Option<&[u8]>,
-) -> Result<Vec<u8>, StatsError>
-    ensures { MatchResult result (λ text. AreRead (option_map (λ text. text.now) results.entry) × IsTextOf view limits.now history.now text.items) (IsResultsRefusal (option_map (λ text. text.now) results.entry)) }
-{
-    let rows = known_results(alloc, results)?;
-    match written(alloc, view, limits, history, &rows) {
-        Ok(text) => Ok(text),
-        Err(_) => Err(StatsError::Command(CommandError::Memory)),
+        View::Timeline => drawn(alloc, limits, history, results),
     }
 }
 
@@ -165,6 +127,13 @@ fn checked_text(
 pub(crate) fn view_text(alloc: Global, view: View, input: &[u8]) -> Result<Vec<u8>, StatsError>
     ensures { MatchResult result (λ text. IsViewText view input.now text.items) (IsStatsError input.now) }
 {
-    let (limits, history, results) = read_history(alloc, input)?;
-    checked_text(alloc, view, &limits, &history, results)
+    let (limits, history, results) = match read_history(alloc, input) {
+        Ok(read) => read,
+        Err(why) => return Err(StatsError::Command(why)),
+    };
+    let results = known_results(alloc, results)?;
+    match written(alloc, view, &limits, &history, &results) {
+        Ok(text) => Ok(text),
+        Err(_) => Err(StatsError::Command(CommandError::Memory)),
+    }
 }

@@ -19,24 +19,11 @@ impl Outcomes {
     ///
     /// `AllocError` where memory runs out.
     pub(crate) fn of(alloc: Global, results: &[JobResult]) -> Result<Outcomes, AllocError> {
-        let mut outcomes = Outcomes {
-            by_id: BTreeMap::new(alloc),
-        };
-        match outcomes.add(results) {
-            Ok(()) => Ok(outcomes),
-            Err(error) => Err(error),
+        let mut by_id = BTreeMap::new(alloc);
+        for result in results.iter().rev() {
+            by_id.insert((result.id.caller, result.id.number), result.outcome)?;
         }
-    }
-
-    // Adds results, in their order. Errors: `AllocError` where memory runs out.
-    fn add(&mut self, results: &[JobResult]) -> Result<(), AllocError> {
-        for result in results {
-            let key = (result.id.caller, result.id.number);
-            if !self.by_id.contains_key(&key) {
-                self.by_id.insert(key, result.outcome)?;
-            }
-        }
-        Ok(())
+        Ok(Outcomes { by_id })
     }
 
     /// How a job ended, where that is known.

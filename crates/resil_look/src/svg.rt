@@ -31,7 +31,7 @@ use crate::outcomes::Outcomes;
 use bands::write_bands;
 use draft::Draft;
 use elements::{push_elements, push_part};
-use frame::{opening_text, write_ending, write_frame};
+use frame::{ending_text, opening_text, write_frame};
 use jobs::{write_labels, write_rows, write_running};
 use over::write_over;
 use page::Page;
@@ -61,13 +61,6 @@ fn labels_text(sheet: &Sheet, picture: &Picture) -> Result<String, AllocError> {
     line!(draft; "</g>");
     write_labels(&mut draft, sheet, picture);
     line!(draft; r#"<g transform="translate(0 {below})">"#);
-    draft.finish()
-}
-
-// What is written behind the refusals, or the columns. Errors: `AllocError` where memory runs out.
-fn ending_text(sheet: &Sheet, picture: &Picture) -> Result<String, AllocError> {
-    let mut draft = Draft::new(sheet.alloc);
-    write_ending(&mut draft, &sheet.page, picture);
     draft.finish()
 }
 

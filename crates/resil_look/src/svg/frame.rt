@@ -6,6 +6,7 @@ ghost use Rattle.resil_look.specs.Svg.{opening};
 use super::draft::Draft;
 use super::jobs::JobName;
 use super::page::{CORE, EXTRA, GREY, GRID, INK, PAPER, Page, QUEUED, REFUSED};
+use super::sheet::Sheet;
 use resil_heads::answer::name_of;
 use resil_rule::{Event, Verdict};
 use resil_stats::{Illegal, Picture, column_width};
@@ -142,9 +143,11 @@ pub(crate) fn write_frame(draft: &mut Draft, page: &Page, picture: &Picture) {
     write_grid(draft, page, picture.levels.len());
 }
 
-/// Writes what the picture leaves open, and the end.
-pub(crate) fn write_ending(draft: &mut Draft, page: &Page, picture: &Picture) {
-    let below = page.rows_end();
+/// What is written behind the refusals, or the columns: what the picture leaves open, and the end.
+/// Errors: `AllocError` where memory runs out.
+pub(crate) fn ending_text(sheet: &Sheet, picture: &Picture) -> Result<String, AllocError> {
+    let mut draft = Draft::new(sheet.alloc);
+    let below = sheet.page.rows_end();
     put!(draft; r#"</g><g transform="translate(0 {below})" fill="{GREY}"><text x="6" y="244">"#);
     if picture.columns.is_empty() {
         put!(draft; "A history names no threads: a job stands in the first free row.");
@@ -153,4 +156,5 @@ pub(crate) fn write_ending(draft: &mut Draft, page: &Page, picture: &Picture) {
         put!(draft; "Gathered: {width} events a column, each drawn by its greatest numbers.");
     }
     line!(draft; r#"</text><text x="6" y="266">The axis counts events, it is no clock.</text></g></g></svg>"#);
+    draft.finish()
 }

@@ -6,9 +6,7 @@ ghost use Rattle.resil_look.specs.Svg.{start_class};
 use super::bands::{write_ends, write_number};
 use super::draft::Draft;
 use super::outline::write_area;
-use super::page::{
-    CORE, EXTRA, GREY, GROUND, INK, LETTER, PAPER, Page, Pixels, QUEUED, RIGHT, Scale,
-};
+use super::page::{CORE, EXTRA, GREY, GROUND, INK, LETTER, PAPER, Page, QUEUED, Scale};
 use super::sheet::{Measure, Sheet};
 use resil_input::outcome_text::outcome_text;
 use resil_rule::Id;
@@ -38,23 +36,12 @@ pub(crate) struct Style {
 pub(crate) fn style_of(start: Start) -> Style
     ensures { result.class.now ≡ start_class start }
 {
-    match start {
-        Start::Core => Style {
-            class: "core",
-            words: "new core worker",
-            fill: CORE,
-        },
-        Start::Extra => Style {
-            class: "extra",
-            words: "new extra worker",
-            fill: EXTRA,
-        },
-        Start::Queued => Style {
-            class: "queued",
-            words: "from the queue",
-            fill: QUEUED,
-        },
-    }
+    let (class, words, fill) = match start {
+        Start::Core => ("core", "new core worker", CORE),
+        Start::Extra => ("extra", "new extra worker", EXTRA),
+        Start::Queued => ("queued", "from the queue", QUEUED),
+    };
+    Style { class, words, fill }
 }
 
 /// Writes the ground of each row, and the numbers of rows that have room for them.
