@@ -1,2 +1,1 @@
-pub mod SvgLaws
 pub mod LookLaws

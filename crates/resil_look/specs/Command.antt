@@ -15,7 +15,7 @@ use Rattle.resil_stats.specs.Stats.{IsStatsOf}
 use Rattle.resil_stats.specs.Text.{stats_text}
 use Rattle.resil_stats.specs.declared.results.JobResult.{JobResult}
 use Rattle.resil_stats.specs.declared.stats.Stats.{Stats}
-use Rattle.resil_look.specs.Svg.{IsHistorySvg}
+use Rattle.resil_stats.specs.Svg.{IsHistorySvg}
 use Rattle.resil_look.specs.declared.command.StatsError.{StatsError}
 use Rattle.resil_look.specs.declared.command.StatsError.TheVariants.{Command, BadResult}
 use Rattle.resil_look.specs.declared.command.View.{View}

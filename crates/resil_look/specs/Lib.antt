@@ -1,3 +1,2 @@
-pub mod Svg
 pub mod Command
 pub mod Look

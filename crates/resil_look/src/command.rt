@@ -7,10 +7,8 @@ ghost use Rattle.std.specs.Prelude.{◌≡◌, IfOk, MatchResult, option_map};
 ghost use Rattle.resil_heads.specs.CommandError.{IsError};
 ghost use Rattle.resil_stats.specs.Results.{history_part, results_of};
 ghost use Rattle.resil_look.specs.Command.{AreRead, IsHistoryRefusal, IsNumbersText, IsReadFrom, IsResultsRefusal, IsStatsError, IsTextOf, IsViewText};
-ghost use Rattle.resil_look.specs.Svg.{IsHistorySvg};
+ghost use Rattle.resil_stats.specs.Svg.{IsHistorySvg};
 
-use crate::outcomes::Outcomes;
-use crate::svg::svg_text;
 use resil_heads::{CommandError, Refusal};
 use resil_input::csv_rows::BodyError;
 use resil_input::framing::split_input;
@@ -18,7 +16,7 @@ use resil_replay::events::read_rows;
 use resil_replay::head::read_head;
 use resil_rule::{Event, Limits};
 use resil_stats::results::{JobResult, read_results, split_results};
-use resil_stats::{count, picture_of, stats_text};
+use resil_stats::{Outcomes, count, picture_of, stats_text, svg_text};
 use std::alloc::{AllocError, Global};
 
 /// What the words request.

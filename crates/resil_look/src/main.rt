@@ -5,8 +5,6 @@
 
 mod command;
 mod look;
-mod outcomes;
-mod svg;
 
 use resil_explain::{explain_look, start};
 use std::process::ExitCode;

@@ -8,3 +8,4 @@ pub mod ListLaws
 pub mod PlaceLaws
 pub mod BarLaws
 pub mod ColumnLaws
+pub mod SvgLaws

@@ -7,3 +7,4 @@ pub mod Marks
 pub mod Depth
 pub mod Columns
 pub mod Picture
+pub mod Svg

@@ -1,4 +1,4 @@
-//! What a history comes to, as data: its numbers, and its picture.
+//! What a history comes to: its numbers, and its picture, as data and as text.
 //!
 //! `stats` counts the events of a history, up to its first illegal one: how often each kind happened, how full the
 //! pool got, and what each caller submitted. `specs/Stats.antt` says what each number means: a filter over the
@@ -7,7 +7,8 @@
 //!
 //! `picture` draws the same events: a bar for each job that ran, marks, and how full the pool was after each event,
 //! or in columns where there are many. `specs/Bars.antt`, `specs/Marks.antt`, `specs/Depth.antt`, `specs/Columns.antt`
-//! and `specs/Areas.antt` say what is drawn. How it looks is a matter of `resil_look`.
+//! and `specs/Areas.antt` say what is drawn. `svg` writes it, with what came of the jobs from `outcomes`:
+//! `specs/Svg.antt` says which elements stand in the text, and its templates how it looks.
 #![tactic(auto)]
 
 mod areas;
@@ -15,9 +16,11 @@ mod bars;
 mod columns;
 mod depth;
 mod marks;
+mod outcomes;
 mod picture;
 pub mod results;
 mod stats;
+mod svg;
 mod text;
 
 pub use areas::Running;
@@ -25,6 +28,8 @@ pub use bars::{Bar, Start};
 pub use columns::{Column, column_width};
 pub use depth::Level;
 pub use marks::{Mark, Sign};
+pub use outcomes::Outcomes;
 pub use picture::{Illegal, Picture, picture_of};
 pub use stats::{CallerStats, Counts, Load, Stats, count};
+pub use svg::svg_text;
 pub use text::stats_text;

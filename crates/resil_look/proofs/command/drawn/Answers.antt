@@ -1,5 +1,5 @@
 use Rattle.std.proofs.lemmas.Result.{IfOk-weaker}
-use Rattle.resil_look.specs.Svg.{IsHistorySvg, IsSvgOf}
+use Rattle.resil_stats.specs.Svg.{IsHistorySvg, IsSvgOf}
 use Rattle.resil_look.proofs.command.drawn.Goals as goal
 
 pub returns : goal.returns

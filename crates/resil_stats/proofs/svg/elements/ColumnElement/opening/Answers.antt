@@ -1,5 +1,5 @@
 use Rattle.std.proofs.Common.{append_assoc}
-use Rattle.resil_look.proofs.svg.elements.ColumnElement.opening.Goals as goal
+use Rattle.resil_stats.proofs.svg.elements.ColumnElement.opening.Goals as goal
 
 pub returns : goal.returns
 returns c = simp append_assoc (simp append_assoc at c.format.ensures.ok)

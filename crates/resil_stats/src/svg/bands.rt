@@ -7,7 +7,7 @@ use super::page::{
     CLOSED, CORE, EXTRA, GREY, LEFT, Pixels, QUEUED, REFUSED, RIGHT, SIZE, Scale, TINT, WORKERS,
 };
 use super::sheet::{Measure, Sheet};
-use resil_stats::Picture;
+use crate::Picture;
 
 /// Writes a number of a scale in the gutter, behind a word.
 pub(crate) fn write_number(draft: &mut Draft, word: &str, number: usize, y: Pixels, fill: &str) {

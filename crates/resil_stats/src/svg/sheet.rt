@@ -3,7 +3,7 @@
 
 use super::page::Page;
 use crate::outcomes::Outcomes;
-use resil_stats::{Column, Level, Picture, Running, Start};
+use crate::{Column, Level, Picture, Running, Start};
 use std::alloc::{AllocError, Global};
 
 /// What a picture is drawn on, and drawn of.

@@ -1,5 +1,5 @@
 use Rattle.std.proofs.Common.{◌≡◌, ◌++◌, append_assoc, rules, string_bytes}
-use Rattle.resil_look.proofs.svg.elements.push_element.Goals as goal
+use Rattle.resil_stats.proofs.svg.elements.push_element.Goals as goal
 
 pub returns : goal.returns
 returns g c =

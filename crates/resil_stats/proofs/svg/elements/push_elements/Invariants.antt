@@ -1,6 +1,6 @@
 use Rattle.std.proofs.Common.{string_bytes, take}
-use Rattle.resil_look.specs.Svg.{IsAddition, IsMadeOf}
-use Rattle.resil_look.proofs.svg.elements.push_elements.Given as goal
+use Rattle.resil_stats.specs.Svg.{IsAddition, IsMadeOf}
+use Rattle.resil_stats.proofs.svg.elements.push_elements.Given as goal
 
 -- the text has the elements so far behind what was there
 abbrev pub invariant-loop-element : goal.invariant-loop-element

@@ -1,6 +1,6 @@
 use Rattle.std.proofs.Common.{string_bytes}
-use Rattle.resil_look.proofs.SvgLaws.{each-drawn}
-use Rattle.resil_look.proofs.svg.push_each.Goals as goal
+use Rattle.resil_stats.proofs.SvgLaws.{each-drawn}
+use Rattle.resil_stats.proofs.svg.push_each.Goals as goal
 
 pub returns : goal.returns
 returns c =

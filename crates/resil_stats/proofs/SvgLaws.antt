@@ -2,7 +2,7 @@
 use Rattle.std.proofs.Common.{◌≡◌, ◌<◌, ◌+◌, ◌∷◌, [], ◌++◌, ◌∙◌, ℕ, List, length, take, get_or, refl, sym, ap, subst, append_assoc, append-nil}
 use Rattle.std.proofs.lemmas.List.{take_more}
 use Rattle.resil_stats.specs.declared.picture.Picture.{Picture}
-use Rattle.resil_look.specs.Svg.{IsAddition, IsEachDrawn, IsGatheredDrawn, IsMadeOf, bar_opening, column_opening, mark_opening}
+use Rattle.resil_stats.specs.Svg.{IsAddition, IsEachDrawn, IsGatheredDrawn, IsMadeOf, bar_opening, column_opening, mark_opening}
 
 -- a text with one more piece
 piece-push : {A : Type 0} (begins : A → List ℕ) (xs : List A) (x : A) (text look : List ℕ) → IsMadeOf begins xs text → IsMadeOf begins (xs ++ x ∷ []) (text ++ (begins x ++ look))

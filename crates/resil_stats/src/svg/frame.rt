@@ -1,15 +1,15 @@
 //! What stands around the bands: the title, the first illegal event, the legend, the grid with its axis, the last lines.
 
 ghost use Rattle.std.specs.Prelude.{◌≡◌, IfOk, string_bytes};
-ghost use Rattle.resil_look.specs.Svg.{opening};
+ghost use Rattle.resil_stats.specs.Svg.{opening};
 
 use super::draft::Draft;
 use super::jobs::JobName;
 use super::page::{CORE, EXTRA, GREY, GRID, INK, PAPER, Page, QUEUED, REFUSED};
 use super::sheet::Sheet;
+use crate::{Illegal, Picture, column_width};
 use resil_heads::answer::name_of;
 use resil_rule::{Event, Verdict};
-use resil_stats::{Illegal, Picture, column_width};
 use std::alloc::{AllocError, Global};
 
 // The ending of the noun behind a number.

@@ -1,6 +1,6 @@
 use Rattle.std.proofs.Common.{string_bytes}
-use Rattle.resil_look.proofs.SvgLaws.{gathered-drawn}
-use Rattle.resil_look.proofs.svg.push_gathered.Goals as goal
+use Rattle.resil_stats.proofs.SvgLaws.{gathered-drawn}
+use Rattle.resil_stats.proofs.svg.push_gathered.Goals as goal
 
 pub returns : goal.returns
 returns c =

@@ -1,16 +1,16 @@
 //! The jobs that run: a bar for each that started, in its row, or areas where events are gathered into columns.
 
 ghost use Rattle.std.specs.Prelude.{◌≡◌};
-ghost use Rattle.resil_look.specs.Svg.{start_class};
+ghost use Rattle.resil_stats.specs.Svg.{start_class};
 
 use super::bands::{write_ends, write_number};
 use super::draft::Draft;
 use super::outline::write_area;
 use super::page::{CORE, EXTRA, GREY, GROUND, INK, LETTER, PAPER, Page, QUEUED, Scale};
 use super::sheet::{Measure, Sheet};
+use crate::{Bar, Picture, Start};
 use resil_input::outcome_text::outcome_text;
 use resil_rule::Id;
-use resil_stats::{Bar, Picture, Start};
 use std::fmt;
 
 /// The name of a job: its caller and its number.

@@ -5,7 +5,7 @@
 //! around them is written by templates into a `Draft`: `frame`, `jobs`, `bands` and `over`, by the places of `page`.
 
 ghost use Rattle.std.specs.Prelude.{IfOk, OnOk, string_bytes};
-ghost use Rattle.resil_look.specs.Svg.{IsAddition, IsEachDrawn, IsGatheredDrawn, IsRestDrawn, IsSvgOf};
+ghost use Rattle.resil_stats.specs.Svg.{IsAddition, IsEachDrawn, IsGatheredDrawn, IsRestDrawn, IsSvgOf};
 
 // Adds a template with its values to a draft.
 macro_rules! put {
@@ -27,6 +27,7 @@ mod over;
 mod page;
 mod sheet;
 
+use crate::Picture;
 use crate::outcomes::Outcomes;
 use bands::write_bands;
 use draft::Draft;
@@ -35,7 +36,6 @@ use frame::{ending_text, opening_text, write_frame};
 use jobs::{write_labels, write_rows, write_running};
 use over::write_over;
 use page::Page;
-use resil_stats::Picture;
 use sheet::{Sheet, points_of};
 use std::alloc::{AllocError, Global};
 
@@ -115,7 +115,7 @@ fn push_rest(
 /// # Errors
 ///
 /// `AllocError` where memory runs out.
-pub(crate) fn svg_text(
+pub fn svg_text(
     alloc: Global,
     picture: &Picture,
     outcomes: &Outcomes,

@@ -7,7 +7,7 @@
 
 ghost use Rattle.std.specs.Prelude.{◌≤◌};
 
-use resil_stats::Picture;
+use crate::Picture;
 use std::fmt;
 
 // The colours. Each has one meaning in all bands; those of bars differ in grey, and for the colour-blind, too.

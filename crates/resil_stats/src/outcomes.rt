@@ -1,14 +1,14 @@
 //! The results of a run's jobs, by their ids. Of two for one job the first counts.
 
+use crate::results::JobResult;
 use resil_retry::Outcome;
 use resil_rule::Id;
-use resil_stats::results::JobResult;
 use std::alloc::{AllocError, Global};
 use std::collections::BTreeMap;
 
 /// How jobs ended, by their ids.
 #[derive(Drop)]
-pub(crate) struct Outcomes {
+pub struct Outcomes {
     by_id: BTreeMap<(u16, u64), Outcome>,
 }
 
@@ -18,7 +18,7 @@ impl Outcomes {
     /// # Errors
     ///
     /// `AllocError` where memory runs out.
-    pub(crate) fn of(alloc: Global, results: &[JobResult]) -> Result<Outcomes, AllocError> {
+    pub fn of(alloc: Global, results: &[JobResult]) -> Result<Outcomes, AllocError> {
         let mut by_id = BTreeMap::new(alloc);
         for result in results.iter().rev() {
             by_id.insert((result.id.caller, result.id.number), result.outcome)?;

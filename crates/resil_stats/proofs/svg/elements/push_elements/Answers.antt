@@ -1,8 +1,8 @@
 use Rattle.std.proofs.Common.{[], append-nil, arith, refl, string_bytes, subst, sym}
 use Rattle.std.proofs.lemmas.List.{take_all}
-use Rattle.resil_look.specs.Svg.{IsAddition, IsMadeOf}
-use Rattle.resil_look.proofs.SvgLaws.{made-more}
-use Rattle.resil_look.proofs.svg.elements.push_elements.Goals as goal
+use Rattle.resil_stats.specs.Svg.{IsAddition, IsMadeOf}
+use Rattle.resil_stats.proofs.SvgLaws.{made-more}
+use Rattle.resil_stats.proofs.svg.elements.push_elements.Goals as goal
 
 pub loop-element-init : goal.loop-element-init
 loop-element-init g c = ([], sym (append-nil (string_bytes c.args.text.now)), refl)

@@ -1,14 +1,14 @@
 //! The elements of bars, refusals and columns, of which the clauses say how they begin.
 
 ghost use Rattle.std.specs.Prelude.{ℕ, ◌≡◌, ◌++◌, IfOk, List, OnOk, string_bytes};
-ghost use Rattle.resil_look.specs.Svg.{IsAddition, IsMadeOf, refusal_opening};
+ghost use Rattle.resil_stats.specs.Svg.{IsAddition, IsMadeOf, refusal_opening};
 
 use super::draft::Draft;
 use super::jobs::{JobName, Style, style_of, write_result};
 use super::page::{GREY, PAPER, Pixels, REFUSED, RIGHT};
 use super::sheet::Sheet;
+use crate::{Bar, Column, Mark, Sign};
 use resil_rule::Id;
-use resil_stats::{Bar, Column, Mark, Sign};
 use std::alloc::{AllocError, Global};
 
 /// What has an element of its own.
@@ -28,7 +28,7 @@ pub(crate) trait Element: Copy {
 
 // A bar begins with its class, its job, its places and its row.
 impl Element for Bar {
-    ghost use Rattle.resil_look.specs.Svg.{bar_opening};
+    ghost use Rattle.resil_stats.specs.Svg.{bar_opening};
 
     ghost begins = { bar_opening };
 
@@ -68,7 +68,7 @@ impl Element for Bar {
 
 // The element of a mark where it is of a refusal: else there is none.
 impl Element for Mark {
-    ghost use Rattle.resil_look.specs.Svg.{mark_opening};
+    ghost use Rattle.resil_stats.specs.Svg.{mark_opening};
 
     ghost begins = { mark_opening };
 
@@ -102,7 +102,7 @@ impl Element for Mark {
 
 // A column begins with its places and its numbers.
 impl Element for Column {
-    ghost use Rattle.resil_look.specs.Svg.{column_opening};
+    ghost use Rattle.resil_stats.specs.Svg.{column_opening};
 
     ghost begins = { column_opening };
 

@@ -1,5 +1,5 @@
 use Rattle.std.proofs.Common.{append_assoc}
-use Rattle.resil_look.proofs.svg.elements.BarElement.opening.Goals as goal
+use Rattle.resil_stats.proofs.svg.elements.BarElement.opening.Goals as goal
 
 pub returns : goal.returns
 returns c =

@@ -2,7 +2,7 @@
 
 use super::draft::Draft;
 use super::page::{INK, LEFT, LETTER, Page, Pixels, REFUSED, RESIZE, RIGHT};
-use resil_stats::{Picture, Sign, column_width};
+use crate::{Picture, Sign, column_width};
 
 // More resizes than this are marked by a tick each.
 const MANY: usize = 24;
