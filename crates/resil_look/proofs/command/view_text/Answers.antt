@@ -1,9 +1,9 @@
-use Rattle.resil_heads.proofs.ErrorLaws.{err-returned}
+use Rattle.resil_input.proofs.RowLaws.{handed-on}
 use Rattle.resil_look.specs.Command.{IsStatsError}
 use Rattle.resil_look.proofs.LookLaws.{results-refused}
 use Rattle.resil_look.proofs.command.view_text.Goals as goal
 
 pub returns-in_err-results : goal.returns-in_err-results
 returns-in_err-results c =
-    err-returned c.from_residual.result _ (IsStatsError c.args.input.now) _ c.from_residual.ensures.1
+    handed-on c.from_residual.result _ (IsStatsError c.args.input.now) _ c.from_residual.ensures.1
     (results-refused c.args.input.now _ _ _ c.in_err-results.field-0.0 c.in-Ok.ensures c.in_err-results.ensures)
