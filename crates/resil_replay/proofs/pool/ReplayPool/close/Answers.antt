@@ -8,17 +8,11 @@ use Rattle.resil_replay.proofs.PoolLaws.{kept-same}
 use Rattle.resil_replay.proofs.pool.ReplayPool.close.Goals as goal
 
 pub invariant_of-self : goal.invariant_of-self
-invariant_of-self c = go c.close.result c.close.ensures.event c.close.ensures.unchanged
+invariant_of-self c = go c.close.new.self c.close.result c.close.ensures.event c.close.ensures.unchanged
   where
-    m : MachineView
-    m = c.self.inside.machine
-
-    n : MachineView
-    n = c.close.new.self
-
-    go : (b : Bool) → OnTrue b (n ≡ with_event m Close) → OnFalse b (n ≡ m) → ReplayPoolInvariant n c.self.inside.out.items
-    go true grown same = rw grown (kept-same m (with_event m Close) c.self.inside.out.items Close refl refl refl refl c.self.invariant.plans c.self.invariant)
-    go false grown same = rw same c.self.invariant
+    go : (n : MachineView) (b : Bool) → OnTrue b (n ≡ with_event c.self.inside.machine Close) → OnFalse b (n ≡ c.self.inside.machine) → ReplayPoolInvariant n c.self.inside.out.items
+    go n true grown same = rw grown (kept-same c.self.inside.machine _ c.self.inside.out.items Close refl refl refl refl c.self.invariant.plans c.self.invariant)
+    go n false grown same = rw same c.self.invariant
 
 pub returns : goal.returns
 returns c = rw (← c.self.view_is)

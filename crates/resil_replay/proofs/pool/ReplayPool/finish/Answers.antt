@@ -10,39 +10,28 @@ returns-in_default-clause-refused c =
 
 pub invariant_of-self-2 : goal.invariant_of-self-2
 invariant_of-self-2 c =
-    let m = c.self.inside.machine in
-    let out = c.self.inside.out.items in
-    let left = c.remove_job.new.out.items in
-    let job = c.in-Some.job in
     let taken_ = c.in-Some.ensures.taken in
     elim c.match-finish.branch [
-      | in-Ok w ↦ rw w.in-Ok.ensures.event (finished-kept m out left c.args.id job c.self.invariant taken_ c.run.result)
+      | in-Ok w ↦ rw w.in-Ok.ensures.event (finished-kept _ _ _ c.args.id _ c.self.invariant taken_ c.run.result)
       | in-Err w ↦
-          let idle = refused-idle m out c.args.id job _ c.self.invariant (plan-out m out left c.args.id job c.self.invariant taken_) (rw c.run.ensures.plan at w.in-Err.ensures.refused) in
-          rw w.in-Err.ensures.unchanged (left-kept m out left c.args.id job c.self.invariant taken_ idle)
+          let idle = refused-idle _ _ c.args.id c.in-Some.job _ c.self.invariant (plan-out _ _ _ c.args.id _ c.self.invariant taken_) (rw c.run.ensures.plan at w.in-Err.ensures.refused) in
+          rw w.in-Err.ensures.unchanged (left-kept _ _ _ c.args.id _ c.self.invariant taken_ idle)
     ]
 
 pub returns-clause-played : goal.returns-clause-played
 returns-clause-played c =
-    let m = c.self.inside.machine in
-    let out = c.self.inside.out.items in
     elim c.match-finish.branch [
       | in-Ok w ↦
-          let runs = rw (out-running m out c.self.invariant) at (w.in-Ok.ensures.out.0 refl).0 in
+          let runs = rw (out-running c.self.inside.machine c.self.inside.out.items c.self.invariant) at (w.in-Ok.ensures.out.0 refl).0 in
           rw (w.result-is, ← c.self.view_is, w.in-Ok.ensures.event) (inl (Finish c.args.id, refl, runs, refl, refl))
       | in-Err w ↦ rw w.result-is tt
     ]
 
 pub returns-clause-refused : goal.returns-clause-refused
 returns-clause-refused c =
-    let m = c.self.inside.machine in
-    let out = c.self.inside.out.items in
-    let left = c.remove_job.new.out.items in
-    let job = c.in-Some.job in
-    let taken_ = c.in-Some.ensures.taken in
     elim c.match-finish.branch [
       | in-Ok w ↦ rw w.result-is tt
       | in-Err w ↦
           rw (w.result-is, ← c.self.view_is)
-          (refused-idle m out c.args.id job _ c.self.invariant (plan-out m out left c.args.id job c.self.invariant taken_) (rw c.run.ensures.plan at w.in-Err.ensures.refused))
+          (refused-idle _ _ c.args.id c.in-Some.job _ c.self.invariant (plan-out _ _ _ c.args.id _ c.self.invariant c.in-Some.ensures.taken) (rw c.run.ensures.plan at w.in-Err.ensures.refused))
     ]

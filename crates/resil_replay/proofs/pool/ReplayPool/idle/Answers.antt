@@ -1,14 +1,12 @@
 use Rattle.std.proofs.Common.{inl, refl}
-use Rattle.resil_admission.specs.MachineView.{with_event}
 use Rattle.resil_rule.specs.declared.event.Event.TheVariants.{IdleEnd}
 use Rattle.resil_replay.proofs.PoolLaws.{kept-same}
 use Rattle.resil_replay.proofs.pool.ReplayPool.idle.Goals as goal
 
 pub invariant_of-self-2 : goal.invariant_of-self-2
 invariant_of-self-2 c =
-    let m = c.self.inside.machine in
     let grown = rw c.if-not-idle_end.false at c.idle_end.ensures.event in
-    rw grown (kept-same m (with_event m IdleEnd) c.self.inside.out.items IdleEnd refl refl refl refl c.self.invariant.plans c.self.invariant)
+    rw grown (kept-same c.self.inside.machine _ c.self.inside.out.items IdleEnd refl refl refl refl c.self.invariant.plans c.self.invariant)
 
 pub returns-clause-played : goal.returns-clause-played
 returns-clause-played c =

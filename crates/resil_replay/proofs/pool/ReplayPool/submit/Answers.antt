@@ -13,13 +13,11 @@ unwrap-picked-requires c =
 
 pub invariant_of-self-then-starts_worker : goal.invariant_of-self-then-starts_worker
 invariant_of-self-then-starts_worker c =
-    let m = c.self.inside.machine in
-    let p = c.unwrap-picked.result in
     let one = rw c.if-starts_worker.true at (c.starts_worker.ensures c.args.id) in
     let picked = rw c.unwrap-picked.ensures at c.pick.ensures.picked in
     let known = rw c.unwrap-picked.ensures at c.pick.ensures.plan in
     rw (c.push_reserved.ensures.items, c.reserve.ensures.items)
-    (submitted-kept m c.self.inside.out.items c.args.id c.in-Ok-submit.reply c.in-Ok.job c.self.invariant one c.pick.new.self p.0 p.1
+    (submitted-kept c.self.inside.machine c.self.inside.out.items c.args.id c.in-Ok-submit.reply c.in-Ok.job c.self.invariant one c.pick.new.self c.unwrap-picked.result.0 c.unwrap-picked.result.1
     (rw c.in-Ok-submit.ensures.event at picked) (rw c.in-Ok-submit.ensures.event at known))
 
 pub invariant_of-self-else-starts_worker : goal.invariant_of-self-else-starts_worker
