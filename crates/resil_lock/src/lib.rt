@@ -23,4 +23,4 @@ mod work;
 pub use laws::holds_between_steps;
 pub use lock::Lock;
 pub use protocol::{Guarded, LockRule, LockSeat, Phase, Rank, View, WithJoins};
-pub use work::{Looks, Round, Rounds};
+pub use work::{Look, Looks, Round, Rounds};

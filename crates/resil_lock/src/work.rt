@@ -21,6 +21,17 @@ pub enum Round {
     Over,
 }
 
+/// What a look for a job found.
+#[derive(Drop)]
+pub enum Look<J> {
+    /// A job.
+    Found(J),
+    /// No job.
+    Nothing,
+    /// No job, and there will be none.
+    Over,
+}
+
 /// A worker with all that it needs, which makes one round after the other. It says of its rounds what it can.
 ///
 /// ```
