@@ -20,6 +20,9 @@ use Rattle.resil_rule.proofs.RuleLaws.{length-ids}
 use Rattle.resil_lock.specs.declared.protocol.Rank.{Rank}
 use Rattle.resil_lock.specs.declared.protocol.Rank.TheVariants as rank
 use Rattle.resil_lock.specs.declared.protocol.View.{View}
+use Rattle.resil_lock.specs.declared.work.Look.{Look}
+use Rattle.resil_lock.specs.declared.work.Look.TheVariants.{Found, Nothing, Over}
+use Rattle.resil_lock.specs.Work.{OnFound, OnNothing, OnOver}
 use Rattle.resil_lock.specs.Lock.{IsCovered, weigh, left_view}
 use Rattle.resil_executor.specs.declared.log.Entry.{Entry}
 use Rattle.resil_executor.specs.declared.log.Note.{Note}
@@ -28,12 +31,11 @@ use Rattle.resil_executor.specs.declared.opening.Opening.{Opening}
 use Rattle.resil_executor.specs.declared.state.State.{State}
 use Rattle.resil_executor.specs.declared.state.Refused.{Refused}
 use Rattle.resil_executor.specs.declared.state.Refused.TheVariants as refused
-use Rattle.resil_executor.specs.declared.state.Look.{Look}
-use Rattle.resil_executor.specs.declared.state.Look.TheVariants.{Found, Nothing, Over}
+use Rattle.resil_executor.specs.declared.job.PickedJob.{PickedJob}
 use Rattle.resil_executor.specs.declared.state.Numbers.{Numbers}
 use Rattle.resil_executor.specs.Kept.{KeepsUp, Keeps, unfinished}
 use Rattle.resil_executor.specs.Log.{StandsFor, MayHaveWritten, picked_id, ended_id, job_of, beyond_submission, entry_of, entries_of, events_in, accepted_in, picked_in, ended_in, beyond_submissions_in, IsOver}
-use Rattle.resil_executor.specs.Turn.{Steps, IsPlain, IsVisit, Writes, WritesNone, Accepts, Refuses, Picks, IsOverNow, SeesLast, SeesMore, SeesAccepted, SeesRefusal, IsDue, OnFound, OnNothing, OnOver, HasPicked, HasRested, SeesOver, AreNumbersAfter}
+use Rattle.resil_executor.specs.Turn.{Steps, IsPlain, IsVisit, Writes, WritesNone, Accepts, Refuses, Picks, IsOverNow, SeesLast, SeesMore, SeesAccepted, SeesRefusal, IsDue, HasPicked, HasRested, SeesOver, AreNumbersAfter}
 use Rattle.resil_executor.proofs.KeptLaws.{keeps-up}
 use Rattle.resil_executor.proofs.LogLaws.{more-some, more-none, more-empty, still-there, prefix-more, count, weigh-count, weigh-none}
 use Rattle.resil_executor.proofs.OneLogLaws.{ended-is}
@@ -227,7 +229,7 @@ module _ {W : Type 0} where
           let few : times x (ended_in own) + cond b 1 0 ≤ times x (picked_in own) = by_case x b is_same in
           omega (arith, same, more, one, few)
 
-  pub look-fits : (who : Rank) (own : List (Entry W)) (v after : RuleView W) (last : Option Note) (look : Look W) → who ≡ rank.Worker → OnFound look (λ slot work. Picks v slot.id work after last) → OnNothing look (Steps v last after × IsPlain after last)
+  pub look-fits : (who : Rank) (own : List (Entry W)) (v after : RuleView W) (last : Option Note) (look : Look (PickedJob W)) → who ≡ rank.Worker → OnFound look (λ p. Picks v p.slot.id p.work after last) → OnNothing look (Steps v last after × IsPlain after last)
       → MayHaveWritten who own → MayHaveWritten who (own ++ entries_of after last)
   look-fits who own v after last (Found p) is found none fits = fits-pick who own v after last p.slot.id p.work is fits found
   look-fits who own v after last Nothing is found none fits = fits-plain who rank.Worker own after last is worker-not fits none.1
@@ -277,7 +279,7 @@ module _ {W : Type 0} where
 -- what a worker's turn tells it
 module _ {W K : Type 0} {limits : Sizes} {old locked new : View K (Entry W)} {v after : RuleView W} {last : Option Note} (t : HasTurned limits old locked new v after last)
     (works : locked.rank ≡ rank.Worker) (may : MayHaveWritten locked.rank locked.own) (covered : IsCovered MayHaveWritten locked.seen locked.own) where
-  pub look-found : (look : Look W) → OnFound look (λ slot work. Picks v slot.id work after last) → OnFound look (λ slot work. HasPicked limits slot.id work old new)
+  pub look-found : (look : Look (PickedJob W)) → OnFound look (λ p. Picks v p.slot.id p.work after last) → OnFound look (λ p. HasPicked limits p.slot.id p.work old new)
   look-found Nothing p = p
   look-found Over p = p
   look-found (Found picked) p = record {
@@ -301,12 +303,12 @@ module _ {W K : Type 0} {limits : Sizes} {old locked new : View K (Entry W)} {v 
     ended = p.1.1;
   }
 
-  pub look-nothing : (look : Look W) → OnNothing look (Steps v last after × IsPlain after last) → OnNothing look (HasRested limits old new)
+  pub look-nothing : (look : Look (PickedJob W)) → OnNothing look (Steps v last after × IsPlain after last) → OnNothing look (HasRested limits old new)
   look-nothing (Found p) h = h
   look-nothing Nothing h = rest-tells h
   look-nothing Over h = rest-tells h
 
-  pub look-over : (look : Look W) → OnNothing look (Steps v last after × IsPlain after last) → OnOver look (IsOverNow after) → OnOver look (SeesOver limits new)
+  pub look-over : (look : Look (PickedJob W)) → OnNothing look (Steps v last after × IsPlain after last) → OnOver look (IsOverNow after) → OnOver look (SeesOver limits new)
   look-over (Found picked) p now = now
   look-over Nothing p now = now
   look-over Over p now = record {
@@ -338,7 +340,7 @@ module _ {W : Type 0} (v after : RuleView W) (last : Option Note) where
   result-steps event (Ok x) ok err = ok.steps
   result-steps event (Err e) ok err = err.steps
 
-  pub look-steps : (look : Look W) → OnFound look (λ slot work. Picks v slot.id work after last) → OnNothing look (Steps v last after × IsPlain after last) → Steps v last after
+  pub look-steps : (look : Look (PickedJob W)) → OnFound look (λ p. Picks v p.slot.id p.work after last) → OnNothing look (Steps v last after × IsPlain after last) → Steps v last after
   look-steps (Found p) found none = found.steps
   look-steps Nothing found none = none.0
   look-steps Over found none = none.0

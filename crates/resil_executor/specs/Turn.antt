@@ -11,15 +11,12 @@ use Rattle.resil_rule.specs.declared.event.Event.{Event}
 use Rattle.resil_rule.specs.declared.event.Event.TheVariants.{Submit}
 use Rattle.resil_rule.specs.declared.event.Reply.{Reply}
 use Rattle.resil_rule.specs.declared.event.Reply.TheVariants as reply
-use Rattle.resil_rule.specs.declared.slots.Slot.{Slot}
 use Rattle.resil_lock.specs.declared.protocol.View.{View}
 use Rattle.resil_executor.specs.declared.log.Entry.{Entry}
 use Rattle.resil_executor.specs.declared.log.Note.{Note}
 use Rattle.resil_executor.specs.declared.log.Note.TheVariants as note
 use Rattle.resil_executor.specs.declared.state.Refused.{Refused}
 use Rattle.resil_executor.specs.declared.state.Refused.TheVariants as refused
-use Rattle.resil_executor.specs.declared.state.Look.{Look}
-use Rattle.resil_executor.specs.declared.state.Look.TheVariants.{Found, Nothing, Over}
 use Rattle.resil_executor.specs.declared.state.Numbers.{Numbers}
 use Rattle.resil_executor.specs.Kept.{refused}
 use Rattle.resil_executor.specs.Log.{StandsFor, picked_id, ended_id, work_of, entries_of, events_in, accepted_in, picked_in, ended_in, beyond_submissions_in, IsOver}
@@ -83,21 +80,6 @@ module _ {W : Type 0} where
   -- the rule is closed, has nothing to pick and runs nothing
   abbrev pub IsOverNow : RuleView W → Type 0
   IsOverNow v = (v.closed ≡ true) × (v.waiting ≡ []) × (busy v ≡ 0)
-
-  abbrev pub OnFound : Look W → (Slot → W → Type 0) → Type 0
-  OnFound (Found picked) P = P picked.slot picked.work
-  OnFound Nothing P = Unit {0}
-  OnFound Over P = Unit {0}
-
-  abbrev pub OnNothing : Look W → Type 0 → Type 0
-  OnNothing (Found picked) P = Unit {0}
-  OnNothing Nothing P = P
-  OnNothing Over P = P
-
-  abbrev pub OnOver : Look W → Type 0 → Type 0
-  OnOver (Found picked) P = Unit {0}
-  OnOver Nothing P = Unit {0}
-  OnOver Over P = P
 
 -- What a seat sees, whatever the key of its lock.
 module _ {W K : Type 0} where

@@ -4,6 +4,6 @@ pub use crate::job::{PickedJob, RanJob};
 pub use crate::log::{Entry, Note};
 pub use crate::opening::Opening;
 pub use crate::pool::{Visitor, Worker};
-pub use crate::state::{BoxedState, Look, State};
+pub use crate::state::{BoxedState, State};
 pub use crate::threads::ThreadWork;
-pub use resil_lock::{Looks, Round};
+pub use resil_lock::{Look, Looks, Round};

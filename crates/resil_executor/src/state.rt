@@ -11,7 +11,8 @@ ghost use Rattle.resil_rule.specs.Limits.{IsResizeRefusal};
 ghost use Rattle.resil_rule.specs.RuleState.{IsStateOf, Follows};
 ghost use Rattle.resil_rule.specs.RuleView.{opened, busy, owed, made_by, is_acceptance, with_finish, MayEndIdle};
 ghost use Rattle.resil_rule.specs.declared.event.Event.{Event as AnEvent};
-ghost use Rattle.resil_executor.specs.Turn.{Steps, Writes, WritesNone, Accepts, Refuses, Picks, IsPlain, IsVisit, HasNoneToRun, IsOverNow, MayBegin, OnFound, OnNothing, OnOver};
+ghost use Rattle.resil_executor.specs.Turn.{Steps, Writes, WritesNone, Accepts, Refuses, Picks, IsPlain, IsVisit, HasNoneToRun, IsOverNow, MayBegin};
+ghost use Rattle.resil_lock.specs.Work.{OnFound, OnNothing, OnOver};
 ghost use Rattle.resil_executor.specs.Kept.{unfinished, events_of, Keeps, LacksRoom};
 ghost use Rattle.resil_executor.specs.declared.log.Note.TheVariants as note;
 ghost use Rattle.resil_rule.specs.declared.rule.Origin.TheVariants as origin;
@@ -19,7 +20,7 @@ ghost use Rattle.resil_rule.specs.declared.rule.Origin.TheVariants as origin;
 use crate::job::PickedJob;
 use crate::log::{Entry, Note};
 use crate::opening::Opening;
-use resil_lock::Guarded;
+use resil_lock::{Guarded, Look};
 use resil_rule::{AdmitError, Event, Id, Limits, Origin, Record, Refusal, Reply, Rule, Slot};
 use resil_task::by_hand::Run;
 use std::alloc::{AllocError, Global};
@@ -47,17 +48,6 @@ pub enum Refused {
     Closed,
     /// The queue is full and there are as many workers as the greatest size.
     Full,
-}
-
-/// What a look found.
-#[derive(Drop)]
-pub enum Look<W> {
-    /// A job to run.
-    Found(PickedJob<W>),
-    /// No job.
-    Nothing,
-    /// No job, and there will be none: the pool is closed, and all that it accepted is finished.
-    Over,
 }
 
 /// How a pool stands between two turns.
@@ -298,10 +288,10 @@ impl<W: Drop, H: Record> State<W, H> {
     }
 
     /// A turn that looks for a job. Where there is none, or none may begin since a resize, an idle worker may end.
-    pub fn look(&mut self, timed_out: bool) -> Look<W>
+    pub fn look(&mut self, timed_out: bool) -> Look<PickedJob<W>>
         requires room { H.HasRoom (owed self.old.rule) self.old.kept }
-        ensures found { OnFound result (λ slot work. Picks self.old.rule slot.id work self.new.rule self.new.last) }
-        ensures may { OnFound result (λ _ _. MayBegin self.old.rule) }
+        ensures found { OnFound result (λ picked. Picks self.old.rule picked.slot.id picked.work self.new.rule self.new.last) }
+        ensures may { OnFound result (λ _. MayBegin self.old.rule) }
         ensures nothing { OnNothing result (Steps self.old.rule self.new.last self.new.rule × IsPlain self.new.rule self.new.last) }
         ensures none { OnNothing result (HasNoneToRun self.old.rule) }
         ensures over { OnOver result (IsOverNow self.new.rule) }

@@ -4,14 +4,14 @@
 //! lock while it runs a job. The loop is the lock's.
 ghost use Rattle.std.specs.Prelude.{◌≡◌};
 ghost use Rattle.resil_rule.specs.declared.event.Event.TheVariants.{Finish};
+ghost use Rattle.resil_lock.specs.Work.{OnFound, OnNothing, OnOver};
 ghost use Rattle.resil_executor.specs.Log.{accepted_in};
-ghost use Rattle.resil_executor.specs.Turn.{OnFound, OnNothing, OnOver, HasPicked, HasRested, HasWorked, SeesLast, SeesOver, IsDue, IsOfItsRun};
+ghost use Rattle.resil_executor.specs.Turn.{HasPicked, HasRested, HasWorked, SeesLast, SeesOver, IsDue, IsOfItsRun};
 ghost use Rattle.resil_executor.specs.Seats.{limits_of, IsOf, known_to};
 
 use crate::job::{PickedJob, RanJob};
 use crate::pool::{Pool, Worker};
-use crate::state::Look;
-use resil_lock::{Looks, Round, Rounds};
+use resil_lock::{Look, Looks, Round, Rounds};
 use resil_rule::Record;
 use resil_task::by_hand::Run;
 use std::sync::Wait;
@@ -26,10 +26,15 @@ impl<W: Drop, H: Record> Pool<W, H> {
     ///     pool.finish::<(), _>(&rt, &mut worker, ran);
     /// }
     /// ```
-    pub fn look<R: Wait>(&self, rt: &R, worker: &mut Worker<W, H>, timed_out: bool) -> Look<W>
+    pub fn look<R: Wait>(
+        &self,
+        rt: &R,
+        worker: &mut Worker<W, H>,
+        timed_out: bool,
+    ) -> Look<PickedJob<W>>
         requires mine { IsOf self.now worker.old.seat }
         ensures mine { IsOf self.now worker.new.seat }
-        ensures found { OnFound result (λ slot work. HasPicked (limits_of self.now) slot.id work (known_to worker.old.seat) (known_to worker.new.seat)) }
+        ensures found { OnFound result (λ picked. HasPicked (limits_of self.now) picked.slot.id picked.work (known_to worker.old.seat) (known_to worker.new.seat)) }
         ensures nothing { OnNothing result (HasRested (limits_of self.now) (known_to worker.old.seat) (known_to worker.new.seat)) }
         ensures over { OnOver result (SeesOver (limits_of self.now) (known_to worker.new.seat)) }
     {
