@@ -9,7 +9,7 @@ use crate::round::Round;
 use crate::total::total;
 use anyhow::anyhow;
 use resil_admission::{Verdict, audit};
-use resil_executor::{Closer, Ended, WorkPool, work_while};
+use resil_executor::{Ended, ExecutorCloser, WorkPool, work_while};
 use resil_rule::{AllEvents, Limits, NoRecord, Record};
 use resil_task::by_hand::Task;
 use resil_task::{Answers, Pending, Work};
@@ -92,7 +92,7 @@ fn right_in_all<H: Record + Send, R: Threads + Wait + Sync>(
     rt: &R,
     alloc: Global,
     pool: &WorkPool<Echo, H>,
-    closer: Closer<Task<Echo>, H>,
+    closer: ExecutorCloser<Task<Echo>, H>,
     round: Round,
 ) -> anyhow::Result<u64>
     requires mine { IsOf pool.now closer.seat }

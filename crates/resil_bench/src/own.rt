@@ -7,7 +7,7 @@ use crate::pool::{KEEP_ALIVE, QUEUE};
 use crate::started::Started;
 use anyhow::anyhow;
 use resil_executor::by_hand::Visitor;
-use resil_executor::{Closer, Ended, Pool, work_while};
+use resil_executor::{Ended, Executor, ExecutorCloser, work_while};
 use resil_rule::{Limits, NoRecord};
 use resil_task::by_hand::Run;
 use std::alloc::Global;
@@ -30,7 +30,7 @@ impl Run<()> for Tick<'_> {
 // Submits to a pool of such works.
 #[derive(Drop)]
 struct Submitter<'v, 'a> {
-    pool: &'v Pool<Tick<'a>>,
+    pool: &'v Executor<Tick<'a>>,
     visitor: Visitor<Tick<'a>>,
     started: &'a Started,
     ghost mine: { IsOf pool.now visitor.seat },
@@ -51,8 +51,8 @@ impl Submit for Submitter<'_, '_> {
 // Answers the requests while the workers of an open pool work.
 fn serve<'a, R: Input + Print + AllocGlobal + Clock + Threads + Wait + Sync>(
     rt: &R,
-    pool: &Pool<Tick<'a>>,
-    closer: Closer<Tick<'a>>,
+    pool: &Executor<Tick<'a>>,
+    closer: ExecutorCloser<Tick<'a>>,
     started: &'a Started,
 ) -> anyhow::Result<()>
     requires mine { IsOf pool.now closer.seat }
@@ -81,7 +81,7 @@ pub(crate) fn run<R: Input + Print + AllocGlobal + Clock + Threads + Wait + Sync
 ) -> anyhow::Result<u64> {
     let started = Started::new();
     let limits = Limits::new(workers, workers, QUEUE)?;
-    let (pool, closer) = Pool::open(alloc, limits, NoRecord)?;
+    let (pool, closer) = Executor::open(alloc, limits, NoRecord)?;
     match serve(rt, &pool, closer, &started) {
         Ok(()) => Ok(started.count()),
         Err(error) => Err(error),

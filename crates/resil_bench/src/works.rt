@@ -5,7 +5,7 @@ ghost use Rattle.resil_executor.specs.Seats.{IsOf};
 use crate::pool::{KEEP_ALIVE, QUEUE};
 use crate::round::Round;
 use anyhow::anyhow;
-use resil_executor::{Closer, Ended, Pool, work_while};
+use resil_executor::{Ended, Executor, ExecutorCloser, work_while};
 use resil_rule::{Limits, NoRecord};
 use resil_task::by_hand::Run;
 use std::alloc::Global;
@@ -24,7 +24,7 @@ impl Run<()> for Nothing {
 }
 
 // Submits this many works that do nothing.
-fn submit_all<R: Wait>(rt: &R, pool: &Pool<Nothing>, works: u32) {
+fn submit_all<R: Wait>(rt: &R, pool: &Executor<Nothing>, works: u32) {
     let mut visitor = pool.visitor();
     for _ in 0..works {
         drop(pool.submit_job(rt, &mut visitor, Nothing));
@@ -35,8 +35,8 @@ fn submit_all<R: Wait>(rt: &R, pool: &Pool<Nothing>, works: u32) {
 fn finished<R: Threads + Wait + Sync>(
     rt: &R,
     alloc: Global,
-    pool: &Pool<Nothing>,
-    closer: Closer<Nothing>,
+    pool: &Executor<Nothing>,
+    closer: ExecutorCloser<Nothing>,
     round: Round,
 ) -> anyhow::Result<u64>
     requires mine { IsOf pool.now closer.seat }
@@ -64,6 +64,6 @@ pub(crate) fn run<R: Threads + Wait + Sync>(
     round: Round,
 ) -> anyhow::Result<u64> {
     let limits = Limits::new(round.workers, round.workers, QUEUE)?;
-    let (pool, closer) = Pool::open(alloc, limits, NoRecord)?;
+    let (pool, closer) = Executor::open(alloc, limits, NoRecord)?;
     finished(rt, alloc, &pool, closer, round)
 }

@@ -6,27 +6,27 @@ use Rattle.resil_lock.specs.declared.protocol.View.{View}
 use Rattle.resil_lock.specs.Lock.{first_view, visitor_view}
 use Rattle.resil_executor.specs.declared.log.Entry.{Entry}
 use Rattle.resil_executor.specs.declared.opening.Opening.{Opening}
-use Rattle.resil_executor.specs.declared.pool.Pool.{Pool}
+use Rattle.resil_executor.specs.declared.executor.Executor.{Executor}
 
 module _ {W H : _} where
   -- the sizes of the opening
-  abbrev pub limits_of : Pool W H → Sizes
+  abbrev pub limits_of : Executor W H → Sizes
   limits_of pool = pool.lock.table.shared.key.limits
 
   -- the record of its history as it was before the first event
-  abbrev pub blank_of : Pool W H → H
+  abbrev pub blank_of : Executor W H → H
   blank_of pool = pool.lock.table.shared.key.blank.value
 
   -- a visitor that has seen nothing yet
-  abbrev pub new_visitor : Pool W H → View (Opening H) (Entry W)
+  abbrev pub new_visitor : Executor W H → View (Opening H) (Entry W)
   new_visitor pool = visitor_view (first_view pool.lock.table.shared.key)
 
   -- the seat is at the lock of this pool
-  abbrev pub IsAt : {S V : Type 0} → Pool W H → Seat S V → Type 0
+  abbrev pub IsAt : {S V : Type 0} → Executor W H → Seat S V → Type 0
   IsAt pool seat = seat.table_id ≡ pool.lock.table.shared.table_id
 
   -- the seat is of this pool, and knows how it was opened
-  abbrev pub IsOf : {S : Type 0} → Pool W H → Seat S (View (Opening H) (Entry W)) → Type 0
+  abbrev pub IsOf : {S : Type 0} → Executor W H → Seat S (View (Opening H) (Entry W)) → Type 0
   IsOf pool seat = IsAt pool seat × (seat.me.0.key ≡ pool.lock.table.shared.key)
 
 -- what a seat has seen of the log, and what it wrote

@@ -1,9 +1,9 @@
 //! What is below a pool of works: turns by hand, with the seats that see what was written, and what a worker picks and ends.
 
+pub use crate::executor::{ExecutorWorker, Visitor};
 pub use crate::job::{PickedJob, RanJob};
 pub use crate::log::{Entry, Note};
 pub use crate::opening::Opening;
-pub use crate::pool::{Visitor, Worker};
 pub use crate::state::{BoxedState, State};
 pub use crate::threads::ThreadWork;
 pub use resil_lock::{Look, Looks, Round};

@@ -5,7 +5,7 @@ ghost use Rattle.resil_executor.specs.Log.{events_in};
 ghost use Rattle.resil_executor.specs.Turn.{SeesMore};
 ghost use Rattle.resil_executor.specs.Seats.{limits_of, blank_of, IsOf, known_to};
 
-use crate::pool::{Pool, Visitor};
+use crate::executor::{Executor, Visitor};
 use resil_rule::{AllEvents, Event, LastEvents};
 use std::alloc::{AllocError, Global};
 use std::sync::Wait;
@@ -13,7 +13,7 @@ use std::sync::Wait;
 /// The last events of a history, and how many came before them.
 ///
 /// ```
-/// let (pool, _closer): (Pool<Errand, LastEvents>, _) = Pool::open(alloc, limits, LastEvents::new(alloc, 100)?)?;
+/// let (pool, _closer): (Executor<Errand, LastEvents>, _) = Executor::open(alloc, limits, LastEvents::new(alloc, 100)?)?;
 /// let last = pool.last_events(&rt, alloc, &mut pool.visitor())?;
 /// println!(rt; "{} events, and {} before these", last.events.len(), last.lost)?;
 /// ```
@@ -43,7 +43,7 @@ fn last_history(alloc: Global, last: &LastEvents) -> Result<LastHistory, AllocEr
     })
 }
 
-impl<W: Drop> Pool<W, AllEvents> {
+impl<W: Drop> Executor<W, AllEvents> {
     /// The whole history, in one turn, which writes nothing: what the pool's turns wrote up to here. Others wait while it is
     /// copied.
     ///
@@ -52,7 +52,7 @@ impl<W: Drop> Pool<W, AllEvents> {
     /// `AllocError` where memory runs out.
     ///
     /// ```
-    /// let (pool, _closer): (Pool<Errand, AllEvents>, _) = Pool::open(alloc, limits, AllEvents::new(alloc))?;
+    /// let (pool, _closer): (Executor<Errand, AllEvents>, _) = Executor::open(alloc, limits, AllEvents::new(alloc))?;
     /// let history = pool.history(&rt, alloc, &mut pool.visitor())?;
     /// let text = history_text(alloc, Version::Two, &history)?;
     /// ```
@@ -75,7 +75,7 @@ impl<W: Drop> Pool<W, AllEvents> {
     }
 }
 
-impl<W: Drop> Pool<W, LastEvents> {
+impl<W: Drop> Executor<W, LastEvents> {
     /// The last events, as many as the record keeps, in one turn, which writes nothing. Others wait while they are copied.
     ///
     /// # Errors

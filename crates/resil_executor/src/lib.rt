@@ -1,27 +1,28 @@
 //! A pool of threads for one's own work: at most so many workers and so much in the queue, real refusals, and each
 //! accepted work run once.
 //!
-//! A `Pool` has the rule of admission under a lock. Each call of it is one turn: the state tells what the turn wrote,
-//! and the lock adds that to the log. The log has the works too; what is in it exists in proofs alone. Where a history
-//! is wanted, the pool keeps a record of it, of the last events or of all; without one its memory is that of its
-//! opening. Works that answer go by a `WorkPool`: `open`, `submit`, `work_while`; `submit_within` is one call of a chain. What is below stands in `by_hand`: a thread
-//! takes turns with a `Visitor` or a `Worker`, and closes with the `Closer`. These have no bytes: contracts see in them what
-//! the log was, and what their own turns wrote.
+//! Such a pool is an `Executor`: it has the rule of admission under a lock. Each call of it is one turn: the state tells
+//! what the turn wrote, and the lock adds that to the log. The log has the works too; what is in it exists in proofs
+//! alone. Where a history is wanted, the pool keeps a record of it, of the last events or of all; without one its memory
+//! is that of its opening. Works that answer go by a `WorkPool`: `open`, `submit`, `work_while`; `submit_within` is one
+//! call of a chain. What is below stands in `by_hand`: a thread takes turns with a `Visitor` or an `ExecutorWorker`, and
+//! closes with the `ExecutorCloser`. These have no bytes: contracts see in them what the log was, and what their own
+//! turns wrote.
 //!
 //! The theorem, whatever order the threads' steps come in: never more works run at once than the greatest size of the
 //! opening says; a refusal was real at that point; each accepted work is run at most once, by its own `run`, between its
 //! pick and its finish; its answer is that run's, and is handed over at most once; and when `work_while` comes back, each
-//! accepted work has been run. `holds_of_the_log` has what holds of all threads together, `Pool::submit` the refusals,
-//! `Pool::finish` and `Pool::work` that what was ended was run, and `work_while` the end.
+//! accepted work has been run. `holds_of_the_log` has what holds of all threads together, `Executor::submit` the refusals,
+//! `Executor::finish` and `Executor::work` that what was ended was run, and `work_while` the end.
 #![tactic(auto)]
 
 pub mod by_hand;
+mod executor;
 mod history;
 mod job;
 mod log;
 mod no_answer;
 mod opening;
-mod pool;
 mod state;
 mod submission;
 mod theorems;
@@ -30,9 +31,9 @@ mod turns;
 mod worker;
 mod works;
 
+pub use executor::{Executor, ExecutorCloser};
 pub use history::LastHistory;
 pub use no_answer::NoAnswer;
-pub use pool::{Closer, Pool};
 pub use state::{Numbers, Refused};
 pub use submission::submit_within;
 pub use theorems::{

@@ -4,8 +4,8 @@ ghost use Rattle.std.specs.Prelude.{IfOk, IfErr, OnOk};
 ghost use Rattle.resil_executor.specs.Seats.{limits_of, IsOf, known_to};
 ghost use Rattle.resil_executor.specs.Dispatch.{SeesItAccepted, SeesNoAnswer};
 
+use crate::executor::Visitor;
 use crate::no_answer::NoAnswer;
-use crate::pool::Visitor;
 use crate::works::WorkPool;
 use resil_rule::Record;
 use resil_task::Answers;

@@ -16,7 +16,7 @@ use resil_lock::{LockRule, View};
 use resil_rule::Record;
 use resil_task::by_hand::Run;
 
-/// Who picked a job and wrote nothing more hasn't worked, so a body of `Pool::work` that drops a job that it took, or runs it
+/// Who picked a job and wrote nothing more hasn't worked, so a body of `Executor::work` that drops a job that it took, or runs it
 /// and never ends it, can't meet `worked`.
 ///
 /// ```

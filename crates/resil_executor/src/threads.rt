@@ -5,7 +5,7 @@ ghost use Rattle.std.specs.Iterator.{IsFinite};
 ghost use Rattle.resil_executor.specs.Turn.{HasWorkedSinceHired, SeesOver};
 ghost use Rattle.resil_executor.specs.Seats.{limits_of, IsOf, known_to};
 
-use crate::pool::{Closer, Pool, Worker};
+use crate::executor::{Executor, ExecutorCloser, ExecutorWorker};
 use resil_rule::Record;
 use resil_task::by_hand::Run;
 use std::alloc::{AllocError, Global};
@@ -16,7 +16,7 @@ use std::{iter, thread};
 // After how many empty looks a worker that ends a closed pool would be idle. It doesn't matter, since there is no idling.
 const ANY_KEEP_ALIVE: u32 = 1;
 
-impl<W: Drop, H: Record> Pool<W, H> {
+impl<W: Drop, H: Record> Executor<W, H> {
     /// Ends the pool: closes it, and runs on this thread what no worker has run, until all that was accepted is finished. It
     /// waits for jobs that run elsewhere. The worker that comes back has seen the end, and ended no job that it didn't run.
     ///
@@ -26,9 +26,9 @@ impl<W: Drop, H: Record> Pool<W, H> {
     pub fn end<C, R: Wait>(
         &self,
         rt: &R,
-        closer: &mut Closer<W, H>,
+        closer: &mut ExecutorCloser<W, H>,
         context: &mut C,
-    ) -> Worker<W, H>
+    ) -> ExecutorWorker<W, H>
     where
         W: Run<C>,
         requires mine { IsOf self.now closer.old.seat }
@@ -47,16 +47,16 @@ impl<W: Drop, H: Record> Pool<W, H> {
 /// A work that the threads of a pool run, each in a context of its own: the work may go to another thread.
 ///
 /// ```
-/// let ended = work_while(&rt, &pool, closer, 20, || ask(&rt, &pool)); // `Pool<W>`, where `W: Run<()> + Drop + Send`
+/// let ended = work_while(&rt, &pool, closer, 20, || ask(&rt, &pool)); // `Executor<W>`, where `W: Run<()> + Drop + Send`
 /// ```
 pub trait ThreadWork<C>: Drop + Send + Sized {
     ghost use Rattle.resil_executor.specs.Seats.{IsOf};
 
-    /// Works on a thread of its own until the pool is over, as `Pool::work` says. The context is dropped then.
+    /// Works on a thread of its own until the pool is over, as `Executor::work` says. The context is dropped then.
     fn work_at<H: Record + Send, R: Wait>(
         rt: &R,
-        pool: &Pool<Self, H>,
-        worker: Worker<Self, H>,
+        pool: &Executor<Self, H>,
+        worker: ExecutorWorker<Self, H>,
         context: C,
         keep_alive: u32,
     )
@@ -66,8 +66,8 @@ pub trait ThreadWork<C>: Drop + Send + Sized {
 impl<C: Drop, W: Run<C> + Drop + Send> ThreadWork<C> for W {
     fn work_at<H: Record + Send, R: Wait>(
         rt: &R,
-        pool: &Pool<W, H>,
-        worker: Worker<W, H>,
+        pool: &Executor<W, H>,
+        worker: ExecutorWorker<W, H>,
         context: C,
         keep_alive: u32,
     )
@@ -91,14 +91,14 @@ pub struct Ended<T, F, W: Drop, H: Record> {
     /// The answer; or the closure, where no thread could be started.
     pub answer: Result<T, F>,
     /// The worker of the calling thread. Contracts see in it what the pool's log was at its end.
-    pub worker: Worker<W, H>,
+    pub worker: ExecutorWorker<W, H>,
 }
 
 /// Who works for a pool while a closure runs, and in which contexts.
 ///
 /// ```
 /// let workers = Workers { contexts: connections, own: connection, keep_alive: 20 };
-/// let ended = work_while_with(&rt, &pool, closer, workers, || ask(&rt, &pool)); // `Pool<W>`, where `W: Run<Connection> + Drop + Send`
+/// let ended = work_while_with(&rt, &pool, closer, workers, || ask(&rt, &pool)); // `Executor<W>`, where `W: Run<Connection> + Drop + Send`
 /// ```
 #[derive(Drop)]
 pub struct Workers<C> {
@@ -106,7 +106,7 @@ pub struct Workers<C> {
     pub contexts: Vec<C>,
     /// The context of the calling thread, which ends the pool.
     pub own: C,
-    /// After how many empty looks in a row an idle worker of the rule may end, as `Pool::work` says.
+    /// After how many empty looks in a row an idle worker of the rule may end, as `Executor::work` says.
     pub keep_alive: u32,
 }
 
@@ -154,8 +154,8 @@ fn start_workers<
 >(
     scope: &'s Scope<'s, E>,
     rt: &'s R,
-    pool: &'s Pool<W, H>,
-    closer: &mut Closer<W, H>,
+    pool: &'s Executor<W, H>,
+    closer: &mut ExecutorCloser<W, H>,
     contexts: I,
     keep_alive: u32,
 ) -> bool
@@ -189,8 +189,8 @@ fn work_beside<
     F: FnOnce() -> T,
 >(
     rt: &R,
-    pool: &Pool<W, H>,
-    closer: Closer<W, H>,
+    pool: &Executor<W, H>,
+    closer: ExecutorCloser<W, H>,
     contexts: I,
     own: C,
     keep_alive: u32,
@@ -209,7 +209,7 @@ fn work_beside<
     let (mut closer, answer) = thread::scope(
         thread::scope_env(),
         rt,
-        move |scope| -> (Closer<W, H>, Result<T, F>)
+        move |scope| -> (ExecutorCloser<W, H>, Result<T, F>)
             requires mine { IsOf pool.now closer.seat }
             requires can { I.can_next contexts }
             requires finite { IsFinite (I.remaining contexts) }
@@ -234,7 +234,7 @@ fn work_beside<
 /// waits for the threads. A thread that can't be started is left out; where none can, `user` isn't run and comes back. The
 /// pool is ended then too. When this call comes back, each accepted work has been run.
 ///
-/// After `keep_alive` empty looks in a row an idle worker of the rule may end, as `Pool::work` says.
+/// After `keep_alive` empty looks in a row an idle worker of the rule may end, as `Executor::work` says.
 ///
 /// ```
 /// let answer = work_while(&rt, &pool, closer, 20, || ask(&rt, &pool)).answer;
@@ -245,7 +245,13 @@ pub fn work_while<
     T,
     R: Threads + Wait + Sync,
     F: FnOnce() -> T,
->(rt: &R, pool: &Pool<W, H>, closer: Closer<W, H>, keep_alive: u32, user: F) -> Ended<T, F, W, H>
+>(
+    rt: &R,
+    pool: &Executor<W, H>,
+    closer: ExecutorCloser<W, H>,
+    keep_alive: u32,
+    user: F,
+) -> Ended<T, F, W, H>
     requires mine { IsOf pool.now closer.seat }
     requires user { F.pre user }
     ensures answer { IfOk result.answer (F.post user) }
@@ -269,8 +275,8 @@ pub fn work_while_with<
     F: FnOnce() -> T,
 >(
     rt: &R,
-    pool: &Pool<W, H>,
-    closer: Closer<W, H>,
+    pool: &Executor<W, H>,
+    closer: ExecutorCloser<W, H>,
     workers: Workers<C>,
     user: F,
 ) -> Ended<T, F, W, H>

@@ -9,8 +9,8 @@ ghost use Rattle.resil_executor.specs.Kept.{LacksRoom};
 ghost use Rattle.resil_executor.specs.Turn.{SeesLast, SeesMore, SeesAccepted, SeesRefusal, AreNumbersAfter, AllFinished};
 ghost use Rattle.resil_executor.specs.Seats.{limits_of, blank_of, new_visitor, IsAt, IsOf, known_to, IsLike};
 
+use crate::executor::{Executor, ExecutorCloser, ExecutorWorker, Visitor};
 use crate::opening::Opening;
-use crate::pool::{Closer, Pool, Visitor, Worker};
 use crate::state::{BoxedState, Numbers, Refused, State};
 use resil_lock::Lock;
 use resil_rule::{AdmitError, Event, Id, Limits, Record, Reply};
@@ -20,7 +20,7 @@ use std::sync::Wait;
 use std::thread;
 use std::time::{Clock, Duration, Instant};
 
-impl<W: Drop, H: Record> Pool<W, H> {
+impl<W: Drop, H: Record> Executor<W, H> {
     /// An open pool of these limits, with a record of no event yet, and what closes it. It takes all its memory here, but
     /// for the record of all events, which grows by each submission and resize.
     ///
@@ -31,7 +31,7 @@ impl<W: Drop, H: Record> Pool<W, H> {
         alloc: Global,
         limits: Limits,
         blank: H,
-    ) -> Result<(Pool<W, H>, Closer<W, H>), AdmitError>
+    ) -> Result<(Executor<W, H>, ExecutorCloser<W, H>), AdmitError>
         requires blank { H.IsRecordOf [] blank }
         ensures limits { IfOk result (λ r. limits_of r.0 ≡ limits) }
         ensures record { IfOk result (λ r. blank_of r.0 ≡ blank) }
@@ -48,7 +48,7 @@ impl<W: Drop, H: Record> Pool<W, H> {
             return Err(AdmitError::Memory);
         };
         let (lock, seat) = Lock::new(alloc, BoxedState { inner }, &opening)?;
-        Ok((Pool { lock, limits }, Closer { seat }))
+        Ok((Executor { lock, limits }, ExecutorCloser { seat }))
     }
 
     /// The sizes of the opening.
@@ -59,14 +59,14 @@ impl<W: Drop, H: Record> Pool<W, H> {
     }
 
     /// A worker of this pool, which has seen nothing yet.
-    pub fn hire(&self, closer: &mut Closer<W, H>) -> Worker<W, H>
+    pub fn hire(&self, closer: &mut ExecutorCloser<W, H>) -> ExecutorWorker<W, H>
         requires { IsAt self.now closer.old.seat }
         ensures closer { IsLike closer.old.seat closer.new.seat }
         ensures source { IsAt self.now result.seat }
         ensures limits { (known_to result.seat).key ≡ (known_to closer.old.seat).key }
         ensures blank { ((known_to result.seat).seen ≡ []) × ((known_to result.seat).own ≡ []) }
     {
-        Worker {
+        ExecutorWorker {
             seat: self.lock.hire(&mut closer.seat),
         }
     }
@@ -144,7 +144,7 @@ impl<W: Drop, H: Record> Pool<W, H> {
     }
 
     /// Closes the pool, in one turn, and says whether it was open. All workers wake. Work that was accepted is still run.
-    pub fn close<R: Wait>(&self, rt: &R, closer: &mut Closer<W, H>) -> bool
+    pub fn close<R: Wait>(&self, rt: &R, closer: &mut ExecutorCloser<W, H>) -> bool
         requires mine { IsOf self.now closer.old.seat }
         ensures mine { IsOf self.now closer.new.seat }
         ensures closed { OnTrue result (SeesLast (limits_of self.now) (known_to closer.old.seat) Event.Close (known_to closer.new.seat)) }
@@ -167,7 +167,7 @@ impl<W: Drop, H: Record> Pool<W, H> {
     pub fn resize<R: Wait>(
         &self,
         rt: &R,
-        closer: &mut Closer<W, H>,
+        closer: &mut ExecutorCloser<W, H>,
         core: u32,
         max: u32,
     ) -> Result<(), AdmitError>

@@ -9,14 +9,14 @@ ghost use Rattle.resil_executor.specs.Log.{accepted_in};
 ghost use Rattle.resil_executor.specs.Turn.{HasPicked, HasRested, HasWorked, SeesLast, SeesOver, IsDue, IsOfItsRun};
 ghost use Rattle.resil_executor.specs.Seats.{limits_of, IsOf, known_to};
 
+use crate::executor::{Executor, ExecutorWorker};
 use crate::job::{PickedJob, RanJob};
-use crate::pool::{Pool, Worker};
 use resil_lock::{Look, Looks, Round, Rounds};
 use resil_rule::Record;
 use resil_task::by_hand::Run;
 use std::sync::Wait;
 
-impl<W: Drop, H: Record> Pool<W, H> {
+impl<W: Drop, H: Record> Executor<W, H> {
     /// Looks for a job, in one turn. Where there is none, or as many run as the greatest size says since a resize, an idle worker may
     /// end: where the pool is closed, or where this one is `timed_out` and there are more workers than the core size.
     ///
@@ -29,7 +29,7 @@ impl<W: Drop, H: Record> Pool<W, H> {
     pub fn look<R: Wait>(
         &self,
         rt: &R,
-        worker: &mut Worker<W, H>,
+        worker: &mut ExecutorWorker<W, H>,
         timed_out: bool,
     ) -> Look<PickedJob<W>>
         requires mine { IsOf self.now worker.old.seat }
@@ -49,7 +49,7 @@ impl<W: Drop, H: Record> Pool<W, H> {
     pub fn finish<C, R: Wait>(
         &self,
         rt: &R,
-        worker: &mut Worker<W, H>,
+        worker: &mut ExecutorWorker<W, H>,
         ran: RanJob<W::Output>,
     ) -> W::Output
     where
@@ -79,7 +79,7 @@ impl<W: Drop, H: Record> Pool<W, H> {
     pub fn work_once<C, R: Wait>(
         &self,
         rt: &R,
-        worker: &mut Worker<W, H>,
+        worker: &mut ExecutorWorker<W, H>,
         looks: &mut Looks,
         context: &mut C,
     ) -> Round
@@ -117,7 +117,7 @@ impl<W: Drop, H: Record> Pool<W, H> {
     pub fn work<C, R: Wait>(
         &self,
         rt: &R,
-        worker: &mut Worker<W, H>,
+        worker: &mut ExecutorWorker<W, H>,
         context: &mut C,
         keep_alive: u32,
     )
@@ -140,8 +140,8 @@ impl<W: Drop, H: Record> Pool<W, H> {
 // A worker at work: its pool, its seat there, and the context that its jobs are run in.
 #[derive(Drop)]
 struct AtWork<'a, W: Drop, H: Record, C> {
-    pool: &'a Pool<W, H>,
-    worker: &'a mut Worker<W, H>,
+    pool: &'a Executor<W, H>,
+    worker: &'a mut ExecutorWorker<W, H>,
     context: &'a mut C,
 }
 

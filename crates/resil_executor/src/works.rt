@@ -6,7 +6,7 @@ ghost use Rattle.resil_executor.specs.Kept.{LacksRoom};
 ghost use Rattle.resil_executor.specs.Turn.{SeesAccepted, SeesRefusal, WasAccepted, WasAcceptedWith, WasRefused};
 ghost use Rattle.resil_executor.specs.Seats.{limits_of, new_visitor, IsOf, known_to};
 
-use crate::pool::{Pool, Visitor};
+use crate::executor::{Executor, Visitor};
 use crate::state::Refused;
 use resil_rule::{Id, NoRecord, Record, Reply};
 use resil_task::by_hand::{Job, Task};
@@ -15,7 +15,7 @@ use std::alloc::Global;
 use std::sync::Wait;
 
 /// A pool of threads for works that answer, a `Work` or a `WorkAt` each, which threads share by `&`. `H` is the record of
-/// its history, as `Pool` says.
+/// its history, as `Executor` says.
 ///
 /// ```
 /// let (prices, closer) = WorkPool::open(alloc, Limits::new(2, 4, 100)?, NoRecord)?;
@@ -24,16 +24,16 @@ use std::sync::Wait;
 ///     price.wait(&rt).ok()
 /// });
 /// ```
-pub type WorkPool<W, H = NoRecord> = Pool<Task<W>, H>;
+pub type WorkPool<W, H = NoRecord> = Executor<Task<W>, H>;
 
 /// A pool of threads for boxed closures, which answer by the replier of a `one_shot` or not at all.
 ///
 /// ```
 /// let (letters, closer) = ClosurePool::open(alloc, Limits::new(2, 4, 100)?, NoRecord)?;
 /// ```
-pub type ClosurePool<H = NoRecord> = Pool<Job, H>;
+pub type ClosurePool<H = NoRecord> = Executor<Job, H>;
 
-impl<X: Answers, H: Record> Pool<Task<X>, H> {
+impl<X: Answers, H: Record> Executor<Task<X>, H> {
     /// Submits a work, in one turn, and gives its number and what its answer is waited for with (Resilience4j user guide,
     /// ThreadPoolBulkhead: `executeSupplier`). What the clauses say was seen by a visitor of the call's own; `submit_by` takes one.
     ///
@@ -103,7 +103,7 @@ impl<X: Answers, H: Record> Pool<Task<X>, H> {
     }
 }
 
-impl<H: Record> Pool<Job, H> {
+impl<H: Record> Executor<Job, H> {
     /// Submits a boxed closure, in one turn, and gives its number and the reply. The box is made in `main`, or in a closure there.
     ///
     /// # Errors

@@ -10,11 +10,11 @@
 //! Pools (`resil_executor`, user guide of Resilience4j, ThreadPoolBulkhead):
 //! - `WorkPool`: a pool of threads for works that answer
 //! - `ClosurePool`: one for boxed closures
-//! - `Pool`: one for whatever can be run
+//! - `Executor`: one for whatever can be run
 //! - `work_while`, `work_while_with`: threads work for a pool while a closure runs, and the pool is at its end then
 //! - `Workers`: what the threads lend to the works, one for each
 //! - `Ended`: what the closure answered, and who has seen the end
-//! - `Closer`: what closes and resizes a pool
+//! - `ExecutorCloser`: what closes and resizes a pool
 //! - `Refused`: why a work isn't accepted
 //! - `Numbers`: how a pool stands, all of one moment
 //! - `LastHistory`: the last events of a history, and how many came before them
@@ -33,13 +33,13 @@
 //! - `audit`, `Verdict`: judges a history
 //!
 //! By hand:
-//! - `by_hand`: turns at a pool, with a `Visitor` or a `Worker`
+//! - `by_hand`: turns at a pool, with a `Visitor` or an `ExecutorWorker`
 //! - `tasks`: what is below works: `Run`, closures that reply, the two ends of an answer
 #![tactic(auto)]
 
 pub use resil_executor::{
-    Closer, ClosurePool, Ended, LastHistory, NoAnswer, Numbers, Pool, Refused, WorkPool, Workers,
-    by_hand, submit_within, work_while, work_while_with,
+    ClosurePool, Ended, Executor, ExecutorCloser, LastHistory, NoAnswer, Numbers, Refused,
+    WorkPool, Workers, by_hand, submit_within, work_while, work_while_with,
 };
 pub use resil_rule::{
     AdmitError, AllEvents, Event, Id, LastEvents, Limits, NoRecord, Record, Reply, Verdict, audit,

@@ -3,8 +3,8 @@
 ghost use Rattle.resil_executor.specs.Seats.{IsOf};
 
 use crate::shared::{assert_that, opened};
-use resil_executor::by_hand::Worker;
-use resil_executor::{Closer, Pool};
+use resil_executor::by_hand::ExecutorWorker;
+use resil_executor::{Executor, ExecutorCloser};
 use resil_rule::{AdmitError, NoRecord};
 use resil_task::by_hand::Run;
 use std::process::Abort;
@@ -36,7 +36,7 @@ impl Run<()> for Inside<'_> {
 /// Submits 200 works to a pool with room for them.
 fn submit_all<'a, R: Abort + Wait>(
     rt: &R,
-    pool: &Pool<Inside<'a>>,
+    pool: &Executor<Inside<'a>>,
     inside: &'a AtomicU32,
     most: &'a AtomicU32,
 ) {
@@ -47,7 +47,7 @@ fn submit_all<'a, R: Abort + Wait>(
 }
 
 /// Works until the pool is over.
-fn work<'a, R: Wait>(rt: &R, pool: &Pool<Inside<'a>>, worker: Worker<Inside<'a>>)
+fn work<'a, R: Wait>(rt: &R, pool: &Executor<Inside<'a>>, worker: ExecutorWorker<Inside<'a>>)
     requires mine { IsOf pool.now worker.seat }
 {
     let mut worker = worker;
@@ -57,9 +57,9 @@ fn work<'a, R: Wait>(rt: &R, pool: &Pool<Inside<'a>>, worker: Worker<Inside<'a>>
 /// Two workers work, each on a thread.
 fn work_by_two<'a, R: Threads + Wait + Sync>(
     rt: &R,
-    pool: &Pool<Inside<'a>>,
-    one: Worker<Inside<'a>>,
-    two: Worker<Inside<'a>>,
+    pool: &Executor<Inside<'a>>,
+    one: ExecutorWorker<Inside<'a>>,
+    two: ExecutorWorker<Inside<'a>>,
 )
     requires mine { IsOf pool.now one.seat × IsOf pool.now two.seat }
 {
@@ -77,8 +77,8 @@ fn work_by_two<'a, R: Threads + Wait + Sync>(
 /// Closes the pool, and has three workers run what it accepted.
 fn run_by_three<'a, R: Threads + Wait + Sync>(
     rt: &R,
-    pool: &Pool<Inside<'a>>,
-    closer: Closer<Inside<'a>>,
+    pool: &Executor<Inside<'a>>,
+    closer: ExecutorCloser<Inside<'a>>,
 )
     requires mine { IsOf pool.now closer.seat }
 {

@@ -3,8 +3,8 @@
 ghost use Rattle.resil_executor.specs.Seats.{IsOf};
 
 use crate::shared::{assert_that, numbers, opened};
-use resil_executor::by_hand::{Look, Looks, Round, Worker};
-use resil_executor::{Closer, Pool, WorkPool};
+use resil_executor::by_hand::{ExecutorWorker, Look, Looks, Round};
+use resil_executor::{Executor, ExecutorCloser, WorkPool};
 use resil_rule::{AdmitError, NoRecord};
 use resil_task::by_hand::{Run, Task};
 use resil_task::{Answers, Pending, Stop, Stoppable, Work};
@@ -46,7 +46,7 @@ fn submitted<R: Abort + Wait>(
 fn call_off_behind_one<R: Abort + Wait>(
     rt: &R,
     pool: &WorkPool<Stoppable<Echo>>,
-    closer: Closer<Task<Stoppable<Echo>>>,
+    closer: ExecutorCloser<Task<Stoppable<Echo>>>,
     stop: &Stop,
 )
     requires mine { IsOf pool.now closer.seat }
@@ -97,7 +97,7 @@ impl Run<()> for Nothing {
 }
 
 /// A pool of two workers and a queue, with three works.
-fn with_three<R: Abort + Wait>(rt: &R, pool: &Pool<Nothing>) {
+fn with_three<R: Abort + Wait>(rt: &R, pool: &Executor<Nothing>) {
     for _ in 0..3 {
         let (_, submitted) = pool.submit_new(rt, Nothing);
         assert_that(rt, submitted.is_ok(), "a work accepted");
@@ -105,7 +105,11 @@ fn with_three<R: Abort + Wait>(rt: &R, pool: &Pool<Nothing>) {
 }
 
 /// Whether a look finds nothing.
-fn finds_nothing<R: Wait>(rt: &R, pool: &Pool<Nothing>, worker: &mut Worker<Nothing>) -> bool
+fn finds_nothing<R: Wait>(
+    rt: &R,
+    pool: &Executor<Nothing>,
+    worker: &mut ExecutorWorker<Nothing>,
+) -> bool
     requires mine { IsOf pool.now worker.old.seat }
     ensures mine { IsOf pool.now worker.new.seat }
 {
@@ -113,7 +117,11 @@ fn finds_nothing<R: Wait>(rt: &R, pool: &Pool<Nothing>, worker: &mut Worker<Noth
 }
 
 /// Sets the sizes to 1 while both workers run: the first one that is done holds back, and goes on where the sizes are 2 again.
-fn shrink_and_grow<R: Abort + Wait>(rt: &R, pool: &Pool<Nothing>, closer: Closer<Nothing>)
+fn shrink_and_grow<R: Abort + Wait>(
+    rt: &R,
+    pool: &Executor<Nothing>,
+    closer: ExecutorCloser<Nothing>,
+)
     requires mine { IsOf pool.now closer.seat }
 {
     let mut closer = closer;
@@ -145,19 +153,19 @@ fn a_smaller_pool_holds_back(rt: HostRuntime) -> Result<(), AdmitError> {
 }
 
 /// Whether all is finished within a millisecond.
-fn is_finished<R: Clock + Wait>(rt: &R, pool: &Pool<Nothing>) -> bool {
+fn is_finished<R: Clock + Wait>(rt: &R, pool: &Executor<Nothing>) -> bool {
     let mut visitor = pool.visitor();
     pool.join_for(rt, &mut visitor, Duration::from_millis(1))
 }
 
 /// Whether it is closed.
-fn is_closed<R: Wait>(rt: &R, pool: &Pool<Nothing>) -> bool {
+fn is_closed<R: Wait>(rt: &R, pool: &Executor<Nothing>) -> bool {
     let mut visitor = pool.visitor();
     pool.is_closed(rt, &mut visitor)
 }
 
 /// Ends the pool on this thread.
-fn end<R: Wait>(rt: &R, pool: &Pool<Nothing>, closer: Closer<Nothing>)
+fn end<R: Wait>(rt: &R, pool: &Executor<Nothing>, closer: ExecutorCloser<Nothing>)
     requires mine { IsOf pool.now closer.seat }
 {
     let mut closer = closer;

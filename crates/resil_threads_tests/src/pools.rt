@@ -7,7 +7,7 @@ ghost use Rattle.std.specs.Prelude.{◌≡◌};
 ghost use Rattle.resil_executor.specs.Seats.{IsOf};
 
 use crate::shared::{assert_that, is_legal, numbers, opened};
-use resil_executor::{Closer, Ended, Numbers, Refused, WorkPool, work_while};
+use resil_executor::{Ended, ExecutorCloser, Numbers, Refused, WorkPool, work_while};
 use resil_rule::{AdmitError, AllEvents, Event, Id, LastEvents, NoRecord, Record};
 use resil_task::by_hand::Task;
 use resil_task::{Answers, Pending, Work};
@@ -38,7 +38,7 @@ impl Work for Double {
 
 type Doubles<H> = WorkPool<Double, H>;
 
-type DoublesCloser<H> = Closer<Task<Double>, H>;
+type DoublesCloser<H> = ExecutorCloser<Task<Double>, H>;
 
 /// Submits a work, and gives what it is waited for with.
 fn submitted<H: Record, R: Wait>(

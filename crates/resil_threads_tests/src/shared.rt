@@ -10,7 +10,7 @@ ghost use Rattle.resil_executor.specs.Seats.{IsOf};
 use resil_admission::{AdmitError, Limits, Verdict, audit};
 use resil_bulkhead::{Bulkhead, Pass};
 use resil_decor::{Chain, DecorError, Job, Layer, Listed, Passes, Plan};
-use resil_executor::{Closer, Numbers, Pool};
+use resil_executor::{Executor, ExecutorCloser, Numbers};
 use resil_retry::{Outcome, RetryError, Script};
 use resil_rule::{AllEvents, Record};
 use resil_workers::{Hook, JobRow, NoHook, Report, RunConfig, RunError, run_jobs};
@@ -210,7 +210,7 @@ pub fn report_under_bulkhead<R: Abort + Threads + Wait + Sync>(
 }
 
 /// How a pool stands.
-pub fn numbers<W: Drop, H: Record, R: Wait>(rt: &R, pool: &Pool<W, H>) -> Numbers {
+pub fn numbers<W: Drop, H: Record, R: Wait>(rt: &R, pool: &Executor<W, H>) -> Numbers {
     let mut visitor = pool.visitor();
     pool.numbers(rt, &mut visitor)
 }
@@ -220,19 +220,19 @@ pub fn opened<W: Drop, H: Record>(
     alloc: Global,
     sizes: (u32, u32, u32),
     blank: H,
-) -> Result<(Pool<W, H>, Closer<W, H>), AdmitError>
+) -> Result<(Executor<W, H>, ExecutorCloser<W, H>), AdmitError>
     requires { H.IsRecordOf [] blank }
     ensures mine { IfOk result (λ r. IsOf r.0 r.1.seat) }
 {
     let (core, max, queue) = sizes;
-    Pool::open(alloc, Limits::new(core, max, queue)?, blank)
+    Executor::open(alloc, Limits::new(core, max, queue)?, blank)
 }
 
 /// Asserts that the history of a pool up to here is legal.
 pub fn is_legal<W: Drop, R: Abort + Wait>(
     rt: &R,
     alloc: Global,
-    pool: &Pool<W, AllEvents>,
+    pool: &Executor<W, AllEvents>,
 ) -> Result<(), AdmitError> {
     let mut visitor = pool.visitor();
     let Ok(history) = pool.history(rt, alloc, &mut visitor) else {

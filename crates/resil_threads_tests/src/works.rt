@@ -3,9 +3,9 @@
 ghost use Rattle.resil_executor.specs.Seats.{IsOf};
 
 use crate::shared::{assert_that, is_legal, opened};
-use resil_executor::by_hand::{Look, Worker};
+use resil_executor::by_hand::{ExecutorWorker, Look};
 use resil_executor::{
-    Closer, ClosurePool, Ended, Pool, WorkPool, Workers, work_while, work_while_with,
+    ClosurePool, Ended, Executor, ExecutorCloser, WorkPool, Workers, work_while, work_while_with,
 };
 use resil_rule::{AdmitError, AllEvents, NoRecord};
 use resil_task::by_hand::{Job, Plain, Receiver, Run, Task, one_shot};
@@ -43,7 +43,7 @@ fn are_answered<R: Wait>(rt: &R, pool: &ClosurePool, asked: Asked) -> bool {
 fn serves<R: Threads + Wait + Sync>(
     rt: &R,
     pool: &ClosurePool,
-    closer: Closer<Job>,
+    closer: ExecutorCloser<Job>,
     asked: Asked,
 ) -> bool
     requires mine { IsOf pool.now closer.seat }
@@ -97,7 +97,7 @@ struct Again(u32);
 #[derive(Drop)]
 struct Own<'a, R> {
     rt: &'a R,
-    pool: &'a Pool<Again, AllEvents>,
+    pool: &'a Executor<Again, AllEvents>,
 }
 
 impl<'a, R: Wait> Run<Own<'a, R>> for Again {
@@ -113,8 +113,8 @@ impl<'a, R: Wait> Run<Own<'a, R>> for Again {
 /// Runs a job, and says whether there was one.
 fn run_one<R: Wait>(
     rt: &R,
-    pool: &Pool<Again, AllEvents>,
-    worker: &mut Worker<Again, AllEvents>,
+    pool: &Executor<Again, AllEvents>,
+    worker: &mut ExecutorWorker<Again, AllEvents>,
 ) -> bool
     requires mine { IsOf pool.now worker.old.seat }
     ensures mine { IsOf pool.now worker.new.seat }
@@ -133,8 +133,8 @@ fn run_one<R: Wait>(
 /// Submits the first of three works. Asserts that a worker runs them, and no more.
 fn run_three<R: Abort + Wait>(
     rt: &R,
-    pool: &Pool<Again, AllEvents>,
-    closer: &mut Closer<Again, AllEvents>,
+    pool: &Executor<Again, AllEvents>,
+    closer: &mut ExecutorCloser<Again, AllEvents>,
 )
     requires mine { IsOf pool.now closer.old.seat }
 {
@@ -173,7 +173,7 @@ fn count_beside<R: Threads + Wait + Sync>(
     rt: &R,
     alloc: Global,
     pool: &WorkPool<Count>,
-    closer: Closer<Task<Count>>,
+    closer: ExecutorCloser<Task<Count>>,
     counter: &AtomicU32,
 ) -> Result<bool, AdmitError>
     requires mine { IsOf pool.now closer.seat }

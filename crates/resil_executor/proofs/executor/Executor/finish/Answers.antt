@@ -3,7 +3,7 @@ use Rattle.std.proofs.Common.{◌∙◌, subst, sym}
 use Rattle.resil_rule.specs.declared.event.Event.TheVariants as event
 use Rattle.resil_executor.specs.Turn.{IsDue}
 use Rattle.resil_executor.proofs.SeatLaws as seats
-use Rattle.resil_executor.proofs.pool.Pool.finish.Goals as goal
+use Rattle.resil_executor.proofs.executor.Executor.finish.Goals as goal
 
 pub finish-requires : goal.finish-requires
 finish-requires g c =

@@ -2,7 +2,7 @@
 use Rattle.std.proofs.Common.{refl}
 use Rattle.std.proofs.lemmas.Result.{IfOk-weaker, IfErr-weaker}
 use Rattle.resil_executor.proofs.VisitLaws.{was-accepted, was-accepted_with, was-refused}
-use Rattle.resil_executor.proofs.works.Pool+Job+H.submit_closure.Goals as goal
+use Rattle.resil_executor.proofs.works.Executor+Job+H.submit_closure.Goals as goal
 
 pub returns-clause-accepted : goal.returns-clause-accepted
 returns-clause-accepted g c = IfOk-weaker c.submit_new-visitor.result.1 _ _ (λ r seen. was-accepted _ _ r.0 c.args.closure refl (r.1, seen)) c.submit_new-visitor.ensures.accepted

@@ -2,7 +2,7 @@
 use Rattle.std.proofs.Common.{◌∙◌, ◌<◌, ◌≤◌, subst, rules}
 use Rattle.std.proofs.lemmas.Result.{IfOk-weaker, IfErr-weaker}
 use Rattle.resil_executor.proofs.SeatLaws as seats
-use Rattle.resil_executor.proofs.pool.Pool.submit_job.Goals as goal
+use Rattle.resil_executor.proofs.executor.Executor.submit_job.Goals as goal
 
 pub submit-answer-requires : goal.submit-answer-requires
 submit-answer-requires g c =

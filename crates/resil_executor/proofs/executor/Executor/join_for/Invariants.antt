@@ -2,7 +2,7 @@
 use Rattle.std.proofs.Common.{◌≡◌}
 use mathlib.Core.List.{IsPrefix}
 use Rattle.resil_executor.specs.Seats.{IsOf}
-use Rattle.resil_executor.proofs.pool.Pool.join_for.Given as goal
+use Rattle.resil_executor.proofs.executor.Executor.join_for.Given as goal
 
 abbrev pub invariant-loop : goal.invariant-loop
 invariant-loop g l = record {

@@ -1,7 +1,7 @@
 -- What the turn leaves and tells.
 use Rattle.std.proofs.Common.{◌∙◌, rules}
 use Rattle.resil_executor.proofs.SeatLaws as seats
-use Rattle.resil_executor.proofs.pool.Pool.look.Goals as goal
+use Rattle.resil_executor.proofs.executor.Executor.look.Goals as goal
 
 pub release-requires-clause-home : goal.release-requires-clause-home
 release-requires-clause-home g c = seats.back_home g.H.Record.capacity (c.deref_mut.ensures.value ∙ c.state.view_is) c.look-look.new.self c.take-state.ensures.home (seats.look-steps _ _ _ _ c.look-look.ensures.found c.look-look.ensures.nothing) c.look-look.ensures.keeps c.look-look.ensures.capacity

@@ -3,7 +3,7 @@ use Rattle.std.proofs.Common.{◌∙◌, rules}
 use Rattle.std.proofs.lemmas.Bool.{OnTrue_at, OnTrue_from, OnFalse_at, OnFalse_from}
 use Rattle.resil_rule.specs.declared.event.Event.TheVariants as event
 use Rattle.resil_executor.proofs.SeatLaws as seats
-use Rattle.resil_executor.proofs.pool.Pool.close.Goals as goal
+use Rattle.resil_executor.proofs.executor.Executor.close.Goals as goal
 
 pub release-requires-clause-home : goal.release-requires-clause-home
 release-requires-clause-home g c = seats.back_home g.H.Record.capacity (c.deref_mut.ensures.value ∙ c.state.view_is) c.close-closes.new.self c.take-state.ensures.home (seats.bool-steps _ _ _ _ event.Close _ c.close-closes.ensures.closed c.close-closes.ensures.was_closed) c.close-closes.ensures.keeps c.close-closes.ensures.capacity

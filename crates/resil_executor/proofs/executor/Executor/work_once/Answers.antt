@@ -2,7 +2,7 @@
 use Rattle.std.proofs.Common.{ap}
 use Rattle.resil_executor.specs.Turn.{WasRun}
 use Rattle.resil_executor.proofs.WorkLaws.{ran-works}
-use Rattle.resil_executor.proofs.pool.Pool.work_once.Goals as goal
+use Rattle.resil_executor.proofs.executor.Executor.work_once.Goals as goal
 
 pub returns-in-Found-clause-worked : goal.returns-in-Found-clause-worked
 returns-in-Found-clause-worked g c =

@@ -4,7 +4,7 @@ use Rattle.std.proofs.lemmas.Result.{IfOk-weaker, IfErr-weaker}
 use Rattle.resil_rule.specs.RuleView.{owed}
 use Rattle.resil_rule.specs.declared.event.Event.TheVariants as event
 use Rattle.resil_executor.proofs.SeatLaws as seats
-use Rattle.resil_executor.proofs.pool.Pool.resize.Goals as goal
+use Rattle.resil_executor.proofs.executor.Executor.resize.Goals as goal
 
 pub release-requires-clause-home : goal.release-requires-clause-home
 release-requires-clause-home g c = seats.back_home g.H.Record.capacity (c.deref_mut.ensures.value ∙ c.state.view_is) c.resize-resized.new.self c.take-state.ensures.home (seats.result-steps _ _ _ (event.Resized c.args.core c.args.max) _ c.resize-resized.ensures.resized c.resize-resized.ensures.refused) c.resize-resized.ensures.keeps c.resize-resized.ensures.capacity

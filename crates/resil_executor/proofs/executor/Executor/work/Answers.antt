@@ -1,7 +1,7 @@
 -- What the rounds leave is what the worker sees once the pool is its caller's again.
 use Rattle.std.proofs.Common.{rules, sym}
 use Rattle.resil_executor.proofs.WorkLaws.{gone-in_all}
-use Rattle.resil_executor.proofs.pool.Pool.work.Goals as goal
+use Rattle.resil_executor.proofs.executor.Executor.work.Goals as goal
 
 pub returns : goal.returns
 returns g c =

@@ -13,12 +13,12 @@ use resil_rule::{Limits, NoRecord, Record};
 /// keeps none, `LastEvents` the last events, and `AllEvents` all of them.
 ///
 /// ```
-/// let (pool, mut closer) = Pool::open(alloc, Limits::new(2, 4, 100)?, NoRecord)?;
+/// let (pool, mut closer) = Executor::open(alloc, Limits::new(2, 4, 100)?, NoRecord)?;
 /// let (_visitor, submitted) = pool.submit_new(&rt, work);
 /// pool.close(&rt, &mut closer);
 /// ```
 #[derive(Drop)]
-pub struct Pool<W: Drop, H: Record = NoRecord> {
+pub struct Executor<W: Drop, H: Record = NoRecord> {
     /// The lock over the pool's state.
     pub lock: Lock<BoxedState<W, H>>,
     // The sizes of the opening.
@@ -45,7 +45,7 @@ pub struct Visitor<W: Drop, H: Record = NoRecord> {
 /// let mut worker = pool.hire(&mut closer);
 /// ```
 #[derive(Drop)]
-pub struct Worker<W: Drop, H: Record = NoRecord> {
+pub struct ExecutorWorker<W: Drop, H: Record = NoRecord> {
     /// The seat at the lock.
     pub seat: LockSeat<BoxedState<W, H>, Opening<H>, Entry<W>>,
     ghost rest: { (seat.me.0.phase ≡ Idle) × (seat.me.1 ≡ []) },
@@ -58,7 +58,7 @@ pub struct Worker<W: Drop, H: Record = NoRecord> {
 /// let worker = pool.hire(&mut closer);
 /// ```
 #[derive(Drop)]
-pub struct Closer<W: Drop, H: Record = NoRecord> {
+pub struct ExecutorCloser<W: Drop, H: Record = NoRecord> {
     /// The seat at the lock.
     pub seat: LockSeat<BoxedState<W, H>, Opening<H>, Entry<W>>,
     ghost rest: { (seat.me.0.phase ≡ Idle) × (seat.me.1 ≡ []) },

@@ -4,7 +4,7 @@ use Rattle.resil_executor.specs.declared.log.Note.{Note}
 use Rattle.resil_executor.specs.Turn.{IsVisit}
 use Rattle.resil_executor.proofs.KeptLaws.{keeps-quiet}
 use Rattle.resil_executor.proofs.SeatLaws as seats
-use Rattle.resil_executor.proofs.pool.Pool.numbers.Goals as goal
+use Rattle.resil_executor.proofs.executor.Executor.numbers.Goals as goal
 
 pub numbers-numbers-requires : goal.numbers-numbers-requires
 numbers-numbers-requires g c =
