@@ -1,11 +1,7 @@
 pub mod LogLaws
 pub mod HistoryLaws
-pub mod EndLaws
 pub mod KeptLaws
 pub mod OneLogLaws
 pub mod StateLaws
-pub mod RefusalLaws
 pub mod SeatLaws
 pub mod WorkLaws
-pub mod RefuteLaws
-pub mod VisitLaws

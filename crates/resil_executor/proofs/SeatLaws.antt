@@ -6,7 +6,7 @@ use Rattle.std.specs.Bool.{OnTrue, OnFalse}
 use mathlib.Core.List.{IsPrefix}
 use Rattle.resil_rule.specs.Limits.{Sizes}
 use Rattle.resil_rule.specs.Admission.{IsLegal}
-use Rattle.resil_rule.specs.History.{times, is_among, is_same_id, running, waiting, submissions, is_closed}
+use Rattle.resil_rule.specs.History.{times, is_among, is_same_id, running, submissions, is_closed}
 use Rattle.resil_rule.specs.Slots.{ids_out}
 use Rattle.resil_rule.specs.RuleView.{RuleView, ids_of, busy, made_by}
 use Rattle.resil_rule.specs.declared.event.Id.{Id}
@@ -39,8 +39,7 @@ use Rattle.resil_executor.specs.Turn.{Steps, IsPlain, IsVisit, Writes, WritesNon
 use Rattle.resil_executor.proofs.KeptLaws.{keeps-up}
 use Rattle.resil_executor.proofs.LogLaws.{more-some, more-none, more-empty, still-there, prefix-more, count, weigh-count, weigh-none}
 use Rattle.resil_executor.proofs.OneLogLaws.{ended-is}
-use Rattle.resil_executor.proofs.HistoryLaws.{once-done, all-done}
-use Rattle.resil_executor.proofs.RefusalLaws.{full-is-real, closed-is-real}
+use Rattle.resil_executor.proofs.HistoryLaws.{once-done, full-is-real, closed-is-real, nothing_left_is_over}
 
 -- A turn of a seat: the rule that it found under the lock stands for the log that it saw there, which begins with what it had seen, and what the turn noted is what it wrote.
 pub record HasTurned {W K : Type 0} (limits : Sizes) (old locked new : View K (Entry W)) (v after : RuleView W) (last : Option Note) : Type 0 where
@@ -161,12 +160,6 @@ pub few-accepted : {W H : Type 0} (IsRecordOf : List Event → H → Type 0) (Ha
     → count ≤ made_by v 1
 few-accepted IsRecordOf HasRoom limits log v count r s k = let made = s.state.made_are 1 in let answered = k.answered in let counted = k.counted in omega (arith, made, answered, counted)
 
-pub opener-not : rank.Opener ≡ rank.Visitor → ⊥
-opener-not e = absurd (cc e)
-
-pub worker-not : rank.Worker ≡ rank.Visitor → ⊥
-worker-not e = absurd (cc e)
-
 -- what a seat may have written
 module _ {W : Type 0} where
   -- after entries with no pick and no end
@@ -186,8 +179,8 @@ module _ {W : Type 0} where
   pub fits-visit : (who : Rank) (own : List (Entry W)) (after : RuleView W) (last : Option Note) → MayHaveWritten who own → IsVisit after last → MayHaveWritten who (own ++ entries_of after last)
   fits-visit who own after last fits visit = fits-more who own (entries_of after last) fits visit.0.0 visit.0.1 (λ _. visit.1)
 
-  pub fits-plain : (who other : Rank) (own : List (Entry W)) (after : RuleView W) (last : Option Note) → who ≡ other → (other ≡ rank.Visitor → ⊥) → MayHaveWritten who own → IsPlain after last → MayHaveWritten who (own ++ entries_of after last)
-  fits-plain who other own after last is no_visitor fits plain = fits-more who own (entries_of after last) fits plain.0 plain.1 (λ e. absurd (no_visitor (sym is ∙ e)))
+  pub fits-plain : (who : Rank) (own : List (Entry W)) (after : RuleView W) (last : Option Note) → (who ≡ rank.Visitor → ⊥) → MayHaveWritten who own → IsPlain after last → MayHaveWritten who (own ++ entries_of after last)
+  fits-plain who own after last no_visitor fits plain = fits-more who own (entries_of after last) fits plain.0 plain.1 (λ is. absurd (no_visitor is))
 
   -- one job picked
   picked-more : (own : List (Entry W)) (after : RuleView W) (last : Option Note) (noted : Note) (id : Id) → last ≡ Some noted → picked_id noted ≡ Some id → ended_id noted ≡ None → (x : Id)
@@ -204,7 +197,7 @@ module _ {W : Type 0} where
         let old = fits.balanced x in
         omega (arith, more.0, more.1, old);
     workers = inl is;
-    visitors = λ other. absurd (worker-not (sym is ∙ other));
+    visitors = λ other. absurd (cc (is, other));
   }
 
   due-pick : (who : Rank) (own : List (Entry W)) (v after : RuleView W) (last : Option Note) (id : Id) (work : W) → MayHaveWritten who own → Picks v id work after last → IsDue id (own ++ entries_of after last)
@@ -215,7 +208,7 @@ module _ {W : Type 0} where
       omega (arith, more.0, more.1, old, one)
 
   pub finish-fits : (who : Rank) (own : List (Entry W)) (v after : RuleView W) (last : Option Note) (id : Id) → who ≡ rank.Worker → IsDue id own → Writes v (event.Finish id) after last → MayHaveWritten who own → MayHaveWritten who (own ++ entries_of after last)
-  finish-fits who own v after last id is due w fits = record { balanced = λ x. balanced x (is_same_id id x) refl; workers = inl is; visitors = λ other. absurd (worker-not (sym is ∙ other)) }
+  finish-fits who own v after last id is due w fits = record { balanced = λ x. balanced x (is_same_id id x) refl; workers = inl is; visitors = λ other. absurd (cc (is, other)) }
     where
       by_case : (x : Id) (b : Bool) → is_same_id id x ≡ b → times x (ended_in own) + cond b 1 0 ≤ times x (picked_in own)
       by_case x true is_same = let here : IsDue x own = subst (λ (i : Id). IsDue i own) (same_id-equal id x is_same) due in omega (arith, here)
@@ -232,8 +225,8 @@ module _ {W : Type 0} where
   pub look-fits : (who : Rank) (own : List (Entry W)) (v after : RuleView W) (last : Option Note) (look : Look (PickedJob W)) → who ≡ rank.Worker → OnFound look (λ p. Picks v p.slot.id p.work after last) → OnNothing look (Steps v last after × IsPlain after last)
       → MayHaveWritten who own → MayHaveWritten who (own ++ entries_of after last)
   look-fits who own v after last (Found p) is found none fits = fits-pick who own v after last p.slot.id p.work is fits found
-  look-fits who own v after last Nothing is found none fits = fits-plain who rank.Worker own after last is worker-not fits none.1
-  look-fits who own v after last Over is found none fits = fits-plain who rank.Worker own after last is worker-not fits none.1
+  look-fits who own v after last Nothing is found none fits = fits-plain who own after last (λ e. absurd (cc (is, e))) fits none.1
+  look-fits who own v after last Over is found none fits = fits-plain who own after last (λ e. absurd (cc (is, e))) fits none.1
 
   -- a job that a seat picked and didn't end is out, whatever the others did
   pub due-out : (limits : Sizes) (log own : List (Entry W)) (v : RuleView W) (id : Id) → StandsFor limits log v → IsCovered MayHaveWritten log own → IsDue id own → is_among id (ids_out v.out) ≡ true
@@ -267,14 +260,7 @@ module _ {W : Type 0} where
   -- a rule that is closed and has nothing to do
   over-is : (limits : Sizes) (log : List (Entry W)) (v : RuleView W) → StandsFor limits log v → IsOverNow v → IsOver (events_in log)
   over-is limits log v s now =
-      let none_waits : waiting (events_in log) ≡ [] = sym s.state.waiting_is ∙ ap ids_of now.1 in
-      let few : length (running (events_in log)) ≡ 0 = sym s.state.numbers.running_are ∙ now.2 in
-      let none_runs = nil_from_length (running (events_in log)) few in record {
-        closed = sym s.state.numbers.closed_is ∙ now.0;
-        none_waits = none_waits;
-        none_runs = none_runs;
-        all_finished = λ id known. all-done v.limits (events_in log) s.state.legal none_waits none_runs id known;
-      }
+      nothing_left_is_over v.limits (events_in log) s.state.legal (sym s.state.numbers.closed_is ∙ now.0) (sym s.state.waiting_is ∙ ap ids_of now.1) (nil_from_length (running (events_in log)) (sym s.state.numbers.running_are ∙ now.2))
 
 -- what a worker's turn tells it
 module _ {W K : Type 0} {limits : Sizes} {old locked new : View K (Entry W)} {v after : RuleView W} {last : Option Note} (t : HasTurned limits old locked new v after last)

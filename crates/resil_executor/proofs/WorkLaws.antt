@@ -1,22 +1,28 @@
--- What a worker has done, turn by turn.
-use Rattle.std.proofs.Common.{ℕ, ◌≡◌, ◌⊎◌, inl, inr, List, [], ◌∷◌, ◌++◌, ◌∙◌, Some, sym, refl, ap, subst, append-nil, append_assoc}
+-- What a worker has done, turn by turn, and what its clause rules out, whatever the body.
+use Rattle.std.proofs.Common.{ℕ, ◌≡◌, ◌⊎◌, inl, inr, List, [], ◌∷◌, ◌++◌, ◌∙◌, Option, Some, length, sym, refl, ap, subst, arith, append-nil, append_assoc, length-append}
 use Rattle.std.specs.Prelude.{Contains}
+use Rattle.std.proofs.lemmas.List.{append_cancel_left}
 use Rattle.std.proofs.lemmas.List.Elements.{filter_map-append, Contains-append_cases}
 use mathlib.Core.List.{IsPrefix}
 use Rattle.resil_rule.specs.Limits.{Sizes}
+use Rattle.resil_rule.specs.RuleView.{RuleView}
 use Rattle.resil_rule.specs.declared.event.Id.{Id}
 use Rattle.resil_rule.specs.declared.event.Event.{Event}
 use Rattle.resil_rule.specs.declared.event.Event.TheVariants as event
 use Rattle.resil_rule.specs.declared.record.Record.{Ghosts}
+use Rattle.resil_lock.specs.declared.protocol.Rank.{Rank}
+use Rattle.resil_lock.specs.declared.protocol.Rank.TheVariants as rank
 use Rattle.resil_lock.specs.declared.protocol.View.{View}
 use Rattle.resil_lock.specs.Work.{AfterRounds}
 use Rattle.resil_lock.proofs.RoundLaws.{after-rounds}
 use Rattle.resil_executor.specs.declared.log.Entry.{Entry}
+use Rattle.resil_executor.specs.declared.log.Note.{Note}
 use Rattle.resil_executor.specs.declared.log.Note.TheVariants as note
 use Rattle.resil_executor.specs.declared.worker.AtWork.{AtWork}
-use Rattle.resil_executor.specs.Log.{picked_id, ended_id, job_of, accepted_in, picked_in, ended_in}
-use Rattle.resil_executor.specs.Turn.{HasPicked, HasWorked, WasRun, SeesLast}
-use Rattle.resil_executor.proofs.LogLaws.{more-some, more-none, still-there, contains-one, nothing-there, prefix-trans, prefix-more}
+use Rattle.resil_executor.specs.Log.{MayHaveWritten, picked_id, ended_id, job_of, entry_of, entries_of, accepted_in, picked_in, ended_in}
+use Rattle.resil_executor.specs.Turn.{Picks, HasPicked, HasWorked, WasRun, SeesLast}
+use Rattle.resil_executor.specs.Laws.{PickedIsEnded, EndedWasPicked, OnlyWorkersPick}
+use Rattle.resil_executor.proofs.LogLaws.{one-some, one-none, more-some, more-none, still-there, contains-one, nothing-there, prefix-trans, prefix-more}
 
 module _ {W : Type 0} where
   still-accepted : (xs ys : List (Entry W)) (job : Id × W) → IsPrefix xs ys → Contains (accepted_in xs) job → Contains (accepted_in ys) job
@@ -86,3 +92,35 @@ module _ {W H C O : Type 0} {keeps : Ghosts H} (HasRun : C → W → O → C →
   -- and what all rounds leave
   pub gone-in_all : (rounds : ℕ) (x y : AtWork W H C keeps) → AfterRounds HasGone rounds x y → HasGone x y
   gone-in_all = after-rounds HasGone HasGone (λ x. (refl, refl, refl, works-none _ HasRun _)) gone-both
+
+module _ {W C O : Type 0} (K : Type 0) (HasRun : C → W → O → C → Type 0) where
+  pub picked-ended : PickedIsEnded K HasRun
+  picked-ended limits before after id work p w =
+      let part : p.entry ∷ [] ≡ w.part = append_cancel_left before.own (p.entry ∷ []) w.part (sym p.wrote ∙ w.wrote) in
+      let none : ended_in w.part ≡ [] = ap ended_in (sym part) ∙ one-none (λ (e : Entry W). ended_id e.note) p.entry p.ended in
+      let some : picked_in w.part ≡ id ∷ [] = ap picked_in (sym part) ∙ one-some (λ (e : Entry W). picked_id e.note) p.entry id p.picked in
+      let both : ◌≡◌ {A = List Id} [] (id ∷ []) = sym none ∙ (w.same ∙ some) in
+      absurd (cc both)
+
+  pub ended-picked : EndedWasPicked K HasRun
+  ended-picked limits before between after id other work p f w =
+      let end : Entry W = record { note = note.Event (event.Finish other); work = f.work } in
+      let own = f.wrote ∙ (ap (λ (l : List (Entry W)). l ++ end ∷ []) p.wrote ∙ append_assoc before.own (p.entry ∷ []) (end ∷ [])) in
+      let part : p.entry ∷ end ∷ [] ≡ w.part = append_cancel_left before.own (p.entry ∷ end ∷ []) w.part (sym own ∙ w.wrote) in
+      let ended : ended_in (p.entry ∷ end ∷ []) ≡ other ∷ [] = more-some (λ (e : Entry W). ended_id e.note) (p.entry ∷ []) end other refl ∙ ap (λ (l : List Id). l ++ other ∷ []) (one-none (λ (e : Entry W). ended_id e.note) p.entry p.ended) in
+      let picked : picked_in (p.entry ∷ end ∷ []) ≡ id ∷ [] = more-none (λ (e : Entry W). picked_id e.note) (p.entry ∷ []) end refl ∙ one-some (λ (e : Entry W). picked_id e.note) p.entry id p.picked in
+      let same : ◌≡◌ {A = List Id} (other ∷ []) (id ∷ []) = sym ended ∙ (ap ended_in part ∙ (w.same ∙ (ap picked_in (sym part) ∙ picked))) in
+      cc (same)
+
+module _ {W : Type 0} where
+  no-pick : (who : Rank) (own : List (Entry W)) (v after : RuleView W) (last : Option Note) (id : Id) (work : W) → (who ≡ rank.Worker → ⊥) → Picks v id work after last → MayHaveWritten who (own ++ entries_of after last) → ⊥
+  no-pick who own v after last id work other p fits =
+      let more = ap (λ (l : Option Note). picked_in (own ++ entries_of after l)) p.wrote ∙ more-some (λ (e : Entry W). picked_id e.note) own (entry_of after p.noted) id p.picked in
+      let long = length-append (picked_in own) (id ∷ []) in
+      elim fits.workers [
+        | inl is ↦ other is
+        | inr none ↦ (let zero = ap length (sym more ∙ none) in absurd (omega (arith, zero, long)))
+      ]
+
+pub only-workers : (W : Type 0) → OnlyWorkersPick W
+only-workers W own v after last id work p = (no-pick rank.Visitor own v after last id work (λ e. absurd (cc e)) p, no-pick rank.Opener own v after last id work (λ e. absurd (cc e)) p)

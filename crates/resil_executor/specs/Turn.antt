@@ -81,6 +81,25 @@ module _ {W : Type 0} where
   abbrev pub IsOverNow : RuleView W → Type 0
   IsOverNow v = (v.closed ≡ true) × (v.waiting ≡ []) × (busy v ≡ 0)
 
+  -- a seat picked a job of this id and hasn't ended it
+  abbrev pub IsDue : Id → List (Entry W) → Type 0
+  IsDue id own = times id (ended_in own) < times id (picked_in own)
+
+  -- A work was run by its own `run`.
+  abbrev pub WasRun : {C O : Type 0} → (C → W → O → C → Type 0) → W → Type 0
+  WasRun {C = C} {O = O} HasRun work = (from : C) × (output : O) × (to : C) × HasRun from work output to
+
+  -- A run of the work that was accepted under this id, among these jobs, gave this output.
+  abbrev pub IsOfItsRun : {C O : Type 0} → (C → W → O → C → Type 0) → List (Id × W) → Id → O → Type 0
+  IsOfItsRun {C = C} HasRun jobs id output = (from : C) × (work : W) × (to : C) × HasRun from work output to × Contains jobs (id, work)
+
+-- Nothing was free after a history: no room in the queue, and as many workers as there may be.
+pub record NothingFree (limits : Sizes) (history : List Event) : Type 0 where
+  pub still_open : is_closed history ≡ false
+  pub core : core_size limits history ≤ workers history
+  pub queue : limits.queue ≤ length (waiting history)
+  pub max : max_size limits history ≤ workers history
+
 -- What a seat sees, whatever the key of its lock.
 module _ {W K : Type 0} where
   -- A seat wrote this event, and nothing else: it sees a legal log, which begins with what it had seen and ends with the event, which was
@@ -105,14 +124,6 @@ module _ {W K : Type 0} where
     pub sees : SeesLast limits before (Submit id reply) after
     pub work_is : sees.work ≡ Some work
 
--- Nothing was free after a history: no room in the queue, and as many workers as there may be.
-pub record NothingFree (limits : Sizes) (history : List Event) : Type 0 where
-  pub still_open : is_closed history ≡ false
-  pub core : core_size limits history ≤ workers history
-  pub queue : limits.queue ≤ length (waiting history)
-  pub max : max_size limits history ≤ workers history
-
-module _ {W K : Type 0} where
   -- A refusal is real: it is the last event of a legal log, and what it says held there. Where no more submissions can be counted nothing is
   -- written.
   abbrev pub SeesRefusal : Sizes → View K (Entry W) → Refused → View K (Entry W) → Type 0
@@ -121,7 +132,6 @@ module _ {W K : Type 0} where
   SeesRefusal limits before refused.Spent after = SeesMore limits before after × (length (submissions (events_in after.seen) 1) ≡ 18446744073709551615)
   SeesRefusal limits before refused.Memory after = IsPrefix before.seen after.seen × (after.own ≡ before.own)
 
-module _ {W K : Type 0} where
   -- A seat that began so has seen that this work was accepted under this id, with this reply.
   abbrev pub WasAcceptedWith : Sizes → View K (Entry W) → Id → Reply → W → Type 0
   WasAcceptedWith limits before id given work = (after : View K (Entry W)) × SeesAccepted limits before id given work after
@@ -134,20 +144,6 @@ module _ {W K : Type 0} where
   abbrev pub WasRefused : Sizes → View K (Entry W) → Refused → W → Type 0
   WasRefused limits before why work = (after : View K (Entry W)) × SeesRefusal limits before why after
 
-module _ {W : Type 0} where
-  -- a seat picked a job of this id and hasn't ended it
-  abbrev pub IsDue : Id → List (Entry W) → Type 0
-  IsDue id own = times id (ended_in own) < times id (picked_in own)
-
-  -- A work was run by its own `run`.
-  abbrev pub WasRun : {C O : Type 0} → (C → W → O → C → Type 0) → W → Type 0
-  WasRun {C = C} {O = O} HasRun work = (from : C) × (output : O) × (to : C) × HasRun from work output to
-
-  -- A run of the work that was accepted under this id, among these jobs, gave this output.
-  abbrev pub IsOfItsRun : {C O : Type 0} → (C → W → O → C → Type 0) → List (Id × W) → Id → O → Type 0
-  IsOfItsRun {C = C} HasRun jobs id output = (from : C) × (work : W) × (to : C) × HasRun from work output to × Contains jobs (id, work)
-
-module _ {W K : Type 0} where
   -- A seat picked this job, which was accepted with this work, and wrote nothing else.
   pub record HasPicked (limits : Sizes) (id : Id) (work : W) (before after : View K (Entry W)) : Type 0 where
     pub begins : IsPrefix before.seen after.seen

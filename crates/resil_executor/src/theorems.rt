@@ -50,7 +50,7 @@ pub fn only_workers_pick<W>()
 /// ```
 /// end_stays(); // From here on a proof has EndStays.
 /// ```
-#[tactic(auto, using(crate::proofs::EndLaws::end_stays))]
+#[tactic(auto, using(crate::proofs::HistoryLaws::end_stays))]
 pub fn end_stays()
     ensures { EndStays }
 {}
@@ -61,6 +61,7 @@ pub fn end_stays()
 /// ```
 /// nothing_left_is_over(); // From here on a proof has NothingLeftIsOver.
 /// ```
+#[tactic(auto, using(crate::proofs::HistoryLaws::nothing_left_is_over))]
 pub fn nothing_left_is_over()
     ensures { NothingLeftIsOver }
 {}

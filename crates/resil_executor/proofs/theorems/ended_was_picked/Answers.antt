@@ -1,5 +1,5 @@
 -- The law.
-use Rattle.resil_executor.proofs.RefuteLaws.{ended-picked}
+use Rattle.resil_executor.proofs.WorkLaws.{ended-picked}
 use Rattle.resil_executor.proofs.theorems.ended_was_picked.Goals as goal
 
 pub returns : goal.returns

@@ -1,5 +1,5 @@
 -- The law.
-use Rattle.resil_executor.proofs.RefuteLaws.{only-workers}
+use Rattle.resil_executor.proofs.WorkLaws.{only-workers}
 use Rattle.resil_executor.proofs.theorems.only_workers_pick.Goals as goal
 
 pub returns : goal.returns

@@ -1,5 +1,5 @@
 -- The law.
-use Rattle.resil_executor.proofs.RefuteLaws.{picked-ended}
+use Rattle.resil_executor.proofs.WorkLaws.{picked-ended}
 use Rattle.resil_executor.proofs.theorems.picked_is_ended.Goals as goal
 
 pub returns : goal.returns

@@ -9,7 +9,7 @@ pub release-requires-clause-home : goal.release-requires-clause-home
 release-requires-clause-home g c = seats.back_home g.H.Record.capacity (c.deref_mut.ensures.value ∙ c.state.view_is) c.close-closes.new.self c.take-state.ensures.home (seats.bool-steps _ _ _ _ event.Close _ c.close-closes.ensures.closed c.close-closes.ensures.was_closed) c.close-closes.ensures.keeps c.close-closes.ensures.capacity
 
 pub release-requires-clause-fits : goal.release-requires-clause-fits
-release-requires-clause-fits g c = seats.fits-plain _ _ _ c.close-closes.new.self.rule _ (c.take-state.ensures.rank ∙ c.args.closer.now.rank) seats.opener-not c.take-state.ensures.fits c.close-closes.ensures.plain
+release-requires-clause-fits g c = seats.fits-plain _ _ c.close-closes.new.self.rule _ (λ e. absurd (cc (c.take-state.ensures.rank ∙ c.args.closer.now.rank, e))) c.take-state.ensures.fits c.close-closes.ensures.plain
 
 pub returns : goal.returns
 returns g c =

@@ -1,7 +1,5 @@
 -- What the turn leaves and tells.
-use Rattle.std.proofs.Common.{◌∙◌, Option, refl, sym, ap, subst, arith, rules}
-use Rattle.resil_executor.specs.declared.log.Note.{Note}
-use Rattle.resil_executor.specs.Turn.{IsVisit}
+use Rattle.std.proofs.Common.{◌∙◌, arith, rules}
 use Rattle.resil_executor.proofs.KeptLaws.{keeps-quiet}
 use Rattle.resil_executor.proofs.SeatLaws as seats
 use Rattle.resil_executor.proofs.executor.Executor.numbers.Goals as goal
@@ -10,14 +8,6 @@ pub numbers-numbers-requires : goal.numbers-numbers-requires
 numbers-numbers-requires g c =
     let home = seats.out_of_block g.H.Record.capacity (c.deref_mut.ensures.value ∙ c.state.view_is) c.take-state.ensures.home in
     record { count = seats.few-accepted _ _ _ _ _ _ _ home.0 home.1; jobs = (let jobs = home.1.jobs in omega (arith, jobs)) }
-
-pub release-requires-clause-home : goal.release-requires-clause-home
-release-requires-clause-home g c =
-    let home = seats.out_of_block g.H.Record.capacity (c.deref_mut.ensures.value ∙ c.state.view_is) c.take-state.ensures.home in
-    (c.numbers-numbers.ensures.none.steps _ _ home.0, keeps-quiet _ _ _ c.deref_mut.result.now.rule c.numbers-numbers.new.self.rule c.numbers-numbers.new.self.last c.deref_mut.result.now.accepted c.numbers-numbers.new.self.accepted c.deref_mut.result.now.kept c.numbers-numbers.new.self.kept c.numbers-numbers.ensures.none.none c.numbers-numbers.ensures.same home.1, ap g.H.Record.capacity c.numbers-numbers.ensures.same.1 ∙ home.2)
-
-pub release-requires-clause-fits : goal.release-requires-clause-fits
-release-requires-clause-fits g c = seats.fits-visit _ _ c.numbers-numbers.new.self.rule _ c.take-state.ensures.fits (subst (λ (l : Option Note). IsVisit c.numbers-numbers.new.self.rule l) (sym c.numbers-numbers.ensures.none.none) ((refl, refl), refl))
 
 pub returns : goal.returns
 returns g c =

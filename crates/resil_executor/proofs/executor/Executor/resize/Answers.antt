@@ -10,7 +10,7 @@ pub release-requires-clause-home : goal.release-requires-clause-home
 release-requires-clause-home g c = seats.back_home g.H.Record.capacity (c.deref_mut.ensures.value ∙ c.state.view_is) c.resize-resized.new.self c.take-state.ensures.home (seats.result-steps _ _ _ (event.Resized c.args.core c.args.max) _ c.resize-resized.ensures.resized c.resize-resized.ensures.refused) c.resize-resized.ensures.keeps c.resize-resized.ensures.capacity
 
 pub release-requires-clause-fits : goal.release-requires-clause-fits
-release-requires-clause-fits g c = seats.fits-plain _ _ _ c.resize-resized.new.self.rule _ (c.take-state.ensures.rank ∙ c.args.closer.now.rank) seats.opener-not c.take-state.ensures.fits c.resize-resized.ensures.plain
+release-requires-clause-fits g c = seats.fits-plain _ _ c.resize-resized.new.self.rule _ (λ e. absurd (cc (c.take-state.ensures.rank ∙ c.args.closer.now.rank, e))) c.take-state.ensures.fits c.resize-resized.ensures.plain
 
 pub returns : goal.returns
 returns g c =

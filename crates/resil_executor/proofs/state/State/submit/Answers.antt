@@ -1,11 +1,10 @@
 -- A submission.
-use Rattle.std.proofs.Common.{◌≡◌, ◌∙◌, refl, sym, subst, ap, arith, Option}
+use Rattle.std.proofs.Common.{◌≡◌, ◌∙◌, subst, ap, arith}
 use Rattle.resil_rule.specs.RuleState.{IsSubmitRefusal}
 use Rattle.resil_rule.specs.declared.event.Reply.TheVariants as reply
 use Rattle.resil_rule.specs.declared.event.Event.TheVariants as event
-use Rattle.resil_executor.specs.declared.log.Note.{Note}
 use Rattle.resil_executor.specs.Kept.{unfinished}
-use Rattle.resil_executor.specs.Turn.{Writes, Accepts, IsVisit}
+use Rattle.resil_executor.specs.Turn.{Writes, Accepts}
 use Rattle.resil_executor.proofs.StateLaws.{accept-writes, submit-writes}
 use Rattle.resil_executor.proofs.KeptLaws.{keeps-event, submit-jobs, accepts-one}
 use Rattle.resil_executor.proofs.state.State.submit.Goals as goal
@@ -31,9 +30,6 @@ returns-in-Err-Closed-default-clause-refused g c =
       subst (λ v. Writes v (event.Submit c.in-Some.id reply.Closed) c.note-in-Err-Closed-default.new.self.rule c.note-in-Err-Closed-default.new.self.last) c.make_room.ensures.same.0
           (submit-writes _ _ _ _ c.in-Some.id reply.Closed c.args.work why.1 why.2 c.note-in-Err-Closed-default.ensures.same.0 c.note-in-Err-Closed-default.ensures.same.1),
     )
-
-pub returns-in-Ok-submit-clause-visit : goal.returns-in-Ok-submit-clause-visit
-returns-in-Ok-submit-clause-visit g c = subst (λ (l : Option Note). IsVisit c.note.new.self.rule l) (sym c.note.ensures.same.1) ((refl, refl), refl)
 
 pub returns-in-Ok-submit-clause-keeps : goal.returns-in-Ok-submit-clause-keeps
 returns-in-Ok-submit-clause-keeps g c =

@@ -1,14 +1,12 @@
 -- The visitor that the call makes has seen it.
-use Rattle.std.proofs.Common.{refl}
 use Rattle.std.proofs.lemmas.Result.{IfOk-weaker, IfErr-weaker}
-use Rattle.resil_executor.proofs.VisitLaws.{was-accepted, was-accepted_with, was-refused}
 use Rattle.resil_executor.proofs.works.Executor+Job+H.submit_closure.Goals as goal
 
 pub returns-clause-accepted : goal.returns-clause-accepted
-returns-clause-accepted g c = IfOk-weaker c.submit_new-visitor.result.1 _ _ (λ r seen. was-accepted _ _ r.0 c.args.closure refl (r.1, seen)) c.submit_new-visitor.ensures.accepted
+returns-clause-accepted g c = IfOk-weaker c.submit_new-visitor.result.1 _ _ (λ r seen. (r.1, (_, seen))) c.submit_new-visitor.ensures.accepted
 
 pub returns-clause-reply : goal.returns-clause-reply
-returns-clause-reply g c = IfOk-weaker c.submit_new-visitor.result.1 _ _ (λ r. was-accepted_with _ _ _ r.0 r.1 c.args.closure) c.submit_new-visitor.ensures.accepted
+returns-clause-reply g c = IfOk-weaker c.submit_new-visitor.result.1 _ _ (λ r seen. (_, seen)) c.submit_new-visitor.ensures.accepted
 
 pub returns-clause-refused : goal.returns-clause-refused
-returns-clause-refused g c = IfErr-weaker c.submit_new-visitor.result.1 _ _ (λ e. was-refused _ _ e.0 c.args.closure refl) c.submit_new-visitor.ensures.refused
+returns-clause-refused g c = IfErr-weaker c.submit_new-visitor.result.1 _ _ (λ e seen. (_, seen)) c.submit_new-visitor.ensures.refused
