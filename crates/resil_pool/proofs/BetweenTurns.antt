@@ -7,9 +7,7 @@ use Rattle.resil_lock.specs.declared.protocol.Phase.{Phase}
 use Rattle.resil_lock.specs.declared.protocol.Phase.TheVariants.{Joined}
 use Rattle.resil_lock.specs.Lock.{holds_lock, is_there}
 use Rattle.resil_lock.specs.BetweenSteps.{IsSeatAt, HoldsBetweenSteps}
-use Rattle.resil_pool.specs.declared.lock.logged_event.LoggedEvent.{LoggedEvent}
-use Rattle.resil_pool.specs.declared.lock.opening.Opening.{Opening}
-use Rattle.resil_pool.specs.declared.lock.state.State.{State}
+use Rattle.resil_pool.specs.Words.{LoggedEvent, Opening, State}
 use Rattle.resil_pool.specs.Lock.LoggedEvent.{is_own_note, is_own, own_in}
 use Rattle.resil_pool.specs.Lock.Protocol.{View, StandsFor, MayHaveWritten}
 use Rattle.resil_pool.proofs.Logs.{numbering}

@@ -6,12 +6,8 @@ use Rattle.std.proofs.lemmas.Bool.{OnTrue_from}
 use Rattle.std.proofs.lemmas.List.{length-map, get_or_default, append_cancel_right}
 use Rattle.std.proofs.lemmas.List.Folds.{list_any_none}
 use Rattle.std.proofs.Math.ListN.{get_or-map}
-use Rattle.resil_rule.specs.History.{is_close, is_closed}
-use Rattle.resil_admission.specs.MachineView.{MachineView}
-use Rattle.resil_rule.specs.declared.event.Event.{Event}
-use Rattle.resil_rule.specs.declared.event.Event.TheVariants.{Submit, Close}
+use Rattle.resil_pool.specs.Words.{is_close, is_closed, MachineView, Event, Submit, Close, LoggedEvent}
 use Rattle.resil_pool.specs.declared.hold.JobRow.{JobRow}
-use Rattle.resil_pool.specs.declared.lock.logged_event.LoggedEvent.{LoggedEvent}
 use Rattle.resil_pool.specs.Lock.LoggedEvent.{log_event, events_in, closer_number, own_in}
 use Rattle.resil_pool.specs.Lock.Protocol.{LockSeatState}
 use Rattle.resil_pool.specs.Lock.Turn.{WritesAtMost}

@@ -9,15 +9,11 @@ use Rattle.std.proofs.Math.ListN.{get_or-map}
 use Rattle.std.proofs.lemmas.List.Elements.{All-append, All-nil, All-push}
 use Rattle.std.proofs.lemmas.List.FromFn.{length-range_with_len, get_or-range_with_len, map-range_with_len_more}
 use Rattle.std.proofs.lemmas.List.Sorted.{IsPermutation-sym, IsPermutation-trans, IsPermutation-to_front, IsPermutation-append_left, IsPermutation-swap_remove, All-permutation, length_permutation}
-use mathlib.Core.List.{IsPrefix}
-use Rattle.resil_pool.specs.declared.lock.logged_event.LoggedEvent.{LoggedEvent}
-use Rattle.resil_pool.specs.declared.receipt.Receipt.{Receipt}
+use Rattle.resil_pool.specs.Words.{IsPrefix, LoggedEvent, Receipt, is_close, is_closed, submissions, Event}
 use Rattle.resil_pool.specs.Parts.{CallerView, submission_of}
 use Rattle.resil_pool.specs.Draining.Report.{AreNumbered, AreSubmissions, receipts_at}
 use Rattle.resil_pool.specs.Draining.Receipts.{AreLogged, IsGathered}
 use Rattle.std.proofs.lemmas.List.Folds.{list_any-append}
-use Rattle.resil_rule.specs.History.{is_close, is_closed, submissions}
-use Rattle.resil_rule.specs.declared.event.Event.{Event}
 use Rattle.resil_pool.specs.Lock.LoggedEvent.{events_in, own_in}
 use Rattle.resil_pool.proofs.Logs.{events_in-append}
 use Rattle.resil_pool.proofs.ReceiptLaws.{at_mapped}

@@ -3,19 +3,13 @@ use Rattle.std.proofs.Common.{◌≡◌, ◌+◌, ℕ, List, ◌++◌, ap, ◌�
 use Rattle.std.proofs.lemmas.List.Elements.{filter-append, filter_map-append}
 use Rattle.std.specs.Prelude.{slice_get}
 use Rattle.std.proofs.lemmas.List.{take-append-drop}
-use Rattle.resil_rule.specs.History.{taken, taken_id, finished, finished_id, times, is_among, started}
-use Rattle.resil_rule.specs.declared.event.Id.{Id}
 use Rattle.resil_rule.proofs.TimesLaws.{times-append, times-left, among-some}
-use Rattle.resil_rule.specs.Admission.{IsLegal}
-use Rattle.resil_rule.specs.Limits.{Sizes}
 use Rattle.resil_rule.proofs.ConservationLaws.{accepted-parts, tracked}
 use Rattle.resil_rule.proofs.EventLaws.{not-among}
-use Rattle.resil_admission.specs.MachineView.{MachineView, jobs_in_flight}
 use Rattle.resil_lock.specs.declared.protocol.Rank.{Rank}
 use Rattle.resil_lock.specs.Lock.{weigh, IsCovered, IsNumbering}
-use Rattle.resil_pool.specs.declared.lock.logged_event.LoggedEvent.{LoggedEvent}
+use Rattle.resil_pool.specs.Words.{taken, taken_id, finished, finished_id, times, is_among, started, Id, IsLegal, Sizes, MachineView, jobs_in_flight, LoggedEvent, Opening}
 use Rattle.resil_pool.specs.Lock.LoggedEvent.{event_of, started_of, events_in, starts_in, picked_in, ended_in, is_own, own_in, plans_in, logged_plan, runs_in}
-use Rattle.resil_pool.specs.declared.lock.opening.Opening.{Opening}
 use Rattle.resil_pool.specs.Lock.Protocol.{IsMachineOf, MayHaveWritten, starts_of, EndsOnlyPicked, IsDue}
 
 pub own_in-append : (c : ℕ) (xs ys : List LoggedEvent) → own_in c (xs ++ ys) ≡ own_in c xs ++ own_in c ys

@@ -6,25 +6,12 @@ use Rattle.std.proofs.lemmas.Bool.{true_from_ne_false}
 use Rattle.std.proofs.lemmas.Option.{none-some}
 use Rattle.std.proofs.lemmas.List.{map-append}
 use Rattle.std.proofs.lemmas.List.Folds.{list_any-append}
-use Rattle.resil_decor.specs.Plan.{PlanView}
-use Rattle.resil_decor.specs.Run.{RunView}
-use Rattle.resil_rule.specs.Limits.{Sizes}
-use Rattle.resil_rule.specs.History.{is_close, is_closed, is_same_id, is_among, waiting, started}
-use Rattle.resil_rule.specs.Admission.{IsAllowed}
-use Rattle.resil_admission.specs.MachineView.{MachineView, jobs_in_flight, newly_accepted, with_event, with_submission, with_run, with_finish, IsPicked}
-use Rattle.resil_admission.specs.declared.jobs.Accepted.{Accepted}
-use Rattle.resil_rule.specs.declared.event.Id.{Id}
-use Rattle.resil_rule.specs.declared.event.Reply.{Reply}
 use Rattle.resil_rule.specs.declared.event.Reply.TheVariants.{Core}
-use Rattle.resil_rule.specs.declared.event.Event.{Event}
-use Rattle.resil_rule.specs.declared.event.Event.TheVariants.{Submit, Take, Finish, IdleEnd, Close}
 use Rattle.resil_rule.proofs.EventLaws.{or-of}
 use Rattle.resil_rule.proofs.IdLaws.{in_flight-running}
 use Rattle.resil_rule.proofs.UnpickedLaws.{waiting-same}
-use Rattle.resil_pool.specs.declared.lock.logged_event.LoggedEvent.{LoggedEvent}
-use Rattle.resil_pool.specs.declared.lock.logged_event.Note.{Note}
+use Rattle.resil_pool.specs.Words.{PlanView, RunView, Sizes, is_close, is_closed, is_same_id, is_among, waiting, started, IsAllowed, MachineView, jobs_in_flight, newly_accepted, with_event, with_submission, with_run, with_finish, IsPicked, Accepted, Id, Reply, Event, Submit, Take, Finish, IdleEnd, Close, LoggedEvent, Note, Written}
 use Rattle.resil_pool.specs.declared.lock.logged_event.Note.TheVariants as note
-use Rattle.resil_pool.specs.declared.lock.state.Written.{Written}
 use Rattle.resil_pool.specs.Lock.LoggedEvent.{log_event, finish_of, plans_in, plan_entry, run_of}
 use Rattle.resil_pool.specs.Lock.Protocol.{plain, entries_of}
 use Rattle.resil_pool.specs.Lock.Turn.{IsStep, IsMoved, Takes, WritesAtMost}

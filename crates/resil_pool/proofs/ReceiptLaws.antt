@@ -2,16 +2,10 @@
 use Rattle.std.proofs.Common.{◌≡◌, ◌<◌, ◌≤◌, ◌+◌, ◌-◌, ◌⊎◌, ⊎_elim, inr, ℕ, zero, suc, Bool, true, false, cond, List, [], ◌∷◌, ◌++◌, map, take, drop, filter, length, get_or, refl, sym, ap, ◌∙◌, subst, arith}
 use Rattle.std.specs.Prelude.{◌↔◌, All}
 use Rattle.std.proofs.lemmas.Option.{same_Some}
-use Rattle.resil_decor.specs.Run.{IsValue}
 use Rattle.std.proofs.lemmas.List.{length-append, length-map, length-take-le, take-append-drop, drop_more, get_or_at, get_or-map}
 use Rattle.std.proofs.lemmas.List.Elements.{filter-append}
-use Rattle.resil_rule.specs.History.{is_submit_of, submissions, accepted}
-use Rattle.resil_admission.specs.MachineView.{MachineView, AreResultsOf, ids_of}
-use Rattle.resil_admission.specs.declared.jobs.Accepted.{Accepted}
-use Rattle.resil_rule.specs.declared.event.Event.{Event}
-use Rattle.resil_pool.specs.declared.receipt.Receipt.{Receipt}
+use Rattle.resil_pool.specs.Words.{IsValue, is_submit_of, submissions, accepted, MachineView, AreResultsOf, ids_of, Accepted, Event, Receipt, Row}
 use Rattle.resil_pool.specs.Parts.{submit_of}
-use Rattle.resil_admission.specs.declared.row.Row.{Row}
 use Rattle.resil_pool.specs.Draining.Report.{AreSubmissions, AreCollected}
 use Rattle.resil_pool.specs.Draining.Receipts.{IsOfPlanOn, HasNumberedReceipt, HasReceipt, AgreeWithReceipts}
 use Rattle.resil_pool.specs.Draining.{Differ}

@@ -7,24 +7,13 @@ use Rattle.std.proofs.lemmas.List.{map-append}
 use Rattle.std.proofs.lemmas.List.Concat.{flat_map-append}
 use Rattle.std.proofs.lemmas.List.Elements.{filter-append, filter_map-append, All-append, All-push, All-nil}
 use Rattle.std.proofs.lemmas.List.Folds.{list_any-append}
-use mathlib.Core.List.{IsPrefix}
-use Rattle.resil_decor.specs.Plan.{PlanView}
-use Rattle.resil_decor.specs.Run.{RunView}
-use Rattle.resil_decor.specs.declared.permitter.Asked.{Asked}
-use Rattle.resil_rule.specs.Admission.{IsLegal}
-use Rattle.resil_rule.specs.History.{is_submit_of, submissions, is_same_id, is_among, times, finished, finished_id, started, started_id, taken, taken_id}
-use Rattle.resil_admission.specs.MachineView.{MachineView, jobs_in_flight, plan_of, with_run, with_finish, IsPicked, AreResultsOf}
-use Rattle.resil_admission.specs.declared.jobs.Accepted.{Accepted}
-use Rattle.resil_rule.specs.declared.event.Id.{Id}
-use Rattle.resil_rule.specs.declared.event.Event.{Event}
-use Rattle.resil_rule.specs.declared.event.Event.TheVariants.{Take, Finish}
-use Rattle.resil_admission.specs.declared.row.Row.{Row}
 use Rattle.resil_rule.proofs.EventLaws.{or-of}
 use Rattle.resil_rule.proofs.IdLaws.{same_id-equal, same_id-self, among-unfinished}
 use Rattle.resil_rule.proofs.LegalLaws.{legal-push}
 use Rattle.resil_rule.proofs.TimesLaws.{times-append, times-one}
 use Rattle.resil_rule.proofs.UnpickedLaws.{filtered-same}
 use Rattle.resil_permit.proofs.Log.Prefixes.{prefix_trans}
+use Rattle.resil_pool.specs.Words.{IsPrefix, PlanView, RunView, Asked, IsLegal, is_submit_of, submissions, is_same_id, is_among, times, finished, finished_id, started, started_id, taken, taken_id, MachineView, jobs_in_flight, plan_of, with_run, with_finish, IsPicked, AreResultsOf, Accepted, Id, Event, Take, Finish, Row}
 use Rattle.resil_pool.specs.Lock.LoggedEvent.{run_of}
 use Rattle.resil_pool.specs.Lock.Protocol.{starts_of, EndsOnlyPicked}
 use Rattle.resil_pool.specs.Worker.{asked_in}

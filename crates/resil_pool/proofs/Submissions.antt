@@ -2,22 +2,10 @@
 use Rattle.std.proofs.Common.{◌≡◌, ◌≢◌, ne_eqb, ℕ, ◌+◌, ◌≤◌, Bool, true, false, cond, List, [], ◌∷◌, ◌++◌, map, length, refl, sym, ap, ◌∙◌, subst, arith, append-nil, Some, None, Result, Ok, Err, OnOk, OnErr, eq-eqb}
 use Rattle.std.specs.List.{cons_option}
 use Rattle.std.proofs.lemmas.List.{map-append, length-map}
-use Rattle.atomic_table.specs.Seated.{TableId}
-use Rattle.resil_decor.specs.Plan.{PlanView}
-use Rattle.resil_rule.specs.History.{is_submit_of, submissions, next_number}
-use Rattle.resil_rule.specs.Admission.{IsLegal}
-use Rattle.resil_admission.specs.MachineView.{MachineView, IsSubmitRefusal}
 use Rattle.resil_rule.specs.declared.error.AdmitError.{AdmitError}
 use Rattle.resil_rule.specs.declared.error.AdmitError.TheVariants as cause
-use Rattle.resil_rule.specs.declared.event.Id.{Id}
-use Rattle.resil_rule.specs.declared.event.Reply.{Reply}
-use Rattle.resil_rule.specs.declared.event.Event.{Event}
-use Rattle.resil_rule.specs.declared.event.Event.TheVariants.{Submit, Close, Resized}
-use Rattle.resil_pool.specs.declared.lock.logged_event.LoggedEvent.{LoggedEvent}
-use Rattle.resil_pool.specs.declared.lock.logged_event.Note.{Note}
+use Rattle.resil_pool.specs.Words.{TableId, PlanView, is_submit_of, submissions, next_number, IsLegal, MachineView, IsSubmitRefusal, Id, Reply, Event, Submit, Close, Resized, LoggedEvent, Note, Opening, Receipt}
 use Rattle.resil_pool.specs.declared.lock.logged_event.Note.TheVariants as note
-use Rattle.resil_pool.specs.declared.lock.opening.Opening.{Opening}
-use Rattle.resil_pool.specs.declared.receipt.Receipt.{Receipt}
 use Rattle.resil_pool.specs.Lock.LoggedEvent.{log_event, event_of, events_in, closer_number, is_own_event, is_own_note, own_in, SeesMore, SeesOwn}
 use Rattle.resil_pool.specs.Lock.Protocol.{View, LockSeatState, MayHaveWritten}
 use Rattle.resil_pool.specs.Lock.Turn.{IsMoved}

@@ -3,28 +3,14 @@ use Rattle.std.proofs.Common.{◌≡◌, ◌≢◌, ◌≤◌, ◌+◌, ◌⊎�
 use Rattle.std.proofs.lemmas.Option.{slice_get_within}
 use Rattle.std.proofs.lemmas.List.{take-append-le}
 use Rattle.std.proofs.lemmas.List.Elements.{filter_map-append, All-push}
-use mathlib.Core.List.{IsPrefix}
-use Rattle.resil_decor.specs.Plan.{PlanView}
-use Rattle.resil_rule.specs.Limits.{Sizes}
-use Rattle.resil_rule.specs.Admission.{IsAllowed, IsLegal}
-use Rattle.resil_rule.specs.History.{is_among, started, started_id, times}
-use Rattle.resil_rule.specs.declared.event.Id.{Id}
-use Rattle.resil_rule.specs.declared.event.Event.{Event}
-use Rattle.resil_rule.specs.declared.event.Event.TheVariants.{Submit, IdleEnd, Close}
 use Rattle.resil_rule.proofs.LegalLaws.{legal-push}
-use Rattle.resil_admission.specs.MachineView.{MachineView, jobs_in_flight}
-use Rattle.resil_admission.specs.declared.row.Row.{Row}
 use Rattle.resil_lock.specs.declared.protocol.Phase.TheVariants.{Holding}
 use Rattle.resil_lock.specs.Lock.{IsNumbering, IsCovered, holder_view, left_view}
-use Rattle.resil_pool.specs.declared.lock.logged_event.LoggedEvent.{LoggedEvent}
-use Rattle.resil_pool.specs.declared.lock.logged_event.Note.{Note}
+use Rattle.resil_pool.specs.Words.{IsPrefix, PlanView, Sizes, IsAllowed, IsLegal, is_among, started, started_id, times, Id, Event, Submit, IdleEnd, Close, MachineView, jobs_in_flight, Row, LoggedEvent, Note, Opening, State, TableId}
 use Rattle.resil_pool.specs.declared.lock.logged_event.Note.TheVariants as note
-use Rattle.resil_pool.specs.declared.lock.opening.Opening.{Opening}
-use Rattle.resil_pool.specs.declared.lock.state.State.{State}
 use Rattle.resil_pool.specs.Lock.LoggedEvent.{NamesCaller, AllNameCallers, log_event, events_in, starts_in, picked_in, ended_in, closer_number, is_own_note, is_own, own_in, plans_in, plan_entry, runs_in, SeesMore, SeesOwn}
 use Rattle.resil_pool.specs.Lock.Protocol.{View, LockSeatState, IsMachineOf, MayHaveWritten, starts_of, told, IsDue, Tallies, EndsOnlyPicked}
 use Rattle.resil_pool.specs.Lock.Turn.{IsResting, MayWrite, IsStep, IsMoved, Takes, WritesAtMost, SeesClosing, WroteCloseAtMost, TookATurn}
-use Rattle.atomic_table.specs.Seated.{TableId}
 use Rattle.resil_pool.specs.Parts.{IsCloser, source_of}
 use Rattle.resil_pool.specs.Worker.{takes_in}
 use Rattle.resil_pool.proofs.Logs.{own_in-append, events_in-append, starts_in-append, plans_in-append, runs_in-append, takes_in-append, picked-more, ended-more, numbering, few-job, due-job, take-next}

@@ -6,22 +6,13 @@ use Rattle.std.proofs.lemmas.List.Folds.{find-append}
 use Rattle.std.proofs.lemmas.List.{map-append, map_push}
 use Rattle.std.proofs.lemmas.List.Concat.{flat_map-append}
 use Rattle.std.proofs.lemmas.List.Elements.{All-nil, All-push, Contains-append_left, Contains-push, filter-append}
-use Rattle.resil_decor.specs.Plan.{PlanView}
-use Rattle.resil_decor.specs.Run.{RunView}
-use Rattle.resil_decor.specs.declared.permitter.Asked.{Asked}
-use Rattle.resil_rule.specs.History.{is_same_id, times}
-use Rattle.resil_admission.specs.MachineView.{MachineView, IsPicked, plan_of}
-use Rattle.resil_admission.specs.declared.jobs.Accepted.{Accepted}
-use Rattle.resil_rule.specs.declared.event.Id.{Id}
-use Rattle.resil_rule.specs.declared.event.Event.TheVariants.{Take, IdleEnd}
 use Rattle.resil_rule.proofs.IdLaws.{same_id-equal}
 use Rattle.resil_rule.proofs.TimesLaws.{times-one}
 use Rattle.resil_lock.specs.Work.{AfterRounds}
 use Rattle.resil_lock.proofs.RoundLaws.{after-rounds}
 use Rattle.resil_permit.proofs.Log.Prefixes.{prefix_trans}
+use Rattle.resil_pool.specs.Words.{PlanView, RunView, Asked, is_same_id, times, MachineView, IsPicked, plan_of, Accepted, Id, Take, IdleEnd, Row, LoggedEvent}
 use Rattle.resil_pool.specs.declared.worker.AtWork.{AtWork}
-use Rattle.resil_admission.specs.declared.row.Row.{Row}
-use Rattle.resil_pool.specs.declared.lock.logged_event.LoggedEvent.{LoggedEvent}
 use Rattle.resil_pool.specs.declared.worker.Look.{Look}
 use Rattle.resil_pool.specs.declared.worker.Look.TheVariants.{Found, Exit}
 use Rattle.resil_pool.specs.Lock.LoggedEvent.{log_event, start_of, finish_of, picked_in, ended_in, plans_in, plan_entry, runs_in}

@@ -1,13 +1,8 @@
 -- What holds of a running pool between any two steps, whichever threads make them: of the word `turn`, of the slot of the machine, and of what all seats have seen.
 use Rattle.std.specs.Prelude.{◌≡◌, ◌≢◌, ◌⊎◌, ◌↔◌, ℕ, ◌≤◌, true, List, [], length, slice_index, Contains, Option}
 use mathlib.Core.Option as math
-use Rattle.resil_rule.specs.Limits.{Sizes}
-use Rattle.resil_rule.specs.declared.event.Id.{Id}
-use Rattle.resil_rule.specs.declared.event.Reply.{Reply}
-use Rattle.resil_rule.specs.declared.event.Event.TheVariants.{Submit}
-use Rattle.resil_pool.specs.declared.lock.logged_event.LoggedEvent.{LoggedEvent}
+use Rattle.resil_pool.specs.Words.{Sizes, Id, Reply, Submit, LoggedEvent, State}
 use Rattle.resil_pool.specs.declared.lock.logged_event.Note.TheVariants as note
-use Rattle.resil_pool.specs.declared.lock.state.State.{State}
 use Rattle.resil_lock.specs.Lock.{holds_lock, is_there}
 use Rattle.resil_lock.specs.BetweenSteps.{IsSeatAt, HasOneHolder, HasNoHolder, IsSlotOut, IsLongest, IsInSlot}
 use Rattle.resil_pool.specs.Lock.Protocol.{View}

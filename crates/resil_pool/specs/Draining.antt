@@ -3,11 +3,7 @@ pub mod Report
 pub mod Receipts
 pub mod Remaining
 use Rattle.std.specs.Prelude.{◌≡◌, ◌⊎◌, ◌↔◌, ℕ, Bool, true, false, List, All, Any, IsSome, Result, Ok, Err, length}
-use mathlib.Core.List.{IsPrefix}
-use Rattle.resil_rule.specs.History.{is_closed}
-use Rattle.resil_admission.specs.MachineView.{MachineView, HasNoneToPick, AllDone, AreResultsOf}
-use Rattle.resil_admission.specs.declared.row.Row.{Row}
-use Rattle.resil_pool.specs.declared.receipt.Receipt.{Receipt}
+use Rattle.resil_pool.specs.Words.{IsPrefix, is_closed, MachineView, HasNoneToPick, AllDone, AreResultsOf, Row, Receipt}
 use Rattle.resil_pool.specs.Lock.LoggedEvent.{events_in}
 use Rattle.resil_pool.specs.declared.draining.report.Report.{Report as DrainReport}
 use Rattle.resil_pool.specs.declared.draining.report.DrainFault.{DrainFault}

@@ -1,10 +1,7 @@
 -- What a pool whose rows are held has in its history first: the rows, in their order, and the closing.
 use Rattle.std.specs.Prelude.{◌≡◌, ◌↔◌, ◌++◌, ◌∷◌, ℕ, Bool, IsTrue, List, Option, Some, None, map}
-use Rattle.resil_rule.specs.Limits.{Sizes}
-use Rattle.resil_rule.specs.declared.event.Event.{Event}
-use Rattle.resil_rule.specs.declared.event.Event.TheVariants.{Submit, Close}
+use Rattle.resil_pool.specs.Words.{Sizes, Event, Submit, Close, LoggedEvent}
 use Rattle.resil_pool.specs.declared.hold.JobRow.{JobRow}
-use Rattle.resil_pool.specs.declared.lock.logged_event.LoggedEvent.{LoggedEvent}
 use Rattle.resil_pool.specs.Lock.LoggedEvent.{log_event, events_in, closer_number, SeesOwn}
 
 -- the caller that an event is a submission of

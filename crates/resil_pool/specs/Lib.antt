@@ -1,3 +1,4 @@
+pub mod Words
 pub mod Lock
 pub mod Pool
 pub mod Parts

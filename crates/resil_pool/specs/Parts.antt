@@ -1,17 +1,8 @@
 -- What contracts see of the parts of a pool: its closer, its callers, its workers and their ends.
 use Rattle.std.specs.Prelude.{◌≡◌, ◌≢◌, ◌≤◌, ℕ, List, [], Option, Some, map}
 use Rattle.std.specs.List.{range_with_len}
-use Rattle.atomic_table.specs.Seated.{TableId}
-use Rattle.resil_decor.specs.Plan.{PlanView}
-use Rattle.resil_decor.specs.Run.{RunView}
-use Rattle.resil_rule.specs.Admission.{IsLegal}
-use Rattle.resil_admission.specs.declared.row.Row.{Row}
-use Rattle.resil_rule.specs.declared.event.Id.{Id}
-use Rattle.resil_rule.specs.declared.event.Event.{Event}
-use Rattle.resil_rule.specs.declared.event.Event.TheVariants.{Submit}
-use Rattle.resil_pool.specs.declared.lock.logged_event.LoggedEvent.{LoggedEvent}
+use Rattle.resil_pool.specs.Words.{TableId, PlanView, RunView, IsLegal, Row, Id, Event, Submit, LoggedEvent, Receipt}
 use Rattle.resil_pool.specs.declared.receipt.Ticket.{Ticket}
-use Rattle.resil_pool.specs.declared.receipt.Receipt.{Receipt}
 use Rattle.resil_pool.specs.Lock.LoggedEvent.{log_event, events_in, closer_number, own_in, runs_in}
 use Rattle.resil_lock.specs.declared.protocol.Rank.TheVariants.{Member}
 use Rattle.resil_pool.specs.Lock.Protocol.{LockSeatState}

@@ -1,10 +1,6 @@
 -- What a caller has seen after a resize.
 use Rattle.std.specs.Prelude.{◌≡◌, ◌++◌, ◌∷◌, ℕ, [], List, None}
-use mathlib.Core.List.{IsPrefix}
-use Rattle.resil_rule.specs.Limits.{Sizes}
-use Rattle.resil_rule.specs.Admission.{IsLegal}
-use Rattle.resil_rule.specs.declared.event.Event.TheVariants.{Resized}
-use Rattle.resil_pool.specs.declared.lock.logged_event.LoggedEvent.{LoggedEvent}
+use Rattle.resil_pool.specs.Words.{IsPrefix, Sizes, IsLegal, Resized, LoggedEvent}
 use Rattle.resil_pool.specs.Lock.LoggedEvent.{log_event, events_in, own_in}
 
 -- more is seen, a legal history, which ends with a resize to these sizes that wasn't seen before; the seat's own events are the same

@@ -1,13 +1,7 @@
 -- What a submission makes of the machine.
 use Rattle.std.specs.Prelude.{◌≡◌, ◌∷◌, [], List, Some, Result, IfOk, IfErr, OnErr}
-use Rattle.resil_decor.specs.Plan.{PlanView}
-use Rattle.resil_rule.specs.Admission.{IsAllowed}
-use Rattle.resil_admission.specs.MachineView.{MachineView, with_submission, IsSubmitRefusal}
 use Rattle.resil_rule.specs.declared.error.AdmitError.{AdmitError}
-use Rattle.resil_rule.specs.declared.event.Id.{Id}
-use Rattle.resil_rule.specs.declared.event.Reply.{Reply}
-use Rattle.resil_rule.specs.declared.event.Event.TheVariants.{Submit}
-use Rattle.resil_pool.specs.declared.lock.logged_event.LoggedEvent.{LoggedEvent}
+use Rattle.resil_pool.specs.Words.{PlanView, IsAllowed, MachineView, with_submission, IsSubmitRefusal, Id, Reply, Submit, LoggedEvent}
 use Rattle.resil_pool.specs.Lock.LoggedEvent.{log_event}
 
 -- the answer to a submission: it was allowed and written, with its plan, or nothing was and the job comes back

@@ -1,19 +1,7 @@
 -- What a worker finds when it looks for a job, and with which permitter it runs one.
 use Rattle.std.specs.Prelude.{◌≡◌, ◌⊎◌, ◌++◌, ◌∷◌, [], ℕ, Bool, List, All, Contains, Option, None, option_map, find, filter, flat_map, map, not, true}
-use mathlib.Core.List.{IsPrefix}
-use Rattle.resil_rule.specs.Limits.{Sizes}
-use Rattle.resil_rule.specs.History.{is_closed, is_same_id, taken}
-use Rattle.resil_rule.specs.Admission.{IsAllowed}
-use Rattle.resil_admission.specs.declared.row.Row.{Row}
 use Rattle.resil_rule.specs.declared.error.AdmitError.{AdmitError}
-use Rattle.resil_rule.specs.declared.event.Id.{Id}
-use Rattle.resil_rule.specs.declared.event.Event.{Event}
-use Rattle.resil_rule.specs.declared.event.Event.TheVariants.{Take, IdleEnd}
-use Rattle.resil_admission.specs.MachineView.{MachineView, IsFinishRefusal, with_event}
-use Rattle.resil_decor.specs.Plan.{PlanView}
-use Rattle.resil_decor.specs.Run.{RunView}
-use Rattle.resil_decor.specs.declared.permitter.Asked.{Asked}
-use Rattle.resil_pool.specs.declared.lock.logged_event.LoggedEvent.{LoggedEvent}
+use Rattle.resil_pool.specs.Words.{IsPrefix, Sizes, is_closed, is_same_id, taken, IsAllowed, Row, Id, Event, Take, IdleEnd, MachineView, IsFinishRefusal, with_event, PlanView, RunView, Asked, LoggedEvent}
 use Rattle.resil_pool.specs.Lock.LoggedEvent.{events_in, plans_in, runs_in, MatchesLog}
 use Rattle.resil_pool.specs.Lock.Protocol.{View}
 use Rattle.resil_pool.specs.Lock.Turn.{IsMoved, WritesAtMost}

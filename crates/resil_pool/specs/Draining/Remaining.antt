@@ -1,15 +1,7 @@
 -- What a drain runs itself: the jobs that are left.
 use Rattle.std.specs.Prelude.{◌≡◌, ◌+◌, ◌++◌, ℕ, List, [], ◌∷◌, Some, All, Contains, length, map}
-use mathlib.Core.List.{IsPrefix}
-use Rattle.resil_decor.specs.declared.permitter.Asked.{Asked}
-use Rattle.resil_rule.specs.History.{finished, taken, submissions}
-use Rattle.resil_admission.specs.MachineView.{MachineView, with_run, plan_of, IsPicked, IsFinishRefusal}
 use Rattle.resil_rule.specs.declared.error.AdmitError.{AdmitError}
-use Rattle.resil_admission.specs.declared.jobs.Accepted.{Accepted}
-use Rattle.resil_rule.specs.declared.event.Id.{Id}
-use Rattle.resil_rule.specs.declared.event.Event.{Event}
-use Rattle.resil_admission.specs.declared.row.Row.{Row}
-use Rattle.resil_decor.specs.Run.{RunView}
+use Rattle.resil_pool.specs.Words.{IsPrefix, Asked, finished, taken, submissions, MachineView, with_run, plan_of, IsPicked, IsFinishRefusal, Accepted, Id, Event, Row, RunView}
 use Rattle.resil_pool.specs.Lock.LoggedEvent.{run_of}
 use Rattle.resil_pool.specs.NamedCallers.{KeepsNames}
 use Rattle.resil_pool.specs.Worker.{asked_in}

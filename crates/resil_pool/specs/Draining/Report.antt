@@ -2,11 +2,7 @@
 use Rattle.std.specs.Prelude.{◌≡◌, ℕ, ◌-◌, ◌≤◌, List, [], Some, All, Any, map, length, slice_get, slice_index_or}
 use Rattle.std.specs.List.{range_with_len}
 use Rattle.std.specs.List.Sorted.{IsPermutation}
-use Rattle.resil_decor.specs.Run.{IsValue}
-use Rattle.resil_rule.specs.History.{submissions, accepted}
-use Rattle.resil_rule.specs.declared.event.Event.{Event}
-use Rattle.resil_admission.specs.declared.row.Row.{Row}
-use Rattle.resil_pool.specs.declared.receipt.Receipt.{Receipt}
+use Rattle.resil_pool.specs.Words.{IsValue, submissions, accepted, Event, Row, Receipt}
 use Rattle.resil_pool.specs.Parts.{CallerView, submit_of}
 
 -- callers with the numbers 1 to this many, each once: there are this many callers, and each of the numbers is some caller's

@@ -1,19 +1,7 @@
 -- What a seat has seen, the log: what each turn wrote, with the plan beside each submission and the run beside each finish; and how what is seen grows by a call.
 use Rattle.std.specs.Prelude.{ℕ, ◌≡◌, ◌≤◌, ◌==◌, ◌++◌, ◌∷◌, [], Bool, false, List, All, Option, Some, None, map, option_map, filter, if◌then◌else◌}
 use Rattle.std.specs.List.{filter_map}
-use Rattle.resil_decor.specs.Plan.{PlanView}
-use Rattle.resil_decor.specs.Run.{RunView}
-use Rattle.resil_rule.specs.Limits.{Sizes}
-use Rattle.resil_rule.specs.History.{accepted_id, is_same_id, taken, finished}
-use Rattle.resil_rule.specs.Admission.{IsLegal}
-use Rattle.resil_admission.specs.MachineView.{MachineView}
-use Rattle.resil_admission.specs.declared.jobs.Accepted.{Accepted}
-use Rattle.resil_admission.specs.declared.row.Row.{Row}
-use Rattle.resil_rule.specs.declared.event.Id.{Id}
-use Rattle.resil_rule.specs.declared.event.Event.{Event}
-use Rattle.resil_rule.specs.declared.event.Event.TheVariants.{Submit, Finish, Close}
-use Rattle.resil_pool.specs.declared.lock.logged_event.LoggedEvent.{LoggedEvent}
-use Rattle.resil_pool.specs.declared.lock.logged_event.Note.{Note}
+use Rattle.resil_pool.specs.Words.{PlanView, RunView, Sizes, accepted_id, is_same_id, taken, finished, IsLegal, MachineView, Accepted, Row, Id, Event, Submit, Finish, Close, LoggedEvent, Note}
 use Rattle.resil_pool.specs.declared.lock.logged_event.Note.TheVariants as note
 use Rattle.resil_permit.specs.Log.Seen as shared
 

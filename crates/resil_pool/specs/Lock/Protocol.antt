@@ -1,20 +1,12 @@
 -- What lies under the lock says of itself: which logs it stands for, which seats there are, what a turn wrote, and which jobs a seat's own turns picked and ended.
 use Rattle.std.specs.Prelude.{◌≡◌, ◌≤◌, ◌<◌, ◌⊎◌, ◌+◌, ℕ, List, [], ◌∷◌, Option, Some, None, length, option_map, take}
 use Rattle.atomic_table.specs.Table.{Me}
-use Rattle.resil_rule.specs.History.{started, taken, finished, times}
-use Rattle.resil_rule.specs.declared.event.Id.{Id}
-use Rattle.resil_admission.specs.MachineView.{MachineView}
-use Rattle.resil_admission.specs.declared.jobs.Accepted.{Accepted}
 use Rattle.resil_lock.specs.declared.protocol.View as lock
 use Rattle.resil_lock.specs.declared.protocol.Rank.{Rank}
 use Rattle.resil_lock.specs.declared.protocol.Rank.TheVariants as rank
 use Rattle.resil_lock.specs.declared.protocol.Phase.TheVariants.{Idle}
 use Rattle.resil_lock.specs.Lock.{view_of}
-use Rattle.resil_pool.specs.declared.lock.logged_event.LoggedEvent.{LoggedEvent}
-use Rattle.resil_pool.specs.declared.lock.logged_event.Note.{Note}
-use Rattle.resil_pool.specs.declared.lock.opening.Opening.{Opening}
-use Rattle.resil_pool.specs.declared.lock.state.State.{State}
-use Rattle.resil_pool.specs.declared.lock.state.Written.{Written}
+use Rattle.resil_pool.specs.Words.{started, taken, finished, times, Id, MachineView, Accepted, LoggedEvent, Note, Opening, State, Written}
 use Rattle.resil_pool.specs.Lock.LoggedEvent.{AllNameCallers, IsLegalLog, MatchesLog, events_in, starts_in, picked_in, ended_in, logged}
 
 -- what a seat knows of the history

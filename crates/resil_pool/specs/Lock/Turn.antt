@@ -1,17 +1,7 @@
 -- What one turn does: from taking the lock to releasing it.
 use Rattle.std.specs.Prelude.{◌≡◌, ◌≢◌, ◌≤◌, ◌⊎◌, ◌+◌, ℕ, ◌++◌, ◌∷◌, List, [], Option, Some, None, map}
-use Rattle.atomic_table.specs.Seated.{TableId}
-use Rattle.resil_decor.specs.Plan.{PlanView}
-use Rattle.resil_rule.specs.Limits.{Sizes}
-use Rattle.resil_rule.specs.Admission.{IsAllowed}
-use Rattle.resil_rule.specs.declared.event.Id.{Id}
-use Rattle.resil_admission.specs.MachineView.{MachineView, next_started}
-use Rattle.resil_rule.specs.declared.event.Event.{Event}
-use Rattle.resil_rule.specs.declared.event.Event.TheVariants.{Submit, Take, Close, Resized}
 use Rattle.resil_lock.specs.declared.protocol.Phase.TheVariants.{Idle}
-use Rattle.resil_pool.specs.declared.lock.logged_event.LoggedEvent.{LoggedEvent}
-use Rattle.resil_pool.specs.declared.lock.opening.Opening.{Opening}
-use Rattle.resil_pool.specs.declared.lock.logged_event.Note.{Note}
+use Rattle.resil_pool.specs.Words.{TableId, PlanView, Sizes, IsAllowed, Id, MachineView, next_started, Event, Submit, Take, Close, Resized, LoggedEvent, Opening, Note}
 use Rattle.resil_pool.specs.declared.lock.logged_event.Note.TheVariants as note
 use Rattle.resil_pool.specs.Lock.LoggedEvent.{log_event, events_in, start_of, closer_number, MatchesLog, plans_in, plan_entry, SeesMore, SeesOwn}
 use Rattle.resil_pool.specs.Lock.Protocol.{LockSeatState}

@@ -1,8 +1,7 @@
 -- The history begins with what the closer had seen when it held the turn and the callers were joined into it, and what was left was run with the permitter.
 use Rattle.std.proofs.Common.{◌≡◌, ℕ, true, false, refl, sym, ap, ◌∙◌, subst, arith, rules}
 use Rattle.std.specs.Prelude.{All}
-use mathlib.Core.List.{IsPrefix}
-use Rattle.resil_rule.specs.History.{is_closed}
+use Rattle.resil_pool.specs.Words.{IsPrefix, is_closed}
 use Rattle.resil_pool.specs.Lock.LoggedEvent.{AllNameCallers, events_in}
 use Rattle.resil_pool.specs.Lock.Turn.{PoolId}
 use Rattle.resil_pool.specs.Pool.{PoolView}

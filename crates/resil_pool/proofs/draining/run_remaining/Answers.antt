@@ -1,8 +1,6 @@
 -- A run that is accepted is kept, and one more finish stands in the history.
 use Rattle.std.proofs.Common.{◌≡◌, true, false, List, Some, refl, sym, ◌∙◌, ap, subst}
-use Rattle.resil_decor.specs.Plan.{PlanView}
-use Rattle.resil_admission.specs.MachineView.{plan_of}
-use Rattle.resil_admission.specs.declared.jobs.Accepted.{Accepted}
+use Rattle.resil_pool.specs.Words.{PlanView, plan_of, Accepted}
 use Rattle.resil_pool.specs.Draining.Remaining.{HasRunOn}
 use Rattle.resil_pool.proofs.RemainingLaws.{left_by_pick, ran_on, ran_one_more, is_out, picked_out, finished_out}
 use Rattle.resil_pool.proofs.draining.run_remaining.Goals as goal

@@ -1,7 +1,6 @@
 -- A new machine stands for the empty log.
 use Rattle.std.proofs.Common.{◌≡◌, [], map, ap, inl, refl, sym, arith, rules}
-use Rattle.resil_admission.specs.MachineView.{MachineView}
-use Rattle.resil_pool.specs.declared.lock.opening.Opening.{Opening}
+use Rattle.resil_pool.specs.Words.{MachineView, Opening}
 use Rattle.resil_pool.specs.Lock.LoggedEvent.{plan_entry}
 use Rattle.resil_pool.specs.Lock.Protocol.{IsMachineOf, starts_of}
 use Rattle.resil_pool.proofs.NamedCallers.{opening_names}

@@ -1,9 +1,7 @@
 -- Each caller is found, in the order of the numbers.
 use Rattle.std.proofs.Common.{◌≡◌, ◌≢◌, ◌+◌, ◌<◌, List, length, get_or, sym, ap, ◌∙◌, subst, arith}
 use Rattle.std.specs.Prelude.{All}
-use mathlib.Core.List.{IsPrefix}
-use Rattle.resil_pool.specs.declared.lock.logged_event.LoggedEvent.{LoggedEvent}
-use Rattle.resil_pool.specs.declared.receipt.Receipt.{Receipt}
+use Rattle.resil_pool.specs.Words.{IsPrefix, LoggedEvent, Receipt}
 use Rattle.resil_pool.specs.Lock.LoggedEvent.{own_in}
 use Rattle.resil_pool.specs.Lock.Protocol.{LockSeatState}
 use Rattle.resil_pool.specs.Parts.{CallerView}

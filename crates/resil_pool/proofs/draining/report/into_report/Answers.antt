@@ -1,11 +1,7 @@
 -- The rows are the results of the accepted jobs.
 use Rattle.std.proofs.Common.{◌≡◌, true, false, List, map, refl, sym, ap, subst, ◌∙◌, rules}
-use Rattle.resil_rule.specs.History.{accepted}
 use Rattle.std.specs.Prelude.{All}
-use Rattle.resil_admission.specs.MachineView.{AreResultsOf}
-use Rattle.resil_admission.specs.declared.row.Row.{Row}
-use Rattle.resil_rule.specs.declared.event.Event.{Event}
-use Rattle.resil_pool.specs.declared.receipt.Receipt.{Receipt}
+use Rattle.resil_pool.specs.Words.{accepted, AreResultsOf, Row, Event, Receipt}
 use Rattle.resil_pool.specs.Draining.Receipts.{IsOfPlanOn, HasReceipt, AgreeWithReceipts}
 use Rattle.resil_pool.proofs.ReceiptLaws.{collected, differ}
 use Rattle.resil_pool.proofs.draining.report.into_report.Goals as goal

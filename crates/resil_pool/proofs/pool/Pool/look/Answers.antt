@@ -1,7 +1,6 @@
 -- The turn of a look.
 use Rattle.std.proofs.Common.{List, ◌∙◌, subst, rules}
-use Rattle.resil_rule.specs.Limits.{Sizes}
-use Rattle.resil_rule.specs.declared.event.Event.{Event}
+use Rattle.resil_pool.specs.Words.{Sizes, Event}
 use Rattle.resil_pool.specs.Worker.{IsAtEnd}
 use Rattle.resil_pool.proofs.TurnLaws.{acted, gives, turned, ends-none, home-now, took-turn}
 use Rattle.resil_pool.proofs.WorkerLaws.{look-quiet, on_found, on_nothing, on_exit, found_in_log, took-most, took-none, picked-one, picked-none, ended-none}

@@ -3,8 +3,8 @@ use Rattle.std.proofs.Common.{◌++◌, ◌∷◌, [], None, ℕ, ap, ◌∙◌,
 use Rattle.std.specs.Prelude.{◌↔◌}
 use Rattle.std.specs.Result.{IsErrOf}
 use Rattle.std.proofs.lemmas.Result.{on_ok_weaker, on_err_weaker}
-use Rattle.resil_rule.specs.Limits.{Sizes, IsCore, AreSizesWithin}
-use Rattle.resil_rule.specs.declared.event.Event.TheVariants.{Resized}
+use Rattle.resil_rule.specs.Limits.{IsCore, AreSizesWithin}
+use Rattle.resil_pool.specs.Words.{Sizes, Resized}
 use Rattle.resil_pool.specs.Lock.LoggedEvent.{log_event}
 use Rattle.resil_pool.specs.Lock.Turn.{PoolId}
 use Rattle.resil_pool.specs.Parts.{CallerView}

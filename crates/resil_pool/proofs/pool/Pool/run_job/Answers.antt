@@ -1,8 +1,6 @@
 -- The turn of a finish, after the run.
 use Rattle.std.proofs.Common.{◌++◌, List, Some, append-nil, sym, ap, ◌∙◌, subst, rules}
-use Rattle.resil_decor.specs.Plan.{PlanView}
-use Rattle.resil_admission.specs.MachineView.{MachineView}
-use Rattle.resil_pool.specs.declared.lock.logged_event.LoggedEvent.{LoggedEvent}
+use Rattle.resil_pool.specs.Words.{PlanView, MachineView, LoggedEvent}
 use Rattle.resil_pool.specs.Lock.LoggedEvent.{own_in, runs_in}
 use Rattle.resil_pool.specs.Worker.{takes_in}
 use Rattle.resil_pool.proofs.TurnLaws.{MayHave, has-turn, acted, gives, turned, home-now, took-turn, runs-now, takes-now, tallies-now}

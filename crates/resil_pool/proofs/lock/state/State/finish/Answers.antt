@@ -1,7 +1,6 @@
 -- A job that is out is ended: its finish is written, and its run kept.
 use Rattle.std.proofs.Common.{◌≡◌, true, false, ap, ◌∙◌}
-use Rattle.resil_rule.specs.declared.event.Event.TheVariants.{Finish}
-use Rattle.resil_admission.specs.MachineView.{MachineView}
+use Rattle.resil_pool.specs.Words.{Finish, MachineView}
 use Rattle.resil_pool.specs.declared.lock.logged_event.Note.TheVariants as note
 use Rattle.resil_pool.specs.Lock.LoggedEvent.{run_of}
 use Rattle.resil_pool.proofs.RemainingLaws.{run_of-with_run}

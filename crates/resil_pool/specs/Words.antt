@@ -1,0 +1,22 @@
+-- The words of other crates and the types of this one that the definitions and laws here speak of, from one place.
+pub use mathlib.Core.List.{IsPrefix}
+pub use Rattle.atomic_table.specs.Seated.{TableId}
+pub use Rattle.resil_decor.specs.Plan.{PlanView}
+pub use Rattle.resil_decor.specs.Run.{RunView, IsValue}
+pub use Rattle.resil_decor.specs.declared.permitter.Asked.{Asked}
+pub use Rattle.resil_rule.specs.Limits.{Sizes}
+pub use Rattle.resil_rule.specs.declared.event.Id.{Id}
+pub use Rattle.resil_rule.specs.declared.event.Reply.{Reply}
+pub use Rattle.resil_rule.specs.declared.event.Event.{Event}
+pub use Rattle.resil_rule.specs.declared.event.Event.TheVariants.{Submit, Close, Take, Finish, IdleEnd, Resized}
+pub use Rattle.resil_rule.specs.History.{submissions, is_close, is_closed, taken, taken_id, finished, finished_id, times, is_among, started, is_same_id, waiting, is_submit_of, accepted, started_id, next_number, accepted_id}
+pub use Rattle.resil_rule.specs.Admission.{IsAllowed, AreAllowedAfter, IsLegal}
+pub use Rattle.resil_admission.specs.MachineView.{MachineView, AreResultsOf, jobs_in_flight, newly_accepted, with_event, with_submission, with_run, with_finish, IsPicked, ids_of, plan_of, IsSubmitRefusal, HasNoneToPick, AllDone, IsFinishRefusal, next_started}
+pub use Rattle.resil_admission.specs.declared.jobs.Accepted.{Accepted}
+pub use Rattle.resil_admission.specs.declared.row.Row.{Row}
+pub use Rattle.resil_pool.specs.declared.lock.logged_event.LoggedEvent.{LoggedEvent}
+pub use Rattle.resil_pool.specs.declared.lock.logged_event.Note.{Note}
+pub use Rattle.resil_pool.specs.declared.lock.opening.Opening.{Opening}
+pub use Rattle.resil_pool.specs.declared.lock.state.State.{State}
+pub use Rattle.resil_pool.specs.declared.lock.state.Written.{Written}
+pub use Rattle.resil_pool.specs.declared.receipt.Receipt.{Receipt}
