@@ -9,11 +9,9 @@ use Rattle.std.proofs.lemmas.Option.{same_Some, slice_get_read}
 use Rattle.resil_rule.specs.declared.event.Reply.TheVariants.{Core, Queued, Extra}
 use Rattle.resil_pool.specs.Words.{PlanView, Sizes, submissions, IsAllowed, AreAllowedAfter, IsLegal, Id, Reply, Event, Submit, MachineView, AreResultsOf, Accepted, Row, LoggedEvent, Note, Receipt}
 use Rattle.resil_pool.specs.declared.lock.logged_event.Note.TheVariants as note
-use Rattle.resil_pool.specs.Lock.LoggedEvent.{NamesCaller, AllNameCallers, events_in, closer_number, is_own_note, event_of, accepted_of, own_in, plans_in, plan_entry, MatchesLog}
+use Rattle.resil_pool.specs.Lock.{NamesCaller, AllNameCallers, events_in, closer_number, is_own_note, event_of, accepted_of, own_in, plans_in, plan_entry, MatchesLog}
 use Rattle.resil_pool.specs.Parts.{CallerView, submit_of, submission_of}
-use Rattle.resil_pool.specs.Draining.Report.{receipts_at}
-use Rattle.resil_pool.specs.Draining.Receipts.{AreLogged, IsGathered, IsOfPlanOn, HasReceipt, AgreeWithReceipts}
-use Rattle.resil_pool.specs.Draining.Remaining.{with_runs}
+use Rattle.resil_pool.specs.Draining.{receipts_at, AreLogged, IsGathered, IsOfPlanOn, HasReceipt, AgreeWithReceipts, with_runs}
 use Rattle.resil_pool.specs.NamedCallers.{KeepsNames}
 use Rattle.resil_pool.proofs.Logs.{own_in-append, events_in-append}
 use Rattle.resil_pool.proofs.MachineCalls.{filed-with_run}

@@ -8,8 +8,7 @@ use Rattle.resil_lock.specs.declared.protocol.Phase.TheVariants.{Joined}
 use Rattle.resil_lock.specs.Lock.{holds_lock, is_there}
 use Rattle.resil_lock.specs.BetweenSteps.{IsSeatAt, HoldsBetweenSteps}
 use Rattle.resil_pool.specs.Words.{LoggedEvent, Opening, State}
-use Rattle.resil_pool.specs.Lock.LoggedEvent.{is_own_note, is_own, own_in}
-use Rattle.resil_pool.specs.Lock.Protocol.{View, StandsFor, MayHaveWritten}
+use Rattle.resil_pool.specs.Lock.{is_own_note, is_own, own_in, View, StandsFor, MayHaveWritten}
 use Rattle.resil_pool.proofs.Logs.{numbering}
 use Rattle.resil_pool.specs.BetweenTurns.{StandWithTheirCallers, HoldsBetweenTurns}
 

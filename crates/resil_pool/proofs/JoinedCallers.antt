@@ -11,10 +11,9 @@ use Rattle.std.proofs.lemmas.List.FromFn.{length-range_with_len, get_or-range_wi
 use Rattle.std.proofs.lemmas.List.Sorted.{IsPermutation-sym, IsPermutation-trans, IsPermutation-to_front, IsPermutation-append_left, IsPermutation-swap_remove, All-permutation, length_permutation}
 use Rattle.resil_pool.specs.Words.{IsPrefix, LoggedEvent, Receipt, is_close, is_closed, submissions, Event}
 use Rattle.resil_pool.specs.Parts.{CallerView, submission_of}
-use Rattle.resil_pool.specs.Draining.Report.{AreNumbered, AreSubmissions, receipts_at}
-use Rattle.resil_pool.specs.Draining.Receipts.{AreLogged, IsGathered}
+use Rattle.resil_pool.specs.Draining.{AreNumbered, AreSubmissions, receipts_at, AreLogged, IsGathered}
 use Rattle.std.proofs.lemmas.List.Folds.{list_any-append}
-use Rattle.resil_pool.specs.Lock.LoggedEvent.{events_in, own_in}
+use Rattle.resil_pool.specs.Lock.{events_in, own_in}
 use Rattle.resil_pool.proofs.Logs.{events_in-append}
 use Rattle.resil_pool.proofs.ReceiptLaws.{at_mapped}
 use Rattle.resil_pool.proofs.Submissions.{submissions_of_entries}

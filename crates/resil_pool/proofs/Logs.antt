@@ -1,16 +1,16 @@
 -- Lemmas on logs, and what the lock's log tells a seat of the jobs that its own turns picked and ended.
-use Rattle.std.proofs.Common.{◌≡◌, ◌+◌, ℕ, List, ◌++◌, ap, ◌∙◌, arith, ◌≤◌, ◌<◌, zero, suc, true, [], ◌∷◌, take, drop, refl, sym, subst, Some}
+use Rattle.std.proofs.Common.{◌≡◌, ◌+◌, ℕ, List, ◌++◌, ap, ◌∙◌, arith, ◌≤◌, zero, suc, Bool, true, cond, [], ◌∷◌, take, drop, refl, sym, subst, Some}
 use Rattle.std.proofs.lemmas.List.Elements.{filter-append, filter_map-append}
 use Rattle.std.specs.Prelude.{slice_get}
 use Rattle.std.proofs.lemmas.List.{take-append-drop}
-use Rattle.resil_rule.proofs.TimesLaws.{times-append, times-left, among-some}
+use Rattle.resil_rule.proofs.TimesLaws.{times-append, times-left, times-one, among-some}
+use Rattle.resil_rule.proofs.IdLaws.{same_id-self}
 use Rattle.resil_rule.proofs.ConservationLaws.{accepted-parts, tracked}
 use Rattle.resil_rule.proofs.EventLaws.{not-among}
 use Rattle.resil_lock.specs.declared.protocol.Rank.{Rank}
 use Rattle.resil_lock.specs.Lock.{weigh, IsCovered, IsNumbering}
 use Rattle.resil_pool.specs.Words.{taken, taken_id, finished, finished_id, times, is_among, started, Id, IsLegal, Sizes, MachineView, jobs_in_flight, LoggedEvent, Opening}
-use Rattle.resil_pool.specs.Lock.LoggedEvent.{event_of, started_of, events_in, starts_in, picked_in, ended_in, is_own, own_in, plans_in, logged_plan, runs_in}
-use Rattle.resil_pool.specs.Lock.Protocol.{IsMachineOf, MayHaveWritten, starts_of, EndsOnlyPicked, IsDue}
+use Rattle.resil_pool.specs.Lock.{event_of, started_of, events_in, starts_in, picked_in, ended_in, is_own, own_in, plans_in, logged_plan, runs_in, IsMachineOf, MayHaveWritten, starts_of, EndsOnlyPicked, IsDue}
 
 pub own_in-append : (c : ℕ) (xs ys : List LoggedEvent) → own_in c (xs ++ ys) ≡ own_in c xs ++ own_in c ys
 own_in-append c xs ys = filter-append (is_own c) xs ys
@@ -66,15 +66,16 @@ fewer : (id : Id) (who : Rank) (xs : List LoggedEvent) → MayHaveWritten who xs
 fewer id who xs fits = let b = fits.balanced id in let l = weigh-ended id xs in let r = weigh-picked id xs in omega (arith, b, l, r)
 
 -- a job that was picked more often than it was finished is out, since each is accepted once at most
-pub due-out : (limits : Sizes) (m : MachineView) (id : Id) → IsLegal limits m.history → times id (finished m.history) < times id (starts_of m) + times id (taken m.history) → is_among id (jobs_in_flight m) ≡ true
+pub due-out : (limits : Sizes) (m : MachineView) (id : Id) → IsLegal limits m.history → times id (finished m.history) + times id (id ∷ []) ≤ times id (starts_of m) + times id (taken m.history) → is_among id (jobs_in_flight m) ≡ true
 due-out limits m id legal due =
     let h = m.history in
+    let one : times id (id ∷ []) ≡ 1 = times-one id id ∙ ap {B = ℕ} (λ (b : Bool). cond b 1 0) (same_id-self id) in
     let k = tracked limits h legal id in
     let parts = accepted-parts h id in
     let split : times id (starts_of m) + times id (drop m.picked (started h)) ≡ times id (started h) = sym (times-append id (starts_of m) (drop m.picked (started h))) ∙ ap (times id) (take-append-drop m.picked (started h)) in
-    let none : times id (finished h) ≡ 0 = omega (arith, k.once, k.lined, parts, split, due) in
+    let none : times id (finished h) ≡ 0 = omega (arith, k.once, k.lined, parts, split, due, one) in
     let left = rw (not-among id (finished h) none) at (times-left (finished h) (starts_of m) (taken h) id) in
-    among-some id (jobs_in_flight m) (omega (arith, left, due))
+    among-some id (jobs_in_flight m) (omega (arith, left, due, one))
 
 -- a seat among all that wrote the log, which a machine stands for
 module _ (opening : Opening) (log own : List LoggedEvent) (m : MachineView) (is : IsMachineOf opening log m) (covered : IsCovered MayHaveWritten log own) where
@@ -93,7 +94,7 @@ module _ (opening : Opening) (log own : List LoggedEvent) (m : MachineView) (is 
 
   -- and a job that the seat picked and hasn't ended is out, whatever the others did
   pub due-job : (id : Id) → IsDue id own → is_among id (jobs_in_flight m) ≡ true
-  due-job id due = let all = others id in due-out opening.limits m id (subst (IsLegal opening.limits) (sym is.home.history) is.legal) (omega (arith, all, due))
+  due-job id due = let all = others id in let mine = due id in due-out opening.limits m id (subst (IsLegal opening.limits) (sym is.home.history) is.legal) (omega (arith, all, mine))
 
 pub take-next : {A : Type 0} (n : ℕ) (xs : List A) (x : A) → slice_get xs n ≡ Some x → take (suc n) xs ≡ take n xs ++ x ∷ []
 take-next n [] x is = absurd (cc is)

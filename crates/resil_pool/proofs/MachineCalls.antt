@@ -12,9 +12,7 @@ use Rattle.resil_rule.proofs.IdLaws.{in_flight-running}
 use Rattle.resil_rule.proofs.UnpickedLaws.{waiting-same}
 use Rattle.resil_pool.specs.Words.{PlanView, RunView, Sizes, is_close, is_closed, is_same_id, is_among, waiting, started, IsAllowed, MachineView, jobs_in_flight, newly_accepted, with_event, with_submission, with_run, with_finish, IsPicked, Accepted, Id, Reply, Event, Submit, Take, Finish, IdleEnd, Close, LoggedEvent, Note, Written}
 use Rattle.resil_pool.specs.declared.lock.logged_event.Note.TheVariants as note
-use Rattle.resil_pool.specs.Lock.LoggedEvent.{log_event, finish_of, plans_in, plan_entry, run_of}
-use Rattle.resil_pool.specs.Lock.Protocol.{plain, entries_of}
-use Rattle.resil_pool.specs.Lock.Turn.{IsStep, IsMoved, Takes, WritesAtMost}
+use Rattle.resil_pool.specs.Lock.{log_event, finish_of, plans_in, plan_entry, run_of, plain, entries_of, IsStep, IsMoved, Takes, WritesAtMost}
 use Rattle.resil_pool.specs.Worker.{EndsIdle, HasNoTake}
 
 -- an event was written that was allowed, and these are the accepted jobs then

@@ -2,9 +2,7 @@
 use Rattle.std.proofs.Common.{◌≡◌, ◌≢◌, ◌≤◌, ℕ, zero, suc, refl, List, [], ◌∷◌, ◌++◌, Option, None, sym, ap, ◌∙◌, subst, ⊎_elim, arith}
 use Rattle.std.proofs.lemmas.List.Elements.{All-nil, All-push}
 use Rattle.resil_pool.specs.Words.{PlanView, RunView, MachineView, with_submission, with_finish, IsPicked, Id, Reply, Event, Submit, Take, Finish, Close, Resized}
-use Rattle.resil_pool.specs.Lock.LoggedEvent.{NamesCaller, AllNameCallers, log_event, events_in, closer_number, MatchesLog}
-use Rattle.resil_pool.specs.Lock.Protocol.{LockSeatState}
-use Rattle.resil_pool.specs.Lock.Turn.{MayWrite, AppendedOne, IsTurn, Unchanged, AppendsToMachine, IsWorkersEvent, AppendsWorkersEvent, AppendsAtMostOne, AppendsCloseAtMost}
+use Rattle.resil_pool.specs.Lock.{NamesCaller, AllNameCallers, log_event, events_in, closer_number, MatchesLog, LockSeatState, MayWrite, AppendedOne, IsTurn, Unchanged, AppendsToMachine, IsWorkersEvent, AppendsWorkersEvent, AppendsAtMostOne, AppendsCloseAtMost}
 use Rattle.resil_pool.specs.NamedCallers.{IsCallersNumber, KeepsNames, LeavesNames}
 use Rattle.resil_pool.proofs.Logs.{events_in-append}
 

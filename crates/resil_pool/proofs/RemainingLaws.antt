@@ -10,14 +10,13 @@ use Rattle.std.proofs.lemmas.List.Folds.{list_any-append}
 use Rattle.resil_rule.proofs.EventLaws.{or-of}
 use Rattle.resil_rule.proofs.IdLaws.{same_id-equal, same_id-self, among-unfinished}
 use Rattle.resil_rule.proofs.LegalLaws.{legal-push}
-use Rattle.resil_rule.proofs.TimesLaws.{times-append, times-one}
+use Rattle.resil_rule.proofs.TimesLaws.{times-append}
 use Rattle.resil_rule.proofs.UnpickedLaws.{filtered-same}
 use Rattle.resil_permit.proofs.Log.Prefixes.{prefix_trans}
 use Rattle.resil_pool.specs.Words.{IsPrefix, PlanView, RunView, Asked, IsLegal, is_submit_of, submissions, is_same_id, is_among, times, finished, finished_id, started, started_id, taken, taken_id, MachineView, jobs_in_flight, plan_of, with_run, with_finish, IsPicked, AreResultsOf, Accepted, Id, Event, Take, Finish, Row}
-use Rattle.resil_pool.specs.Lock.LoggedEvent.{run_of}
-use Rattle.resil_pool.specs.Lock.Protocol.{starts_of, EndsOnlyPicked}
+use Rattle.resil_pool.specs.Lock.{run_of, starts_of, EndsOnlyPicked}
 use Rattle.resil_pool.specs.Worker.{asked_in}
-use Rattle.resil_pool.specs.Draining.Remaining.{with_runs, picks, HasRunOn, Ran, RanInDrain}
+use Rattle.resil_pool.specs.Draining.{with_runs, picks, HasRunOn, Ran, RanInDrain}
 use Rattle.resil_pool.proofs.MachineCalls.{out_runs}
 use Rattle.resil_pool.proofs.NamedCallers.{pick_names, finish_names}
 use Rattle.resil_pool.proofs.Logs.{due-out, take-next}
@@ -181,39 +180,30 @@ pub record IsInOrder (m : MachineView) : Type 0 where
   pub legal : IsLegal m.limits m.history
   pub few : EndsOnlyPicked m
 
--- a job was picked: it is out
+-- a job was picked and not finished: with its finish, no job was finished more often than it was picked
 pub record IsOutNow (m : MachineView) (id : Id) : Type 0 where
-  pub order : IsInOrder m
-  pub due : times id (finished m.history) < times id (starts_of m) + times id (taken m.history)
+  pub legal : IsLegal m.limits m.history
+  pub due : (x : Id) → times x (finished m.history) + times x (id ∷ []) ≤ times x (starts_of m) + times x (taken m.history)
 
 pub is_out : (m : MachineView) (id : Id) → IsOutNow m id → is_among id (jobs_in_flight m) ≡ true
-is_out m id o = due-out m.limits m id o.order.legal o.due
+is_out m id o = due-out m.limits m id o.legal (o.due id)
 
 -- the machine that a pick leaves
 pub picked_out : (old new : MachineView) (id : Id) → IsInOrder old → IsPicked old id new → IsOutNow new id
 picked_out old new id order pick =
-    let left = left_by_pick old new id pick in
-    let one : times id (id ∷ []) ≡ 1 = times-one id id ∙ ap {B = ℕ} (λ (b : Bool). cond b 1 0) (same_id-self id) in record {
-      order = record { legal = left.legal order.legal; few = λ x. let f = order.few x in let e = left.picked x in let same = ap (times x) left.finished in omega (arith, f, e, same) };
-      due = let f = order.few id in let e = left.picked id in let same = ap (times id) left.finished in omega (arith, f, e, same, one);
+    let left = left_by_pick old new id pick in record {
+      legal = left.legal order.legal;
+      due = λ x. let f = order.few x in let e = left.picked x in let same = ap (times x) left.finished in omega (arith, f, e, same);
     }
 
 -- the machine that its finish leaves
 pub finished_out : (old new : MachineView) (id : Id) (run : RunView) → IsOutNow old id → new ≡ with_finish old id run → IsInOrder new
 finished_out old new id run o is = record {
-  legal = subst (λ (m : MachineView). IsLegal m.limits m.history) (sym is) (legal-push old.limits old.history (Finish id) o.order.legal (out_runs old id (is_out old id o)));
+  legal = subst (λ (m : MachineView). IsLegal m.limits m.history) (sym is) (legal-push old.limits old.history (Finish id) o.legal (out_runs old id (is_out old id o)));
   few = λ x.
+      let due = o.due x in
       let ends : times x (finished new.history) ≡ times x (finished old.history) + times x (id ∷ []) = ap (λ (m : MachineView). times x (finished m.history)) is ∙ (ap (times x) (filter_map-append finished_id old.history (Finish id ∷ [])) ∙ times-append x (finished old.history) (id ∷ [])) in
       let takes : times x (taken new.history) ≡ times x (taken old.history) = ap (λ (m : MachineView). times x (taken m.history)) is ∙ ap (times x) (filtered-same taken_id old.history (Finish id) refl) in
       let starts : times x (starts_of new) ≡ times x (starts_of old) = ap (λ (m : MachineView). times x (starts_of m)) is ∙ ap (λ (ids : List Id). times x (take old.picked ids)) (filtered-same started_id old.history (Finish id) refl) in
-      go x (is_same_id x id) refl ends takes starts;
+      omega (arith, due, ends, takes, starts);
 }
-  where
-    go : (x : Id) (b : Bool) → is_same_id x id ≡ b → times x (finished new.history) ≡ times x (finished old.history) + times x (id ∷ []) → times x (taken new.history) ≡ times x (taken old.history) → times x (starts_of new) ≡ times x (starts_of old)
-        → times x (finished new.history) ≤ times x (starts_of new) + times x (taken new.history)
-    go x true same ends takes starts =
-        let due = subst (λ (y : Id). times y (finished old.history) < times y (starts_of old) + times y (taken old.history)) (sym (same_id-equal x id same)) o.due in
-        let one = times-one x id ∙ ap {B = ℕ} (λ (b : Bool). cond b 1 0) same in omega (arith, due, one, ends, takes, starts)
-    go x false other ends takes starts =
-        let few = o.order.few x in
-        let none = times-one x id ∙ ap {B = ℕ} (λ (b : Bool). cond b 1 0) other in omega (arith, few, none, ends, takes, starts)

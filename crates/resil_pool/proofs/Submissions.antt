@@ -6,9 +6,7 @@ use Rattle.resil_rule.specs.declared.error.AdmitError.{AdmitError}
 use Rattle.resil_rule.specs.declared.error.AdmitError.TheVariants as cause
 use Rattle.resil_pool.specs.Words.{TableId, PlanView, is_submit_of, submissions, next_number, IsLegal, MachineView, IsSubmitRefusal, Id, Reply, Event, Submit, Close, Resized, LoggedEvent, Note, Opening, Receipt}
 use Rattle.resil_pool.specs.declared.lock.logged_event.Note.TheVariants as note
-use Rattle.resil_pool.specs.Lock.LoggedEvent.{log_event, event_of, events_in, closer_number, is_own_event, is_own_note, own_in, SeesMore, SeesOwn}
-use Rattle.resil_pool.specs.Lock.Protocol.{View, LockSeatState, MayHaveWritten}
-use Rattle.resil_pool.specs.Lock.Turn.{IsMoved}
+use Rattle.resil_pool.specs.Lock.{log_event, event_of, events_in, closer_number, is_own_event, is_own_note, own_in, SeesMore, SeesOwn, View, LockSeatState, MayHaveWritten, IsMoved}
 use Rattle.resil_pool.specs.Resize.{SeesResize}
 use Rattle.resil_pool.specs.Submit.{AnswersSubmission}
 use Rattle.resil_pool.proofs.Logs.{own_in-append}

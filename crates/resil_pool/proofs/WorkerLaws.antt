@@ -3,81 +3,61 @@ use Rattle.std.proofs.Common.{◌≡◌, ◌≤◌, ◌+◌, ⊎_elim, inl, inr,
 use Rattle.std.specs.Prelude.{option_map, find, All, Contains}
 use Rattle.std.specs.Option.{option_or}
 use Rattle.std.proofs.lemmas.List.Folds.{find-append}
+use Rattle.std.proofs.lemmas.Option.{none-some, same_Some}
 use Rattle.std.proofs.lemmas.List.{map-append, map_push}
 use Rattle.std.proofs.lemmas.List.Concat.{flat_map-append}
 use Rattle.std.proofs.lemmas.List.Elements.{All-nil, All-push, Contains-append_left, Contains-push, filter-append}
-use Rattle.resil_rule.proofs.IdLaws.{same_id-equal}
-use Rattle.resil_rule.proofs.TimesLaws.{times-one}
-use Rattle.resil_lock.specs.Work.{AfterRounds}
+use Rattle.resil_lock.specs.declared.work.Look.{Look}
+use Rattle.resil_lock.specs.declared.work.Look.TheVariants.{Found, Over}
+use Rattle.resil_lock.specs.Work.{AfterRounds, OnFound, OnNothing, OnOver}
 use Rattle.resil_lock.proofs.RoundLaws.{after-rounds}
 use Rattle.resil_permit.proofs.Log.Prefixes.{prefix_trans}
 use Rattle.resil_pool.specs.Words.{PlanView, RunView, Asked, is_same_id, times, MachineView, IsPicked, plan_of, Accepted, Id, Take, IdleEnd, Row, LoggedEvent}
 use Rattle.resil_pool.specs.declared.worker.AtWork.{AtWork}
-use Rattle.resil_pool.specs.declared.worker.Look.{Look}
-use Rattle.resil_pool.specs.declared.worker.Look.TheVariants.{Found, Exit}
-use Rattle.resil_pool.specs.Lock.LoggedEvent.{log_event, start_of, finish_of, picked_in, ended_in, plans_in, plan_entry, runs_in}
-use Rattle.resil_pool.specs.Lock.Protocol.{LockSeatState, MayHaveWritten, IsDue, Tallies}
-use Rattle.resil_pool.specs.Lock.Turn.{Takes, WritesAtMost}
+use Rattle.resil_pool.specs.Lock.{log_event, start_of, finish_of, picked_in, ended_in, plans_in, plan_entry, runs_in, LockSeatState, MayHaveWritten, IsDue, Tallies, Takes, WritesAtMost}
 use Rattle.resil_pool.proofs.Logs.{plans_in-append}
-use Rattle.resil_pool.proofs.RemainingLaws.{left_by_pick}
 use Rattle.resil_pool.proofs.TurnLaws.{HasTurn, MayHave, Turned, either, IsQuiet, takes-quiet, rests-quiet, takes-now, runs-now, tallies-now}
-use Rattle.resil_pool.specs.Worker.{OnExit, OnFound, OnNothing, HasRunTakes, RunsItsTakes, TakesAtMost, takes_in, logged_plan_of, asked_in, first_refused, HasRunJob, HasRunNone, HasRunOne, HasMadeRound, HasWorked}
+use Rattle.resil_pool.specs.Worker.{KeepsPlan, HasRunTakes, RunsItsTakes, TakesAtMost, takes_in, asked_in, first_refused, HasRunJob, HasRunNone, HasRunOne, HasMadeRound, HasWorked}
 
--- the log keeps beside a job the plan that the machine has of it
-plan_beside : (id : Id) (jobs : List Accepted) → option_map (λ (entry : Id × Option PlanView). entry.1) (find (λ (entry : Id × Option PlanView). is_same_id id entry.0) (map plan_entry jobs)) ≡ option_map (λ (plan : PlanView). Some plan) (plan_of jobs id)
-plan_beside id [] = refl
-plan_beside id (job ∷ jobs) = here (is_same_id id job.id) (plan_beside id jobs)
+-- jobs with the same plans in the same order have the same plan under an id, whatever comes after them
+same_plan : (jobs others : List Accepted) (more : List (Id × Option PlanView)) (id : Id) (plan : PlanView) → map plan_entry others ≡ map plan_entry jobs ++ more → plan_of jobs id ≡ Some plan → plan_of others id ≡ Some plan
+same_plan [] others more id plan same there = absurd (none-some plan there)
+same_plan (job ∷ jobs) [] more id plan same there = absurd (cc same)
+same_plan (job ∷ jobs) (other ∷ others) more id plan same there =
+    let head : plan_entry other ≡ plan_entry job = cc same in
+    let tail : map plan_entry others ≡ map plan_entry jobs ++ more = cc same in
+    let here : is_same_id id other.id ≡ is_same_id id job.id = ap (λ (entry : Id × Option PlanView). is_same_id id entry.0) head in
+    let plans : other.plan ≡ job.plan = same_Some other.plan job.plan (ap (λ (entry : Id × Option PlanView). entry.1) head) in
+    go (is_same_id id job.id) here plans there (same_plan jobs others more id plan tail)
   where
-    here : (b : Bool) → option_map (λ (entry : Id × Option PlanView). entry.1) (find (λ (entry : Id × Option PlanView). is_same_id id entry.0) (map plan_entry jobs)) ≡ option_map (λ (plan : PlanView). Some plan) (plan_of jobs id)
-        → option_map (λ (entry : Id × Option PlanView). entry.1) (cond b (Some (plan_entry job)) (find (λ (entry : Id × Option PlanView). is_same_id id entry.0) (map plan_entry jobs)))
-        ≡ option_map (λ (plan : PlanView). Some plan) (option_map (λ (j : Accepted). j.plan) (cond b (Some job) (find (λ (j : Accepted). is_same_id id j.id) jobs)))
-    here true rest = refl
-    here false rest = rest
+    go : (b : Bool) → is_same_id id other.id ≡ b → other.plan ≡ job.plan → option_map (λ (j : Accepted). j.plan) (cond b (Some job) (find (λ (j : Accepted). is_same_id id j.id) jobs)) ≡ Some plan → (plan_of jobs id ≡ Some plan → plan_of others id ≡ Some plan)
+        → plan_of (other ∷ others) id ≡ Some plan
+    go true is plans found rest = ap (λ (c : Bool). option_map (λ (j : Accepted). j.plan) (cond c (Some other) (find (λ (j : Accepted). is_same_id id j.id) others))) is ∙ (ap (λ (p : PlanView). Some p) plans ∙ found)
+    go false is plans found rest = ap (λ (c : Bool). option_map (λ (j : Accepted). j.plan) (cond c (Some other) (find (λ (j : Accepted). is_same_id id j.id) others))) is ∙ rest found
 
--- the job that a look found is the one whose plan the log keeps
-pub found_in_log : (log : List LoggedEvent) (machine machine' : MachineView) (look : Look) → map plan_entry machine'.jobs ≡ plans_in log → OnFound look (λ id job. IsPicked machine id machine' × (plan_of machine.jobs id ≡ Some job))
-    → OnFound look (λ id job. logged_plan_of log id ≡ Some (Some job))
-found_in_log log machine machine' (Found id job) plans f =
-    let entries : plans_in log ≡ map plan_entry machine.jobs = sym plans ∙ ap (map plan_entry) (left_by_pick machine machine' id f.0).jobs in
-    ap (λ (xs : List (Id × Option PlanView)). option_map (λ (entry : Id × Option PlanView). entry.1) (find (λ (entry : Id × Option PlanView). is_same_id id entry.0) xs)) entries
-    ∙ (plan_beside id machine.jobs ∙ ap (option_map (λ (plan : PlanView). Some plan)) f.1)
-found_in_log log machine machine' _ plans f = tt
-
--- a job whose plan a seat has seen in the log has that plan in the machine too
-first_plan : (found other : Option (Id × Option PlanView)) (plan : Option PlanView) → option_map (λ (entry : Id × Option PlanView). entry.1) found ≡ Some plan → option_map (λ (entry : Id × Option PlanView). entry.1) (option_or found other) ≡ Some plan
-first_plan None other plan is = absurd (cc is)
-first_plan (Some entry) other plan is = is
-
-plan_inside : (found : Option PlanView) (plan : PlanView) → option_map (λ (p : PlanView). Some p) found ≡ Some (Some plan) → found ≡ Some plan
-plan_inside None plan is = absurd (cc is)
-plan_inside (Some found) plan is = cc is
-
-pub known_plan : (old me : LockSeatState) (machine : MachineView) (id : Id) (plan : PlanView) → HasTurn old machine me → logged_plan_of old.0.seen id ≡ Some (Some plan) → plan_of machine.jobs id ≡ Some plan
+-- the plan that the seat saw kept in the log is the one that the machine has
+pub known_plan : (old me : LockSeatState) (machine : MachineView) (id : Id) (plan : PlanView) → HasTurn old machine me → KeepsPlan old.0.seen id plan → plan_of machine.jobs id ≡ Some plan
 known_plan old me machine id plan took known =
-    let is_it : Id × Option PlanView → Bool = λ entry. is_same_id id entry.0 in
-    let plan_in : Option (Id × Option PlanView) → Option (Option PlanView) = option_map (λ (entry : Id × Option PlanView). entry.1) in
-    let later = plans_in took.begins.0 in
-    let entries : map plan_entry machine.jobs ≡ plans_in old.0.seen ++ later = took.home.home.plans ∙ (ap plans_in (sym took.begins.1) ∙ plans_in-append old.0.seen took.begins.0) in
-    plan_inside (plan_of machine.jobs id) plan
-    (sym (plan_beside id machine.jobs)
-    ∙ (ap (λ (xs : List (Id × Option PlanView)). plan_in (find is_it xs)) entries
-    ∙ (ap plan_in (find-append is_it (plans_in old.0.seen) later) ∙ first_plan (find is_it (plans_in old.0.seen)) (find is_it later) (Some plan) known)))
+    let later = took.begins.0 in
+    let entries : map plan_entry machine.jobs ≡ map plan_entry known.jobs ++ plans_in later =
+    took.home.home.plans ∙ (ap plans_in (sym took.begins.1) ∙ (plans_in-append old.0.seen later ∙ ap (λ (xs : List (Id × Option PlanView)). xs ++ plans_in later) (sym known.kept))) in
+    same_plan known.jobs machine.jobs (plans_in later) id plan entries known.there
 
-pub on_nothing : (look : Look) (P Q : Type 0) → (P → Q) → OnNothing look P → OnNothing look Q
-on_nothing (Found id job) P Q f p = tt
+pub on_nothing : (look : Look (Id × PlanView)) (P Q : Type 0) → (P → Q) → OnNothing look P → OnNothing look Q
+on_nothing (Found picked) P Q f p = tt
 on_nothing _ P Q f p = f p
 
-pub on_found : (look : Look) (P Q : Id → PlanView → Type 0) → ((id : Id) (job : PlanView) → P id job → Q id job) → OnFound look P → OnFound look Q
-on_found (Found id job) P Q f p = f id job p
+pub on_found : (look : Look (Id × PlanView)) (P Q : Id × PlanView → Type 0) → ((picked : Id × PlanView) → P picked → Q picked) → OnFound look P → OnFound look Q
+on_found (Found picked) P Q f p = f picked p
 on_found _ P Q f p = tt
 
-pub on_exit : (look : Look) (P Q : Type 0) → (P → Q) → OnExit look P → OnExit look Q
-on_exit Exit P Q f p = f p
-on_exit _ P Q f p = tt
+pub on_over : (look : Look (Id × PlanView)) (P Q : Type 0) → (P → Q) → OnOver look P → OnOver look Q
+on_over Over P Q f p = f p
+on_over _ P Q f p = tt
 
 -- whether a look found a job or not, it ended none
-pub look-quiet : (callers number : ℕ) (look : Look) (entries : List LoggedEvent) → OnFound look (λ id _. Takes id entries) → OnNothing look (WritesAtMost IdleEnd entries) → IsQuiet callers number entries
-look-quiet callers number (Found id job) entries takes rests = takes-quiet callers number id entries takes
+pub look-quiet : (callers number : ℕ) (look : Look (Id × PlanView)) (entries : List LoggedEvent) → OnFound look (λ picked. Takes picked.0 entries) → OnNothing look (WritesAtMost IdleEnd entries) → IsQuiet callers number entries
+look-quiet callers number (Found picked) entries takes rests = takes-quiet callers number picked.0 entries takes
 look-quiet callers number _ entries takes rests = rests-quiet callers number entries rests
 
 -- what a seat's turn picked, by what it wrote
@@ -98,14 +78,8 @@ module _ {old : LockSeatState} {m : MachineView} {entries : List LoggedEvent} {m
   ended-none quiet = runs-now t ∙ (ap (λ (rows : List Row). runs_in old.0.own ++ rows) quiet.runs ∙ append-nil (runs_in old.0.own))
 
 -- the end of a job that the seat had picked
-pub may-end : (old : LockSeatState) (id : Id) (run : RunView) → MayHaveWritten old.0.rank old.0.own → IsDue id old.0.own → MayHave old (finish_of id run ∷ [])
-may-end old id run fits due = record { may = (tt, tt); due = λ x. go x (is_same_id x id) refl }
-  where
-    go : (x : Id) (b : Bool) → is_same_id x id ≡ b → times x (ended_in old.0.own) + times x (id ∷ []) ≤ times x (picked_in old.0.own) + times x []
-    go x true same =
-        let here : IsDue x old.0.own = subst (λ (y : Id). IsDue y old.0.own) (sym (same_id-equal x id same)) due in
-        let one : times x (id ∷ []) ≡ 1 = times-one x id ∙ ap {B = ℕ} (λ (b : Bool). cond b 1 0) same in omega (arith, here, one)
-    go x false other = let none : times x (id ∷ []) ≡ 0 = times-one x id ∙ ap {B = ℕ} (λ (b : Bool). cond b 1 0) other in let b = fits.balanced x in omega (arith, none, b)
+pub may-end : (old : LockSeatState) (id : Id) (run : RunView) → IsDue id old.0.own → MayHave old (finish_of id run ∷ [])
+may-end old id run due = record { may = (tt, tt); due = λ x. let d = due x in omega (arith, d) }
 
 -- the first of two
 option_map-or : {A B : Type 0} (f : A → B) (x y : Option A) → option_map f (option_or x y) ≡ option_or (option_map f x) (option_map f y)

@@ -5,8 +5,7 @@ use Rattle.resil_pool.specs.Words.{Sizes, Id, Reply, Submit, LoggedEvent, State}
 use Rattle.resil_pool.specs.declared.lock.logged_event.Note.TheVariants as note
 use Rattle.resil_lock.specs.Lock.{holds_lock, is_there}
 use Rattle.resil_lock.specs.BetweenSteps.{IsSeatAt, HasOneHolder, HasNoHolder, IsSlotOut, IsLongest, IsInSlot}
-use Rattle.resil_pool.specs.Lock.Protocol.{View}
-use Rattle.resil_pool.specs.Lock.LoggedEvent.{closer_number, own_in, IsLegalLog, MatchesLog}
+use Rattle.resil_pool.specs.Lock.{View, closer_number, own_in, IsLegalLog, MatchesLog}
 
 -- the word `turn`
 abbrev pub turn : List ℕ → ℕ

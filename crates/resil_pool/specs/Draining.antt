@@ -2,17 +2,17 @@
 pub mod Report
 pub mod Receipts
 pub mod Remaining
+pub use Report.*
+pub use Receipts.*
+pub use Remaining.*
 use Rattle.std.specs.Prelude.{◌≡◌, ◌⊎◌, ◌↔◌, ℕ, Bool, true, false, List, All, Any, IsSome, Result, Ok, Err, length}
 use Rattle.resil_pool.specs.Words.{IsPrefix, is_closed, MachineView, HasNoneToPick, AllDone, AreResultsOf, Row, Receipt}
-use Rattle.resil_pool.specs.Lock.LoggedEvent.{events_in}
+use Rattle.resil_pool.specs.Lock.{events_in}
 use Rattle.resil_pool.specs.declared.draining.report.Report.{Report as DrainReport}
 use Rattle.resil_pool.specs.declared.draining.report.DrainFault.{DrainFault}
 use Rattle.resil_pool.specs.declared.draining.report.DrainFault.TheVariants.{PartMissing, Stranger, ReceiptsDiffer}
 use Rattle.resil_pool.specs.Pool.{PoolView}
 use Rattle.resil_pool.specs.Parts.{SeatView, CallerView, EndView}
-use Rattle.resil_pool.specs.Draining.Report.{AreNumbered, AreReceiptsOf, AreSubmissions}
-use Rattle.resil_pool.specs.Draining.Receipts.{AgreeWithReceipts}
-use Rattle.resil_pool.specs.Draining.Remaining.{LeftRefused}
 
 -- all parts are there: the callers, and as many ends as there are workers
 pub record HasAllHandles (pool : PoolView) (callers : List CallerView) (ends : List EndView) : Type 0 where

@@ -2,7 +2,7 @@
 use Rattle.std.specs.Prelude.{◌≡◌, ◌↔◌, ◌++◌, ◌∷◌, ℕ, Bool, IsTrue, List, Option, Some, None, map}
 use Rattle.resil_pool.specs.Words.{Sizes, Event, Submit, Close, LoggedEvent}
 use Rattle.resil_pool.specs.declared.hold.JobRow.{JobRow}
-use Rattle.resil_pool.specs.Lock.LoggedEvent.{log_event, events_in, closer_number, SeesOwn}
+use Rattle.resil_pool.specs.Lock.{log_event, events_in, closer_number, SeesOwn}
 
 -- the caller that an event is a submission of
 abbrev pub submitter : Event → Option ℕ

@@ -1,4 +1,7 @@
--- The lock of a pool: what its history is made of, what holds between any two atomic steps, and what a whole turn does.
+-- The lock of a pool: what its log is made of, what lies under it, and what one turn does.
 pub mod LoggedEvent
 pub mod Protocol
 pub mod Turn
+pub use LoggedEvent.*
+pub use Protocol.*
+pub use Turn.*

@@ -1,8 +1,7 @@
 -- That each submission in a pool's history names one of its callers, and which machines are left so that this stays true.
 use Rattle.std.specs.Prelude.{◌≤◌, ℕ}
 use Rattle.resil_admission.specs.MachineView.{MachineView}
-use Rattle.resil_pool.specs.Lock.LoggedEvent.{AllNameCallers, events_in}
-use Rattle.resil_pool.specs.Lock.Protocol.{LockSeatState}
+use Rattle.resil_pool.specs.Lock.{AllNameCallers, events_in, LockSeatState}
 
 -- a caller's number, in a pool with this many callers
 abbrev pub IsCallersNumber : ℕ → ℕ → Type 0

@@ -3,10 +3,8 @@ use Rattle.std.specs.Prelude.{◌≡◌, ◌≢◌, ◌≤◌, ℕ, List, [], Op
 use Rattle.std.specs.List.{range_with_len}
 use Rattle.resil_pool.specs.Words.{TableId, PlanView, RunView, IsLegal, Row, Id, Event, Submit, LoggedEvent, Receipt}
 use Rattle.resil_pool.specs.declared.receipt.Ticket.{Ticket}
-use Rattle.resil_pool.specs.Lock.LoggedEvent.{log_event, events_in, closer_number, own_in, runs_in}
+use Rattle.resil_pool.specs.Lock.{log_event, events_in, closer_number, own_in, runs_in, LockSeatState, PoolId, pool_id, IsResting}
 use Rattle.resil_lock.specs.declared.protocol.Rank.TheVariants.{Member}
-use Rattle.resil_pool.specs.Lock.Protocol.{LockSeatState}
-use Rattle.resil_pool.specs.Lock.Turn.{PoolId, pool_id, IsResting}
 
 -- a closer, a worker: which pool it is of, what it has seen, what its own turns wrote, and the runs with which it has ended jobs
 pub record SeatView : Type 0 where

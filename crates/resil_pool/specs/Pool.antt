@@ -1,6 +1,6 @@
 -- What contracts see of a pool.
 use Rattle.std.specs.Prelude.{ℕ}
-use Rattle.resil_pool.specs.Lock.Turn.{PoolId}
+use Rattle.resil_pool.specs.Lock.{PoolId}
 
 -- a pool: its turn, with its limits, how many callers it was opened for, and how many empty looks are a keep-alive
 pub record PoolView : Type 0 where

@@ -1,7 +1,7 @@
 -- What a caller has seen after a resize.
 use Rattle.std.specs.Prelude.{◌≡◌, ◌++◌, ◌∷◌, ℕ, [], List, None}
 use Rattle.resil_pool.specs.Words.{IsPrefix, Sizes, IsLegal, Resized, LoggedEvent}
-use Rattle.resil_pool.specs.Lock.LoggedEvent.{log_event, events_in, own_in}
+use Rattle.resil_pool.specs.Lock.{log_event, events_in, own_in}
 
 -- more is seen, a legal history, which ends with a resize to these sizes that wasn't seen before; the seat's own events are the same
 pub record SeesResize (limits : Sizes) (number : ℕ) (old : List LoggedEvent) (core max : ℕ) (new : List LoggedEvent) : Type 0 where

@@ -1,13 +1,11 @@
 -- What a worker finds when it looks for a job, and with which permitter it runs one.
-use Rattle.std.specs.Prelude.{◌≡◌, ◌⊎◌, ◌++◌, ◌∷◌, [], ℕ, Bool, List, All, Contains, Option, None, option_map, find, filter, flat_map, map, not, true}
+use Rattle.std.specs.Prelude.{◌≡◌, ◌⊎◌, ◌++◌, ◌∷◌, [], ℕ, Bool, List, All, Contains, Option, Some, None, option_map, find, filter, flat_map, map, not, true}
 use Rattle.resil_rule.specs.declared.error.AdmitError.{AdmitError}
-use Rattle.resil_pool.specs.Words.{IsPrefix, Sizes, is_closed, is_same_id, taken, IsAllowed, Row, Id, Event, Take, IdleEnd, MachineView, IsFinishRefusal, with_event, PlanView, RunView, Asked, LoggedEvent}
-use Rattle.resil_pool.specs.Lock.LoggedEvent.{events_in, plans_in, runs_in, MatchesLog}
-use Rattle.resil_pool.specs.Lock.Protocol.{View}
-use Rattle.resil_pool.specs.Lock.Turn.{IsMoved, WritesAtMost}
+use Rattle.resil_lock.specs.declared.work.Look.{Look}
+use Rattle.resil_lock.specs.declared.work.Look.TheVariants.{Nothing}
+use Rattle.resil_pool.specs.Words.{Accepted, plan_of, IsPrefix, Sizes, is_closed, is_same_id, taken, IsAllowed, Row, Id, Event, Take, IdleEnd, MachineView, IsFinishRefusal, with_event, PlanView, RunView, Asked, LoggedEvent}
+use Rattle.resil_pool.specs.Lock.{events_in, plans_in, plan_entry, runs_in, MatchesLog, View, IsMoved, WritesAtMost}
 use Rattle.resil_pool.specs.declared.worker.AtWork.{AtWork}
-use Rattle.resil_pool.specs.declared.worker.Look.{Look}
-use Rattle.resil_pool.specs.declared.worker.Look.TheVariants.{Found, NoJob, Exit}
 
 -- no job may be taken after this history
 abbrev pub AllowsNoTake : Sizes → List Event → Type 0
@@ -30,29 +28,16 @@ pub record IsAtEnd (limits : Sizes) (history : List Event) : Type 0 where
   pub closed : is_closed history ≡ true
   pub no_take : AllowsNoTake limits history
 
--- P holds if the look was the worker's last
-abbrev pub OnExit : Look → Type 0 → Type 0
-OnExit Exit P = P
-OnExit _ P = Unit {0}
-
--- P holds of the job that the look found
-abbrev pub OnFound : Look → (Id → PlanView → Type 0) → Type 0
-OnFound (Found id job) P = P id job
-OnFound _ P = Unit {0}
-
 -- P holds if the look found no job, and the worker looks on
-abbrev pub OnNoJob : Look → Type 0 → Type 0
-OnNoJob NoJob P = P
+abbrev pub OnNoJob : {J : Type 0} → Look J → Type 0 → Type 0
+OnNoJob Nothing P = P
 OnNoJob _ P = Unit {0}
 
--- P holds if the look found no job
-abbrev pub OnNothing : Look → Type 0 → Type 0
-OnNothing (Found id job) P = Unit {0}
-OnNothing _ P = P
-
--- the plan that the log keeps beside the accepted submission of this id
-abbrev pub logged_plan_of : List LoggedEvent → Id → Option (Option PlanView)
-logged_plan_of log id = option_map (λ entry. entry.1) (find (λ entry. is_same_id id entry.0) (plans_in log))
+-- the log keeps this plan beside the accepted submission of this id: the jobs of which it keeps the plans have it there
+pub record KeepsPlan (log : List LoggedEvent) (id : Id) (plan : PlanView) : Type 0 where
+  pub jobs : List Accepted
+  pub kept : map plan_entry jobs ≡ plans_in log
+  pub there : plan_of jobs id ≡ Some plan
 
 -- the jobs that were taken from the queue, in this order
 abbrev pub takes_in : List LoggedEvent → List Id

@@ -15,17 +15,9 @@
 //! comes out.
 
 ghost use Rattle.std.specs.Prelude.{◌≡◌, ◌↔◌, ℕ, true, false, List, All, Any, IsSome, IsTrue, IfOk, IfErr, map};
-ghost use mathlib.Core.List.{IsPrefix};
-ghost use Rattle.resil_rule.specs.Admission.{IsLegal};
-ghost use Rattle.resil_rule.specs.History.{is_closed};
-ghost use Rattle.resil_admission.specs.MachineView.{HasNoneToPick};
-ghost use Rattle.resil_pool.specs.Lock.LoggedEvent.{NamesCaller, events_in};
-ghost use Rattle.resil_pool.specs.Lock.Protocol.{EndsOnlyPicked};
-ghost use Rattle.resil_rule.specs.declared.event.Event.{Event};
-ghost use Rattle.resil_admission.specs.declared.row.Row.{Row};
-ghost use Rattle.resil_pool.specs.Draining.Report.{AreReceiptsOf, AreSubmissions, AreCollected};
-ghost use Rattle.resil_pool.specs.Draining.Remaining.{HasRunOn, Ran, RanInDrain};
-ghost use Rattle.resil_pool.specs.Draining.{HasAllHandles, IsPartMissing, IsStranger, IsReceiptsDiffer, IsDrainError, HandsBack, Ended};
+ghost use Rattle.resil_pool.specs.Words.{IsPrefix, IsLegal, is_closed, HasNoneToPick, Event, Row};
+ghost use Rattle.resil_pool.specs.Lock.{NamesCaller, events_in, EndsOnlyPicked};
+ghost use Rattle.resil_pool.specs.Draining.{AreReceiptsOf, AreSubmissions, AreCollected, HasRunOn, Ran, RanInDrain, HasAllHandles, IsPartMissing, IsStranger, IsReceiptsDiffer, IsDrainError, HandsBack, Ended};
 
 mod callers;
 mod receipts;

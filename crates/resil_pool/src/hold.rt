@@ -7,9 +7,7 @@
 ghost use Rattle.std.specs.Prelude.{◌≡◌, ◌↔◌, true, IsTrue};
 ghost use Rattle.std.specs.Bool.{OnTrue};
 ghost use Rattle.resil_rule.specs.History.{is_closed};
-ghost use Rattle.resil_pool.specs.Lock.LoggedEvent.{events_in};
-ghost use Rattle.resil_pool.specs.Lock.Protocol.{told};
-ghost use Rattle.resil_pool.specs.Lock.Turn.{IsMoved, WritesAtMost, SeesClosing, WroteCloseAtMost};
+ghost use Rattle.resil_pool.specs.Lock.{events_in, told, IsMoved, WritesAtMost, SeesClosing, WroteCloseAtMost};
 ghost use Rattle.resil_pool.specs.Hold.{AreRows, BeginsWithRows, TellsOfRows};
 
 use crate::lock::{Note, State, note_if};

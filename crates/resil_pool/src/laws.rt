@@ -1,18 +1,9 @@
 //! The laws of the turn, each a function whose contract it is.
 ghost use Rattle.std.specs.Prelude.{◌≡◌, ℕ, [], Option, None};
 ghost use Rattle.atomic_table.specs.Table as table;
-ghost use Rattle.resil_decor.specs.Plan.{PlanView};
-ghost use Rattle.resil_decor.specs.Run.{RunView};
-ghost use Rattle.resil_admission.specs.MachineView.{MachineView, with_submission, with_finish, IsPicked};
-ghost use Rattle.resil_rule.specs.declared.event.Id.{Id};
-ghost use Rattle.resil_rule.specs.declared.event.Reply.{Reply};
-ghost use Rattle.resil_pool.specs.Lock.LoggedEvent.{closer_number, AllNameCallers};
-ghost use Rattle.resil_pool.specs.Lock.Protocol.{LockSeatState};
-ghost use Rattle.resil_pool.specs.declared.lock.logged_event.LoggedEvent.{LoggedEvent};
-ghost use Rattle.resil_pool.specs.declared.lock.state.State.{State as Lot};
-ghost use Rattle.resil_pool.specs.declared.lock.opening.Opening.{Opening};
+ghost use Rattle.resil_pool.specs.Words.{PlanView, RunView, MachineView, with_submission, with_finish, IsPicked, Id, Reply, LoggedEvent, State as Lot, Opening};
+ghost use Rattle.resil_pool.specs.Lock.{closer_number, AllNameCallers, LockSeatState, IsTurn, AppendsToMachine, AppendsAtMostOne, AppendsCloseAtMost};
 ghost use Rattle.resil_lock.specs.declared.protocol.View.{View};
-ghost use Rattle.resil_pool.specs.Lock.Turn.{IsTurn, AppendsToMachine, AppendsAtMostOne, AppendsCloseAtMost};
 ghost use Rattle.resil_pool.specs.BetweenTurns.{HoldsBetweenTurns};
 ghost use Rattle.resil_pool.specs.NamedCallers.{IsCallersNumber, KeepsNames, LeavesNames};
 

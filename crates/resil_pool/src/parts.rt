@@ -75,7 +75,7 @@ pub struct Worker {
 }
 
 impl Model for Worker {
-    ghost use Rattle.resil_pool.specs.Lock.Protocol.{IsSettled};
+    ghost use Rattle.resil_pool.specs.Lock.{IsSettled};
     ghost use Rattle.resil_pool.specs.Parts.{SeatView, IsWitness, seat_view};
 
     ghost Value = { SeatView };
@@ -114,8 +114,7 @@ pub struct WorkerEnd {
 
 impl Model for WorkerEnd {
     ghost use Rattle.std.specs.Prelude.{◌≡◌, None};
-    ghost use Rattle.resil_pool.specs.Lock.LoggedEvent.{runs_in};
-    ghost use Rattle.resil_pool.specs.Lock.Protocol.{IsSettled};
+    ghost use Rattle.resil_pool.specs.Lock.{runs_in, IsSettled};
     ghost use Rattle.resil_pool.specs.Parts.{EndView, IsWitness, source_of};
 
     ghost Value = { EndView };

@@ -5,13 +5,9 @@
 //! callers' with the numbers 1, 2 and so on, then the workers'.
 
 ghost use Rattle.std.specs.Prelude.{◌≡◌, ◌<◌, ◌≤◌, ◌↔◌, ◌+◌, [], true, IfOk, IsErrOf, replicate, vec_capacity};
-ghost use mathlib.Core.List.{IsPrefix};
-ghost use Rattle.resil_rule.specs.History.{is_closed};
-ghost use Rattle.resil_rule.specs.Admission.{IsLegal};
+ghost use Rattle.resil_pool.specs.Words.{IsPrefix, is_closed, IsLegal};
 ghost use Rattle.resil_pool.specs.declared.pool.OpenError.TheVariants.{Memory};
-ghost use Rattle.resil_pool.specs.Lock.LoggedEvent.{events_in};
-ghost use Rattle.resil_pool.specs.Lock.Protocol.{closer_view};
-ghost use Rattle.resil_pool.specs.Lock.Turn.{pool_id, SeesClosing, WroteCloseAtMost};
+ghost use Rattle.resil_pool.specs.Lock.{events_in, closer_view, pool_id, SeesClosing, WroteCloseAtMost};
 ghost use Rattle.resil_pool.specs.Parts.{new_callers, new_worker};
 
 use crate::hold::close_held;
@@ -83,7 +79,7 @@ pub struct Pool {
 
 impl Model for Pool {
     ghost use Rattle.std.specs.Prelude.{◌≡◌, ◌≤◌, ◌<◌, [], vec_capacity};
-    ghost use Rattle.resil_pool.specs.Lock.Turn.{pool_id};
+    ghost use Rattle.resil_pool.specs.Lock.{pool_id};
     ghost use Rattle.resil_pool.specs.Pool.{PoolView};
 
     ghost Value = { PoolView };

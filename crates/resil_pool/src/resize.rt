@@ -5,9 +5,7 @@
 ghost use Rattle.std.specs.Prelude.{◌≡◌, ◌↔◌, ◌++◌, ◌∷◌, [], None, map, OnOk, OnErr};
 ghost use Rattle.std.specs.Result.{IsErrOf};
 ghost use Rattle.resil_rule.specs.Limits.{IsCore, AreSizesWithin};
-ghost use Rattle.resil_pool.specs.Lock.LoggedEvent.{log_event, own_in, SeesMore};
-ghost use Rattle.resil_pool.specs.Lock.Protocol.{told};
-ghost use Rattle.resil_pool.specs.Lock.Turn.{IsMoved};
+ghost use Rattle.resil_pool.specs.Lock.{log_event, own_in, SeesMore, told, IsMoved};
 ghost use Rattle.resil_pool.specs.Parts.{IsSameCaller, submission_of};
 ghost use Rattle.resil_pool.specs.Resize.{SeesResize};
 

@@ -6,8 +6,7 @@
 ghost use Rattle.std.specs.Prelude.{◌≡◌, ◌↔◌, ◌+◌, ◌<◌, ◌++◌, ◌∷◌, [], Some, length, map, IfOk, IfErr, IsTrue, OnErr, vec_capacity};
 ghost use Rattle.resil_rule.specs.History.{is_submit_of};
 ghost use Rattle.resil_pool.specs.Hold.{submitter};
-ghost use Rattle.resil_pool.specs.Lock.LoggedEvent.{own_in, SeesMore, SeesOwn};
-ghost use Rattle.resil_pool.specs.Lock.Protocol.{told};
+ghost use Rattle.resil_pool.specs.Lock.{own_in, SeesMore, SeesOwn, told};
 ghost use Rattle.resil_pool.specs.Submit.{AnswersSubmission};
 ghost use Rattle.resil_pool.specs.Parts.{IsSameCaller, receipt_of, submission_of};
 

@@ -7,16 +7,12 @@
 //! there is one, and waits at the bell.
 
 ghost use Rattle.std.specs.Prelude.{◌≡◌, ◌<◌, ◌++◌, ◌∷◌, [], ℕ, IfSome, Some, None, true, false};
-ghost use mathlib.Core.List.{IsPrefix};
-ghost use Rattle.resil_rule.specs.History.{is_among, is_closed};
-ghost use Rattle.resil_rule.specs.Admission.{IsAllowed, IsLegal};
-ghost use Rattle.resil_admission.specs.MachineView.{IsPicked, HasNoneToPick, jobs_in_flight, plan_of, with_event, with_finish};
+ghost use Rattle.resil_pool.specs.Words.{IsPrefix, is_among, is_closed, IsAllowed, IsLegal, IsPicked, HasNoneToPick, jobs_in_flight, plan_of, with_event, with_finish};
+ghost use Rattle.resil_lock.specs.Work.{OnFound, OnNothing, OnOver};
 ghost use Rattle.resil_pool.specs.declared.lock.logged_event.Note.TheVariants as note;
-ghost use Rattle.resil_pool.specs.Lock.LoggedEvent.{events_in, runs_in, finish_of};
-ghost use Rattle.resil_pool.specs.Lock.Protocol.{IsDue, IsSettled, Tallies, told};
-ghost use Rattle.resil_pool.specs.Lock.Turn.{IsResting, IsMoved, Takes, TookATurn, WritesAtMost};
+ghost use Rattle.resil_pool.specs.Lock.{events_in, runs_in, finish_of, IsDue, IsSettled, Tallies, told, IsResting, IsMoved, Takes, TookATurn, WritesAtMost};
 ghost use Rattle.resil_pool.specs.Parts.{IsWitness};
-ghost use Rattle.resil_pool.specs.Worker.{EndsIdle, EndsWith, HasNoTake, HasFirstRefusal, HasRunJob, HasRunJobs, HasWorked, IsAtEnd, OnExit, OnFound, OnNoJob, OnNothing, HasRunTakes, TakesAtMost, WasRefused, logged_plan_of, takes_in};
+ghost use Rattle.resil_pool.specs.Worker.{EndsIdle, EndsWith, HasNoTake, HasFirstRefusal, HasRunJob, HasRunJobs, HasWorked, IsAtEnd, OnNoJob, HasRunTakes, KeepsPlan, TakesAtMost, WasRefused, takes_in};
 
 use crate::hook::Hook;
 use crate::lock::{LockSeat, Note, State, note_if};
@@ -24,19 +20,8 @@ use crate::parts::{Worker, WorkerEnd};
 use crate::pool::Pool;
 use resil_admission::{Event, Id};
 use resil_decor::{Job, Permitter, Run};
-use resil_lock::{Looks, Round, Rounds};
+use resil_lock::{Look, Looks, Round, Rounds};
 use std::sync::Wait;
-
-/// What a look found.
-#[derive(Drop)]
-pub(crate) enum Look {
-    /// A job to run.
-    Found(Id, Job),
-    /// No job, and the pool is open.
-    NoJob,
-    /// No job, and the pool is closed.
-    Exit,
-}
 
 // What was written of a pick: a take where the history has grown, and else the start of a job with a worker of its own.
 fn note_of_pick(id: Id, before: usize, after: usize) -> Note
@@ -53,34 +38,34 @@ fn note_of_pick(id: Id, before: usize, after: usize) -> Note
 impl State {
     // Looks for a job. Where there is none, the worker asks to end if the pool is closed, or if it is `timed_out` after so
     // many empty looks.
-    fn look(&mut self, timed_out: bool) -> Look
-        ensures found { OnFound result (λ id job. IsPicked self.old.machine id self.new.machine × (plan_of self.old.machine.jobs id ≡ Some job)) }
+    fn look(&mut self, timed_out: bool) -> Look<(Id, Job)>
+        ensures found { OnFound result (λ picked. IsPicked self.old.machine picked.0 self.new.machine × (plan_of self.old.machine.jobs picked.0 ≡ Some picked.1)) }
         ensures none { OnNothing result (HasNoneToPick self.old.machine) }
         ensures no_take { OnNothing result (HasNoTake self.new.machine) }
         ensures open { OnNoJob result (is_closed self.old.machine.history ≡ false) }
         ensures unchanged { timed_out ≡ false → OnNoJob result (self.new.machine ≡ self.old.machine) }
         ensures asks { timed_out ≡ true → OnNoJob result (IsAllowed self.old.machine.limits self.old.machine.history Event.IdleEnd → self.new.machine ≡ with_event self.old.machine Event.IdleEnd) }
         ensures wrote { IsMoved self.old.machine (told self.new) self.new.machine }
-        ensures picks { OnFound result (λ id _. Takes id (told self.new)) }
+        ensures picks { OnFound result (λ picked. Takes picked.0 (told self.new)) }
         ensures rests { OnNothing result (WritesAtMost Event.IdleEnd (told self.new)) }
-        ensures left { OnExit result (IsAtEnd self.new.machine.limits self.new.machine.history) }
+        ensures left { OnOver result (IsAtEnd self.new.machine.limits self.new.machine.history) }
     {
         let before = self.machine.history().len();
         if let Some((id, job)) = self.machine.pick() {
             let written = note_of_pick(id, before, self.machine.history().len());
             self.last = note_if(true, written);
-            return Look::Found(id, job);
+            return Look::Found((id, job));
         }
         if self.machine.closed() {
             self.end_if_allowed();
-            return Look::Exit;
+            return Look::Over;
         }
         if timed_out {
             self.end_if_allowed();
         } else {
             self.last = None;
         }
-        Look::NoJob
+        Look::Nothing
     }
 
     // Asks the machine to end an idle worker, which it does if the rule of admission allows it.
@@ -109,18 +94,18 @@ impl State {
 
 impl Pool {
     // A turn with one look.
-    fn look<R: Wait>(&self, rt: &R, seat: &mut LockSeat, timed_out: bool) -> Look
+    fn look<R: Wait>(&self, rt: &R, seat: &mut LockSeat, timed_out: bool) -> Look<(Id, Job)>
         requires source { seat.old.table_id ≡ self.now.source.table_id }
         requires rest { IsResting seat.old.me }
         ensures source { seat.new.table_id ≡ seat.old.table_id }
         ensures turn { TookATurn seat.old.me seat.new.me }
         ensures ends_none { runs_in seat.new.me.0.own ≡ runs_in seat.old.me.0.own }
-        ensures takes { OnFound result (λ id _. TakesAtMost id (takes_in seat.old.me.0.own) (takes_in seat.new.me.0.own)) }
+        ensures takes { OnFound result (λ picked. TakesAtMost picked.0 (takes_in seat.old.me.0.own) (takes_in seat.new.me.0.own)) }
         ensures takes_none { OnNothing result (takes_in seat.new.me.0.own ≡ takes_in seat.old.me.0.own) }
-        ensures picks { OnFound result (λ id _. Tallies seat.old.me.0.own (id ∷ []) [] seat.new.me.0.own) }
+        ensures picks { OnFound result (λ picked. Tallies seat.old.me.0.own (picked.0 ∷ []) [] seat.new.me.0.own) }
         ensures picks_none { OnNothing result (Tallies seat.old.me.0.own [] [] seat.new.me.0.own) }
-        ensures found { OnFound result (λ id job. logged_plan_of seat.new.me.0.seen id ≡ Some (Some job)) }
-        ensures left { OnExit result (IsAtEnd seat.old.me.0.key.limits (events_in seat.new.me.0.seen)) }
+        ensures found { OnFound result (λ picked. KeepsPlan seat.new.me.0.seen picked.0 picked.1) }
+        ensures left { OnOver result (IsAtEnd seat.old.me.0.key.limits (events_in seat.new.me.0.seen)) }
     {
         let mut state = self.lock.take(rt, seat);
         let look = state.inner.look(timed_out);
@@ -141,7 +126,7 @@ impl Pool {
         requires source { seat.old.table_id ≡ self.now.source.table_id }
         requires rest { IsResting seat.old.me }
         requires due { IsDue picked.0 seat.old.me.0.own }
-        requires known { logged_plan_of seat.old.me.0.seen picked.0 ≡ Some (Some picked.1) }
+        requires known { KeepsPlan seat.old.me.0.seen picked.0 picked.1 }
         ensures source { seat.new.table_id ≡ seat.old.table_id }
         ensures turn { TookATurn seat.old.me seat.new.me }
         ensures ends { Tallies seat.old.me.0.own [] (picked.0 ∷ []) seat.new.me.0.own }
@@ -236,8 +221,7 @@ fn make_rounds<R: Wait, P: Permitter, H: Hook>(rt: &R, at_work: &mut AtWork<'_, 
 
 impl<P: Permitter, H: Hook> Rounds for AtWork<'_, P, H> {
     ghost use Rattle.std.specs.Prelude.{◌≡◌};
-    ghost use Rattle.resil_pool.specs.Lock.LoggedEvent.{events_in};
-    ghost use Rattle.resil_pool.specs.Lock.Protocol.{IsSettled};
+    ghost use Rattle.resil_pool.specs.Lock.{events_in, IsSettled};
     ghost use Rattle.resil_pool.specs.Parts.{IsWitness};
     ghost use Rattle.resil_pool.specs.Worker.{HasMadeRound, IsAtEnd};
 
@@ -250,13 +234,13 @@ impl<P: Permitter, H: Hook> Rounds for AtWork<'_, P, H> {
     fn round<R: Wait>(&mut self, rt: &R, looks: &mut Looks) -> Round {
         let pool = self.pool;
         match pool.look(rt, self.seat, looks.timed_out()) {
-            Look::Found(id, job) => {
+            Look::Found(picked) => {
                 looks.has_found(&pool.lock);
-                pool.run_job(rt, self.seat, (id, job), self.permitter, self.hook);
+                pool.run_job(rt, self.seat, picked, self.permitter, self.hook);
                 Round::Ran
             }
-            Look::NoJob => Round::Nothing,
-            Look::Exit => Round::Over,
+            Look::Nothing => Round::Nothing,
+            Look::Over => Round::Over,
         }
     }
 }

@@ -1,7 +1,7 @@
 -- What the callers hand in when a pool is drained, and what is compared with their receipts: the history and the results.
 use Rattle.std.specs.Prelude.{◌≡◌, ◌-◌, ◌≤◌, ℕ, List, Some, All, length, map, slice_get}
 use Rattle.resil_pool.specs.Words.{IsPrefix, Event, Row, LoggedEvent, Receipt}
-use Rattle.resil_pool.specs.Lock.LoggedEvent.{NamesCaller, events_in, own_in}
+use Rattle.resil_pool.specs.Lock.{NamesCaller, events_in, own_in}
 use Rattle.resil_pool.specs.Parts.{CallerView, submission_of}
 use Rattle.resil_pool.specs.Draining.Report.{receipts_at, AreReceiptsOf, AreSubmissions}
 

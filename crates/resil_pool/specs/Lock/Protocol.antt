@@ -57,9 +57,9 @@ entries_of jobs (Some written) = logged (option_map (λ plan. plan.value) writte
 abbrev pub told : State → List LoggedEvent
 told state = entries_of state.machine.jobs state.last
 
--- a seat that wrote this has picked this job and not ended it
+-- a seat that wrote this has picked this job and not ended it: with one end of it more, no job was ended more often than it was picked
 abbrev pub IsDue : Id → List LoggedEvent → Type 0
-IsDue id own = times id (ended_in own) < times id (picked_in own)
+IsDue id own = (x : Id) → times x (ended_in own) + times x (id ∷ []) ≤ times x (picked_in own)
 
 -- the jobs that it picked are those that it ended
 abbrev pub IsSettled : List LoggedEvent → Type 0

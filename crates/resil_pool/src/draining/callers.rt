@@ -6,8 +6,7 @@
 ghost use Rattle.std.specs.Prelude.{◌≡◌, ◌≢◌, ◌≤◌, ◌<◌, ◌↔◌, [], All, IfSome, IfNone, IsTrue, None, length, map, slice_index_or, vec_capacity};
 ghost use Rattle.resil_lock.specs.declared.protocol.Phase.TheVariants.{Holding};
 ghost use Rattle.resil_pool.specs.Parts.{CallerView};
-ghost use Rattle.resil_pool.specs.Draining.Report.{AreNumbered};
-ghost use Rattle.resil_pool.specs.Draining.Receipts.{IsGathered};
+ghost use Rattle.resil_pool.specs.Draining.{AreNumbered, IsGathered};
 
 use crate::lock::{Lock, LockSeat};
 use crate::parts::Caller;

@@ -7,9 +7,8 @@
 ghost use Rattle.std.specs.Prelude.{◌≡◌, ◌↔◌, ◌≤◌, All, map, length, IsTrue};
 ghost use Rattle.resil_rule.specs.History.{submissions};
 ghost use Rattle.resil_pool.specs.Parts.{submit_of};
-ghost use Rattle.resil_pool.specs.Draining.Report.{AreSubmissions};
-ghost use Rattle.resil_pool.specs.Lock.LoggedEvent.{NamesCaller};
-ghost use Rattle.resil_pool.specs.Draining.Receipts.{IsOfPlanOn, HasNumberedReceipt, AgreeWithReceipts};
+ghost use Rattle.resil_pool.specs.Draining.{AreSubmissions, IsOfPlanOn, HasNumberedReceipt, AgreeWithReceipts};
+ghost use Rattle.resil_pool.specs.Lock.{NamesCaller};
 
 use crate::receipt::Receipt;
 use crate::submit::is_submission_of;

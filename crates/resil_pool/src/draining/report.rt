@@ -4,13 +4,9 @@
 //! differ there is no report. Plans aren't compared: they are known to be those on the receipts.
 
 ghost use Rattle.std.specs.Prelude.{◌≡◌, ◌≤◌, ◌↔◌, List, All, IsTrue, IfOk, length, map};
-ghost use Rattle.resil_rule.specs.Admission.{IsLegal};
-ghost use Rattle.resil_admission.specs.MachineView.{AllDone, AreResultsOf};
-ghost use Rattle.resil_admission.specs.declared.row.Row.{Row};
-ghost use Rattle.resil_pool.specs.Draining.Report.{AreSubmissions, AreCollected};
-ghost use Rattle.resil_pool.specs.Draining.Receipts.{IsOfPlanOn, AgreeWithReceipts};
-ghost use Rattle.resil_pool.specs.Lock.LoggedEvent.{NamesCaller};
-ghost use Rattle.resil_pool.specs.Draining.{IsPartMissing, IsStranger, IsReceiptsDiffer, IsDrainError, Differ};
+ghost use Rattle.resil_pool.specs.Words.{IsLegal, AllDone, AreResultsOf, Row};
+ghost use Rattle.resil_pool.specs.Draining.{AreSubmissions, AreCollected, IsOfPlanOn, AgreeWithReceipts, IsPartMissing, IsStranger, IsReceiptsDiffer, IsDrainError, Differ};
+ghost use Rattle.resil_pool.specs.Lock.{NamesCaller};
 
 use crate::draining::receipts::agree_with_receipts;
 use crate::parts::{Caller, Closer, WorkerEnd};

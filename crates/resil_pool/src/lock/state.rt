@@ -1,7 +1,7 @@
 //! What lies under the lock: the machine, and what the last turn wrote.
 ghost use Rattle.std.specs.Prelude.{◌≡◌, Some, None};
 ghost use Rattle.std.specs.Bool.{OnTrue, OnFalse};
-ghost use Rattle.resil_pool.specs.Lock.Protocol.{plain};
+ghost use Rattle.resil_pool.specs.Lock.{plain};
 
 use crate::lock::logged_event::{LoggedEvent, Note};
 use crate::lock::opening::Opening;
@@ -51,8 +51,7 @@ pub(crate) fn note_if(written: bool, note: Note) -> Option<Written>
 }
 
 impl Guarded for BoxedState {
-    ghost use Rattle.resil_pool.specs.Lock.LoggedEvent.{is_own};
-    ghost use Rattle.resil_pool.specs.Lock.Protocol.{StandsFor, MayHaveWritten, told};
+    ghost use Rattle.resil_pool.specs.Lock.{is_own, StandsFor, MayHaveWritten, told};
 
     type Key = Opening;
 

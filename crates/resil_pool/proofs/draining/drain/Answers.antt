@@ -2,12 +2,10 @@
 use Rattle.std.proofs.Common.{◌≡◌, ℕ, true, false, refl, sym, ap, ◌∙◌, subst, arith, rules}
 use Rattle.std.specs.Prelude.{All}
 use Rattle.resil_pool.specs.Words.{IsPrefix, is_closed}
-use Rattle.resil_pool.specs.Lock.LoggedEvent.{AllNameCallers, events_in}
-use Rattle.resil_pool.specs.Lock.Turn.{PoolId}
+use Rattle.resil_pool.specs.Lock.{AllNameCallers, events_in, PoolId}
 use Rattle.resil_pool.specs.Pool.{PoolView}
 use Rattle.resil_pool.specs.Parts.{SeatView}
-use Rattle.resil_pool.specs.Draining.{HasRefused, Ended}
-use Rattle.resil_pool.specs.Draining.Report.{AreNumbered}
+use Rattle.resil_pool.specs.Draining.{HasRefused, Ended, AreNumbered}
 use Rattle.resil_pool.proofs.ReceiptLaws.{stranger_causes, differ_causes}
 use Rattle.resil_pool.proofs.JoinedCallers.{gathered_count, each_begins, events_begin, of_report, still_closed, still_submissions}
 use Rattle.std.proofs.lemmas.List.{length-map}

@@ -1,7 +1,7 @@
 -- A run that is accepted is kept, and one more finish stands in the history.
 use Rattle.std.proofs.Common.{◌≡◌, true, false, List, Some, refl, sym, ◌∙◌, ap, subst}
 use Rattle.resil_pool.specs.Words.{PlanView, plan_of, Accepted}
-use Rattle.resil_pool.specs.Draining.Remaining.{HasRunOn}
+use Rattle.resil_pool.specs.Draining.{HasRunOn}
 use Rattle.resil_pool.proofs.RemainingLaws.{left_by_pick, ran_on, ran_one_more, is_out, picked_out, finished_out}
 use Rattle.resil_pool.proofs.draining.run_remaining.Goals as goal
 

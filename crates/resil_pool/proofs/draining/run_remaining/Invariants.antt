@@ -1,7 +1,7 @@
 -- The runs so far were made with the permitter, and the machine keeps them.
 use Rattle.std.proofs.Common.{◌≡◌, ℕ, List}
 use Rattle.resil_admission.specs.declared.row.Row.{Row}
-use Rattle.resil_pool.specs.Draining.Remaining.{HasRunOn, Ran}
+use Rattle.resil_pool.specs.Draining.{HasRunOn, Ran}
 use Rattle.resil_pool.proofs.RemainingLaws.{IsInOrder}
 use Rattle.resil_pool.proofs.draining.run_remaining.Given as goal
 

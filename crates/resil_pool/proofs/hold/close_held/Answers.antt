@@ -3,7 +3,7 @@ use Rattle.std.proofs.Common.{rules, sym, ap, ◌∙◌, subst}
 use Rattle.resil_rule.specs.History.{is_closed}
 use Rattle.resil_pool.specs.Parts.{SeatView}
 use Rattle.resil_pool.specs.Hold.{TellsOfRows}
-use Rattle.resil_pool.specs.Lock.Turn.{SeesClosing, WroteCloseAtMost}
+use Rattle.resil_pool.specs.Lock.{SeesClosing, WroteCloseAtMost}
 use Rattle.resil_pool.proofs.HoldLaws.{begins_after, told_of_rows}
 use Rattle.resil_pool.proofs.TurnLaws.{acted, gives, turned, may-close, home-now, sees-closing, wrote-closing, closer-stays, same-source}
 use Rattle.resil_pool.proofs.hold.close_held.Goals as goal

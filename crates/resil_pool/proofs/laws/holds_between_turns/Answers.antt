@@ -1,7 +1,6 @@
 -- What holds of any lock between any two steps gives each part of the law.
 use Rattle.resil_lock.proofs.BetweenSteps.{between-steps}
-use Rattle.resil_pool.specs.Lock.LoggedEvent.{is_own}
-use Rattle.resil_pool.specs.Lock.Protocol.{StandsFor, MayHaveWritten}
+use Rattle.resil_pool.specs.Lock.{is_own, StandsFor, MayHaveWritten}
 use Rattle.resil_pool.proofs.BetweenTurns.{holds_between_turns}
 use Rattle.resil_pool.proofs.laws.holds_between_turns.Goals as goal
 

@@ -3,8 +3,7 @@ use Rattle.std.proofs.Common.{◌≡◌, ◌+◌, ℕ, [], ◌∷◌, ◌++◌, 
 use Rattle.std.proofs.lemmas.List.FromFn.{length-map-range_with_len, map-range_with_len_more}
 use Rattle.resil_pool.specs.Parts.{caller_view, new_caller}
 use Rattle.resil_lock.specs.Lock.{made_one, member_view}
-use Rattle.resil_pool.specs.Lock.Protocol.{LockSeatState, closer_view}
-use Rattle.resil_pool.specs.Lock.Turn.{pool_id}
+use Rattle.resil_pool.specs.Lock.{LockSeatState, closer_view, pool_id}
 use Rattle.resil_pool.proofs.pool.make_callers.Goals as goal
 
 pub admit-requires : goal.admit-requires

@@ -1,8 +1,7 @@
 -- So many callers are made, and the closer's seat knows it.
 use Rattle.std.proofs.Common.{◌≡◌, ◌+◌, []}
 use Rattle.std.specs.Prelude.{vec_capacity}
-use Rattle.resil_pool.specs.Lock.Protocol.{closer_view}
-use Rattle.resil_pool.specs.Lock.Turn.{pool_id}
+use Rattle.resil_pool.specs.Lock.{closer_view, pool_id}
 use Rattle.resil_pool.specs.Parts.{new_callers}
 use Rattle.resil_pool.proofs.pool.make_callers.Given as goal
 

@@ -1,8 +1,7 @@
 -- A new machine stands for the empty log.
 use Rattle.std.proofs.Common.{◌≡◌, [], map, ap, inl, refl, sym, arith, rules}
 use Rattle.resil_pool.specs.Words.{MachineView, Opening}
-use Rattle.resil_pool.specs.Lock.LoggedEvent.{plan_entry}
-use Rattle.resil_pool.specs.Lock.Protocol.{IsMachineOf, starts_of}
+use Rattle.resil_pool.specs.Lock.{plan_entry, IsMachineOf, starts_of}
 use Rattle.resil_pool.proofs.NamedCallers.{opening_names}
 use Rattle.resil_pool.proofs.pool.make_lock.Goals as goal
 

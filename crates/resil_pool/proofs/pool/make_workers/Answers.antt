@@ -1,6 +1,6 @@
 -- A member's seat has a number, and has picked and ended no job.
 use Rattle.std.proofs.Common.{inr, refl, ap, ◌∙◌, arith}
-use Rattle.resil_pool.specs.Lock.Protocol.{LockSeatState}
+use Rattle.resil_pool.specs.Lock.{LockSeatState}
 use Rattle.resil_pool.proofs.pool.make_workers.Goals as goal
 
 pub admit-requires : goal.admit-requires

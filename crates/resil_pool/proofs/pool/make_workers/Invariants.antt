@@ -1,8 +1,7 @@
 -- So many workers are made.
 use Rattle.std.proofs.Common.{◌≡◌, [], replicate}
 use Rattle.std.specs.Prelude.{vec_capacity}
-use Rattle.resil_pool.specs.Lock.Protocol.{closer_view}
-use Rattle.resil_pool.specs.Lock.Turn.{pool_id}
+use Rattle.resil_pool.specs.Lock.{closer_view, pool_id}
 use Rattle.resil_pool.specs.Parts.{new_worker}
 use Rattle.resil_pool.proofs.pool.make_workers.Given as goal
 

@@ -2,8 +2,7 @@
 use Rattle.std.proofs.Common.{◌≡◌, ◌≢◌, ◌+◌, ◌<◌, List, length, get_or, sym, ap, ◌∙◌, subst, arith}
 use Rattle.std.specs.Prelude.{All}
 use Rattle.resil_pool.specs.Words.{IsPrefix, LoggedEvent, Receipt}
-use Rattle.resil_pool.specs.Lock.LoggedEvent.{own_in}
-use Rattle.resil_pool.specs.Lock.Protocol.{LockSeatState}
+use Rattle.resil_pool.specs.Lock.{own_in, LockSeatState}
 use Rattle.resil_pool.specs.Parts.{CallerView}
 use Rattle.resil_pool.proofs.JoinedCallers.{HasItsSubmissions, SoFar, so_far_next, still_there, all_gathered, list_count, all_left, mapped_push}
 use Rattle.resil_pool.proofs.Logs.{numbering}

@@ -2,7 +2,7 @@
 use Rattle.std.proofs.Common.{◌≡◌, ◌≤◌, ℕ, map}
 use Rattle.resil_rule.specs.History.{submissions}
 use Rattle.resil_pool.specs.Parts.{submit_of}
-use Rattle.resil_pool.specs.Draining.Report.{receipts_at}
+use Rattle.resil_pool.specs.Draining.{receipts_at}
 use Rattle.resil_pool.proofs.draining.receipts.all_submissions.Given as goal
 
 abbrev pub invariant-loop-place : goal.invariant-loop-place

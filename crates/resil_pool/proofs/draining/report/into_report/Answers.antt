@@ -2,7 +2,7 @@
 use Rattle.std.proofs.Common.{◌≡◌, true, false, List, map, refl, sym, ap, subst, ◌∙◌, rules}
 use Rattle.std.specs.Prelude.{All}
 use Rattle.resil_pool.specs.Words.{accepted, AreResultsOf, Row, Event, Receipt}
-use Rattle.resil_pool.specs.Draining.Receipts.{IsOfPlanOn, HasReceipt, AgreeWithReceipts}
+use Rattle.resil_pool.specs.Draining.{IsOfPlanOn, HasReceipt, AgreeWithReceipts}
 use Rattle.resil_pool.proofs.ReceiptLaws.{collected, differ}
 use Rattle.resil_pool.proofs.draining.report.into_report.Goals as goal
 

@@ -1,9 +1,11 @@
 -- The turn of a look.
-use Rattle.std.proofs.Common.{List, ◌∙◌, subst, rules}
+use Rattle.std.proofs.Common.{List, map, sym, ap, ◌∙◌, subst, rules}
 use Rattle.resil_pool.specs.Words.{Sizes, Event}
+use Rattle.resil_pool.specs.Lock.{plan_entry}
 use Rattle.resil_pool.specs.Worker.{IsAtEnd}
+use Rattle.resil_pool.proofs.RemainingLaws.{left_by_pick}
 use Rattle.resil_pool.proofs.TurnLaws.{acted, gives, turned, ends-none, home-now, took-turn}
-use Rattle.resil_pool.proofs.WorkerLaws.{look-quiet, on_found, on_nothing, on_exit, found_in_log, took-most, took-none, picked-one, picked-none, ended-none}
+use Rattle.resil_pool.proofs.WorkerLaws.{look-quiet, on_found, on_nothing, on_over, took-most, took-none, picked-one, picked-none, ended-none}
 use Rattle.resil_pool.proofs.pool.Pool.look.Goals as goal
 
 pub release-requires : goal.release-requires
@@ -22,10 +24,10 @@ returns g c =
       source = c.release.ensures.source ∙ c.take-state.ensures.source;
       turn = took-turn turn quiet.own;
       ends_none = ended-none turn quiet;
-      takes = on_found look _ _ (λ id job takes. took-most turn id takes) l.picks;
+      takes = on_found look _ _ (λ picked takes. took-most turn picked.0 takes) l.picks;
       takes_none = on_nothing look _ _ (took-none turn) l.rests;
-      picks = on_found look _ _ (λ id job takes. picked-one turn id takes) l.picks;
+      picks = on_found look _ _ (λ picked takes. picked-one turn picked.0 takes) l.picks;
       picks_none = on_nothing look _ _ (picked-none turn) l.rests;
-      found = found_in_log c.release.new.seat.me.0.seen c.deref_mut.result.now.machine c.look-look.new.self.machine look home.plans l.found;
-      left = on_exit look _ _ (subst (λ (y : Sizes × List Event). IsAtEnd y.0 y.1) (λ i. (home.sized i, home.history i))) l.left;
+      found = on_found look _ _ (λ picked f. record { jobs = c.deref_mut.result.now.machine.jobs; kept = ap (map plan_entry) (sym (left_by_pick _ c.look-look.new.self.machine picked.0 f.0).jobs) ∙ home.plans; there = f.1 }) l.found;
+      left = on_over look _ _ (subst (λ (y : Sizes × List Event). IsAtEnd y.0 y.1) (λ i. (home.sized i, home.history i))) l.left;
     }

@@ -5,8 +5,7 @@ use Rattle.std.specs.Result.{IsErrOf}
 use Rattle.std.proofs.lemmas.Result.{on_ok_weaker, on_err_weaker}
 use Rattle.resil_rule.specs.Limits.{IsCore, AreSizesWithin}
 use Rattle.resil_pool.specs.Words.{Sizes, Resized}
-use Rattle.resil_pool.specs.Lock.LoggedEvent.{log_event}
-use Rattle.resil_pool.specs.Lock.Turn.{PoolId}
+use Rattle.resil_pool.specs.Lock.{log_event, PoolId}
 use Rattle.resil_pool.specs.Parts.{CallerView}
 use Rattle.resil_pool.specs.declared.resize.ResizeError.TheVariants as refused
 use Rattle.resil_pool.specs.Resize.{SeesResize}

@@ -2,7 +2,7 @@
 use Rattle.std.proofs.Common.{◌≡◌, ◌+◌, List, [], ◌∷◌, ◌++◌, map, length, sym, ap, ◌∙◌, subst, rules, ℕ}
 use Rattle.resil_pool.specs.declared.receipt.Ticket.{Ticket}
 use Rattle.resil_pool.specs.declared.receipt.Receipt.{Receipt}
-use Rattle.resil_pool.specs.Lock.LoggedEvent.{own_in, SeesOwn}
+use Rattle.resil_pool.specs.Lock.{own_in, SeesOwn}
 use Rattle.resil_pool.specs.Parts.{CallerView, IsCaller, submission_id, receipt_of, submission_of}
 use Rattle.resil_pool.proofs.TurnLaws.{has-turn, acted, gives, turned, same-source}
 use Rattle.resil_pool.proofs.Submissions.{submission-moved, submission-may, caller-after, caller-same, caller-saw, caller-saw-more, caller-wrote, caller-wrote-none, right_number, refused_for_memory}

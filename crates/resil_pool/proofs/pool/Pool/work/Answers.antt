@@ -3,7 +3,7 @@ use Rattle.std.proofs.Common.{rules, ◌≡◌, List, None, subst, sym}
 use Rattle.resil_pool.specs.declared.lock.logged_event.LoggedEvent.{LoggedEvent}
 use Rattle.resil_pool.specs.Parts.{SeatView}
 use Rattle.resil_pool.specs.Worker.{HasRunTakes, takes_in}
-use Rattle.resil_pool.specs.Lock.LoggedEvent.{runs_in}
+use Rattle.resil_pool.specs.Lock.{runs_in}
 use Rattle.resil_pool.proofs.pool.Pool.work.Goals as goal
 
 pub returns-clause-takes : goal.returns-clause-takes

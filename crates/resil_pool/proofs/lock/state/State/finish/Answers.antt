@@ -2,7 +2,7 @@
 use Rattle.std.proofs.Common.{◌≡◌, true, false, ap, ◌∙◌}
 use Rattle.resil_pool.specs.Words.{Finish, MachineView}
 use Rattle.resil_pool.specs.declared.lock.logged_event.Note.TheVariants as note
-use Rattle.resil_pool.specs.Lock.LoggedEvent.{run_of}
+use Rattle.resil_pool.specs.Lock.{run_of}
 use Rattle.resil_pool.proofs.RemainingLaws.{run_of-with_run}
 use Rattle.resil_pool.proofs.MachineCalls.{moved-one, finish-step, finish-told}
 use Rattle.resil_pool.proofs.lock.state.State.finish.Goals as goal
