@@ -11,7 +11,7 @@ use Rattle.resil_pool.specs.Words.{PlanView, Sizes, submissions, IsAllowed, AreA
 use Rattle.resil_pool.specs.declared.lock.logged_event.Note.TheVariants as note
 use Rattle.resil_pool.specs.Lock.{NamesCaller, AllNameCallers, events_in, closer_number, is_own_note, event_of, accepted_of, own_in, plans_in, plan_entry, MatchesLog}
 use Rattle.resil_pool.specs.Parts.{CallerView, submit_of, submission_of}
-use Rattle.resil_pool.specs.Draining.{receipts_at, AreLogged, IsGathered, IsOfPlanOn, HasReceipt, AgreeWithReceipts, with_runs}
+use Rattle.resil_pool.specs.Draining.{receipts_at, AreLogged, IsGathered, IsOfPlanOn, HasNumberedReceipt, HasReceipt, AgreeWithReceipts, with_runs}
 use Rattle.resil_pool.specs.NamedCallers.{KeepsNames}
 use Rattle.resil_pool.proofs.Logs.{own_in-append, events_in-append}
 use Rattle.resil_pool.proofs.MachineCalls.{filed-with_run}
@@ -20,12 +20,8 @@ use Rattle.resil_pool.proofs.JoinedCallers.{at_place, still_submissions}
 
 -- the plan of an accepted job stands on the receipt of its submission
 record EntryHasReceipt (lists : List (List Receipt)) (entry : Id × Option PlanView) : Type 0 where
-  pub from : 1 ≤ entry.0.caller
-  pub counted : 1 ≤ entry.0.number
-  pub receipt : Receipt
-  pub there : slice_get (receipts_at lists entry.0.caller) (entry.0.number - 1) ≡ Some receipt
-  pub number : receipt.number ≡ entry.0.number
-  pub plan : entry.1 ≡ Some receipt.plan
+  pub numbered : HasNumberedReceipt lists entry.0
+  pub plan : entry.1 ≡ Some numbered.receipt.plan
 
 -- what stands in a log at this place is the submission of the receipt at that place
 record IsReceiptAt (caller : ℕ) (receipts : List Receipt) (place : ℕ) (n : LoggedEvent) : Type 0 where
@@ -69,11 +65,13 @@ module _ (limits : Sizes) (callers : ℕ) (log : List LoggedEvent) (lists : List
       ap length (submissions_of_entries id.caller before first apart told) ∙ (length-map first (submit_of id.caller) ∙ (sym (length-map first (submission_of id.caller)) ∙ ap length (sym told))) in
       let next = allowed.0 in
       let place : id.number - 1 ≡ length (own_in id.caller before) = omega arith in record {
-        from = low;
-        counted = omega arith;
-        receipt = at.receipt;
-        there = ap (slice_get (receipts_at lists id.caller)) place ∙ at.there;
-        number = ap (λ (x : LoggedEvent). number_of x.note) at.is ∙ ap number_of event;
+        numbered = record {
+          from = low;
+          counted = omega arith;
+          receipt = at.receipt;
+          there = ap (slice_get (receipts_at lists id.caller)) place ∙ at.there;
+          number = ap (λ (x : LoggedEvent). number_of x.note) at.is ∙ ap number_of event;
+        };
         plan = sym (ap (λ (x : LoggedEvent). x.plan) at.is);
       }
 
@@ -108,18 +106,8 @@ rows_have : (lists : List (List Receipt)) (jobs : List Accepted) (rows : List Ro
 rows_have lists [] [] h all = All-nil (HasReceipt lists)
 rows_have lists (job ∷ jobs) (row ∷ rows) h all =
     let e = All-head (EntryHasReceipt lists) (plan_entry job) (map plan_entry jobs) all in
-    let same : job.id ≡ row.id = sym h.0.id in
-    All-cons (HasReceipt lists) row rows
-    (record {
-      numbered = record {
-        from = subst (λ (i : Id). 1 ≤ i.caller) same e.from;
-        counted = subst (λ (i : Id). 1 ≤ i.number) same e.counted;
-        receipt = e.receipt;
-        there = subst (λ (i : Id). slice_get (receipts_at lists i.caller) (i.number - 1) ≡ Some e.receipt) same e.there;
-        number = e.number ∙ ap (λ (i : Id). i.number) same;
-      };
-      plan = h.0.plan ∙ same_Some job.plan e.receipt.plan e.plan;
-    })
+    let here : EntryHasReceipt lists (row.id, Some job.plan) = subst (λ (id : Id). EntryHasReceipt lists (id, Some job.plan)) (sym h.0.id) e in
+    All-cons (HasReceipt lists) row rows (record { numbered = here.numbered; plan = h.0.plan ∙ same_Some job.plan here.numbered.receipt.plan here.plan })
     (rows_have lists jobs rows h.1 (All-tail (EntryHasReceipt lists) (plan_entry job) (map plan_entry jobs) all))
 rows_have lists _ _ h all = absurd h
 

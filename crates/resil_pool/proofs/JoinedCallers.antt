@@ -6,7 +6,7 @@ use Rattle.std.specs.List.Sorted.{IsPermutation}
 use Rattle.std.proofs.lemmas.Result.{IfOk-weaker}
 use Rattle.std.proofs.lemmas.List.{map-append, map-id, length-map, nil_from_length}
 use Rattle.std.proofs.Math.ListN.{get_or-map}
-use Rattle.std.proofs.lemmas.List.Elements.{All-append, All-nil, All-push}
+use Rattle.std.proofs.lemmas.List.Elements.{All-append, All-push}
 use Rattle.std.proofs.lemmas.List.FromFn.{length-range_with_len, get_or-range_with_len, map-range_with_len_more}
 use Rattle.std.proofs.lemmas.List.Sorted.{IsPermutation-sym, IsPermutation-trans, IsPermutation-to_front, IsPermutation-append_left, IsPermutation-swap_remove, All-permutation, length_permutation}
 use Rattle.resil_pool.specs.Words.{IsPrefix, LoggedEvent, Receipt, is_close, is_closed, submissions, Event}
@@ -22,9 +22,10 @@ use Rattle.resil_permit.proofs.Log.Prefixes.{prefix_trans}
 abbrev pub numbers_of : List CallerView → List ℕ
 numbers_of callers = map (λ c. c.number) callers
 
--- the caller's submissions in what was seen are those on its receipts, with their plans
-abbrev pub HasItsSubmissions : List LoggedEvent → CallerView → Type 0
-HasItsSubmissions seen c = own_in c.number seen ≡ map (submission_of c.number) c.receipts
+-- what was seen begins with what the caller had seen, and the caller's submissions there are those on its receipts, with their plans
+pub record IsJoined (seen : List LoggedEvent) (c : CallerView) : Type 0 where
+  pub begins : IsPrefix c.seen seen
+  pub own : own_in c.number seen ≡ map (submission_of c.number) c.receipts
 
 -- the callers with the numbers from 1 to so many are out, in order
 pub record SoFar (initial callers : List CallerView) (below : ℕ) (seen : List LoggedEvent) (lists : List (List Receipt)) : Type 0 where
@@ -32,18 +33,15 @@ pub record SoFar (initial callers : List CallerView) (below : ℕ) (seen : List 
   pub same : IsPermutation initial (callers ++ done)
   pub numbered : numbers_of done ≡ range_with_len 1 below
   pub told : lists ≡ map (λ c. c.receipts) done
-  pub begins : All (λ c. IsPrefix c.seen seen) done
-  pub submissions : All (HasItsSubmissions seen) done
+  pub joined : All (IsJoined seen) done
 
 one_more : (n : ℕ) → range_with_len 1 (n + 1) ≡ range_with_len 1 n ++ (n + 1) ∷ []
 one_more n = sym (map-id (range_with_len 1 (n + 1))) ∙ (map-range_with_len_more (λ x. x) 1 n (n + 1) (omega arith) ∙ ap (λ (xs : List ℕ). xs ++ (n + 1) ∷ []) (map-id (range_with_len 1 n)))
 
 pub so_far_next : (initial callers rest : List CallerView) (below : ℕ) (seen : List LoggedEvent) (lists : List (List Receipt)) (place : ℕ) (x : CallerView) → SoFar initial callers below seen lists
-    → place < length callers → x ≡ get_or callers place x → rest ≡ swap_remove callers place x → x.number ≡ below + 1 → IsPrefix x.seen seen → HasItsSubmissions seen x
+    → place < length callers → x ≡ get_or callers place x → rest ≡ swap_remove callers place x → x.number ≡ below + 1 → IsJoined seen x
     → SoFar initial rest (below + 1) seen (lists ++ x.receipts ∷ [])
-so_far_next initial callers rest below seen lists place x s inside here is number begins mine =
-    let P : CallerView → Type 0 = λ c. IsPrefix c.seen seen in
-    let Q : CallerView → Type 0 = HasItsSubmissions seen in
+so_far_next initial callers rest below seen lists place x s inside here is number joined =
     let out : IsPermutation callers (x ∷ rest) = subst (λ (xs : List CallerView). IsPermutation callers (x ∷ xs)) (sym is) (IsPermutation-swap_remove callers place x inside here) in
     let moved : IsPermutation (callers ++ s.done) ((x ∷ rest) ++ s.done) = IsPermutation-append_left s.done callers (x ∷ rest) out in
     let last : IsPermutation (x ∷ (rest ++ s.done)) ((rest ++ s.done) ++ x ∷ []) = IsPermutation-sym ((rest ++ s.done) ++ x ∷ []) (x ∷ (rest ++ s.done)) (IsPermutation-to_front (rest ++ s.done) x) in
@@ -52,8 +50,7 @@ so_far_next initial callers rest below seen lists place x s inside here is numbe
       same = subst (λ (xs : List CallerView). IsPermutation initial xs) (append_assoc rest s.done (x ∷ [])) all;
       numbered = map-append (λ c. c.number) s.done (x ∷ []) ∙ ((λ i. s.numbered i ++ number i ∷ []) ∙ sym (one_more below));
       told = ap (λ (xs : List (List Receipt)). xs ++ x.receipts ∷ []) s.told ∙ sym (map-append (λ c. c.receipts) s.done (x ∷ []));
-      begins = All-append P s.done (x ∷ []) s.begins (All-push P [] x (All-nil P) begins);
-      submissions = All-append Q s.done (x ∷ []) s.submissions (All-push Q [] x (All-nil Q) mine);
+      joined = All-push (IsJoined seen) s.done x s.joined joined;
     }
 
 pub done_length : (initial callers : List CallerView) (below : ℕ) (seen : List LoggedEvent) (lists : List (List Receipt)) → (s : SoFar initial callers below seen lists) → length s.done ≡ below
@@ -102,15 +99,15 @@ still_there initial callers count below seen lists all s less gone =
         let number = number_at s.done below s.numbered k d h in omega arith
 
 -- so the submissions of each number are those on the receipts at its place
-logged_in_order : (done : List CallerView) (below : ℕ) (seen : List LoggedEvent) (lists : List (List Receipt)) → numbers_of done ≡ range_with_len 1 below → lists ≡ map (λ c. c.receipts) done → All (HasItsSubmissions seen) done → AreLogged seen lists
+logged_in_order : (done : List CallerView) (below : ℕ) (seen : List LoggedEvent) (lists : List (List Receipt)) → numbers_of done ≡ range_with_len 1 below → lists ≡ map (λ c. c.receipts) done → All (IsJoined seen) done → AreLogged seen lists
 logged_in_order done below seen lists numbered told all caller low high =
     let many : length lists ≡ length done = ap length told ∙ length-map done (λ c. c.receipts) in
     let inside : caller - 1 < length done = omega arith in
     let x = at_place done (caller - 1) inside in
     let number : x.0.number ≡ caller = ap (λ (c : CallerView). c.number) (sym x.1) ∙ (number_at done below numbered (caller - 1) x.0 inside ∙ omega arith) in
     let receipts : receipts_at lists caller ≡ x.0.receipts = ap (λ (ls : List (List Receipt)). get_or ls (caller - 1) []) told ∙ at_mapped (λ c. c.receipts) done (caller - 1) x.0 inside (sym x.1) in
-    let own : HasItsSubmissions seen x.0 = subst (HasItsSubmissions seen) x.1 (all (caller - 1) x.0 inside) in
-    subst (λ (n : ℕ). own_in n seen ≡ map (submission_of n) (receipts_at lists caller)) number (own ∙ ap (map (submission_of x.0.number)) (sym receipts))
+    let joined : IsJoined seen x.0 = subst (IsJoined seen) x.1 (all (caller - 1) x.0 inside) in
+    subst (λ (n : ℕ). own_in n seen ≡ map (submission_of n) (receipts_at lists caller)) number (joined.own ∙ ap (map (submission_of x.0.number)) (sym receipts))
 
 -- when all are out, the receipts are in order
 pub all_gathered : (initial callers : List CallerView) (count below : ℕ) (seen : List LoggedEvent) (lists : List (List Receipt)) → AreNumbered count initial → below ≡ count → SoFar initial callers below seen lists → IsGathered initial seen lists
@@ -121,10 +118,10 @@ all_gathered initial callers count below seen lists all end so_far =
     let sum : length (callers ++ s.done) ≡ length callers + length s.done = length-append callers s.done in
     let many = all.as_many in
     let none : callers ≡ [] = nil_from_length callers (omega arith) in
-    let logged : AreLogged seen lists = logged_in_order s.done count seen lists s.numbered s.told s.submissions in
+    let logged : AreLogged seen lists = logged_in_order s.done count seen lists s.numbered s.told s.joined in
     let same : IsPermutation initial s.done = subst (λ (xs : List CallerView). IsPermutation initial (xs ++ s.done)) none s.same in record {
       told = record { in_order = s.done; same = same; numbered = s.numbered ∙ ap (range_with_len 1) (sym done); handed_in = s.told };
-      begins = All-permutation (λ c. IsPrefix c.seen seen) s.done initial (IsPermutation-sym initial s.done same) s.begins;
+      begins = All-permutation (λ c. IsPrefix c.seen seen) s.done initial (IsPermutation-sym initial s.done same) (λ k d h. (s.joined k d h).begins);
       submissions = λ caller low high. submissions_of_entries caller seen (receipts_at lists caller) (λ first. absurd (omega (arith, low, first))) (logged caller low high);
       logged = logged;
     }

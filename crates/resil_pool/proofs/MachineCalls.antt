@@ -1,6 +1,6 @@
 -- What the acts of the state write.
 use Rattle.std.proofs.Common.{◌≡◌, ◌<◌, ⊎_elim, inl, inr, ℕ, Bool, true, false, ◌||◌, cond, List, [], ◌∷◌, ◌++◌, map, length, refl, sym, ap, ◌∙◌, subst, append-nil, length-append, arith, Option, Some, None}
-use Rattle.std.specs.Prelude.{◌↔◌, IsTrue, slice_get, option_map}
+use Rattle.std.specs.Prelude.{◌↔◌, IsTrue, slice_get, option_map, if◌then◌else◌}
 use Rattle.std.specs.Bool.{OnTrue, OnFalse}
 use Rattle.std.proofs.lemmas.Bool.{true_from_ne_false}
 use Rattle.std.proofs.lemmas.Option.{none-some}
@@ -88,45 +88,40 @@ finish_with id kept = record { note = note.Event (Finish id); plan = None; ended
 pub finish-told : (jobs : List Accepted) (id : Id) (run : RunView) (last : Option Written) → last ≡ Some (plain (note.Event (Finish id))) → run_of jobs id ≡ Some run → entries_of jobs last ≡ finish_of id run ∷ []
 finish-told jobs id run last is kept = ap (entries_of jobs) is ∙ ap (finish_with id) kept
 
+-- an event that is no submission and no finish was written, and noted, or neither
+pub record Noted (event : Event) (old new : MachineView) (last : Option Written) : Type 0 where
+  pub wrote : IsMoved old (entries_of new.jobs last) new
+  pub most : WritesAtMost event (entries_of new.jobs last)
+
+pub as_noted : (event : Event) (written : Bool) (old new : MachineView) (last : Option Written) → plans_in (log_event None event ∷ []) ≡ [] → ((jobs : List Accepted) → entries_of jobs (Some (plain (note.Event event))) ≡ log_event None event ∷ []) → (IsTrue written → IsAllowed old.limits old.history event)
+    → OnTrue written (new ≡ with_event old event) → OnFalse written (new ≡ old) → last ≡ (if written then Some (plain (note.Event event)) else None) → Noted event old new last
+as_noted event true old new last none one allowed is _ noted = record { wrote = moved-one old new last (note.Event event) noted (event-step old new event none (allowed refl) is); most = inr (ap (entries_of new.jobs) noted ∙ one new.jobs) }
+as_noted event false old new last none one allowed _ same noted = record { wrote = moved-none old new last noted same; most = inl (ap (entries_of new.jobs) noted) }
+
 -- after an idle end nothing waits
 no_take_after_idle_end : (limits : Sizes) (h : List Event) → IsAllowed limits h IdleEnd → (id : Id) → ¬ IsAllowed limits (h ++ IdleEnd ∷ []) (Take id)
 no_take_after_idle_end limits h allowed id take =
     let none : waiting (h ++ IdleEnd ∷ []) ≡ [] = waiting-same h IdleEnd refl refl ∙ allowed.0 in none-some id (sym (ap (λ (ids : List Id). slice_get ids 0) none) ∙ take.0)
 
 -- what an idle end leaves, whether it was one or not
-pub idle_end_after : (ended : Bool) (old new : MachineView) (last : Option Written) → (IsTrue ended ↔ IsAllowed old.limits old.history IdleEnd) → OnTrue ended (new ≡ with_event old IdleEnd) → OnFalse ended (new ≡ old)
-    → OnTrue ended (last ≡ Some (plain (note.Event IdleEnd))) → OnFalse ended (last ≡ None) → HasNoTake old → EndsIdle old new (entries_of new.jobs last)
-idle_end_after true old new last iff is _ noted _ none =
-    let allowed = iff.0 refl in record {
-      ends = λ _. is;
-      wrote = moved-one old new last (note.Event IdleEnd) noted (event-step old new IdleEnd refl allowed is);
-      rests = inr (ap (entries_of new.jobs) noted);
-      no_take = subst HasNoTake (sym is) (no_take_after_idle_end old.limits old.history allowed);
-      closed = λ shut. ap (λ (m : MachineView). is_closed m.history) is ∙ (list_any-append is_close old.history (IdleEnd ∷ []) ∙ ap (λ (b : Bool). b || false) shut);
-    }
-idle_end_after false old new last iff _ is _ noted none = record {
+pub idle_end_after : (ended : Bool) (old new : MachineView) (last : Option Written) → Noted IdleEnd old new last → (IsTrue ended ↔ IsAllowed old.limits old.history IdleEnd) → OnTrue ended (new ≡ with_event old IdleEnd) → OnFalse ended (new ≡ old) → HasNoTake old
+    → EndsIdle old new (entries_of new.jobs last)
+idle_end_after true old new last noted iff is _ none = record {
+  ends = λ _. is;
+  wrote = noted.wrote;
+  rests = noted.most;
+  no_take = subst HasNoTake (sym is) (no_take_after_idle_end old.limits old.history (iff.0 refl));
+  closed = λ shut. ap (λ (m : MachineView). is_closed m.history) is ∙ (list_any-append is_close old.history (IdleEnd ∷ []) ∙ ap (λ (b : Bool). b || false) shut);
+}
+idle_end_after false old new last noted iff _ is none = record {
   ends = λ allowed. let no : false ≡ true = iff.1 allowed in absurd (cc);
-  wrote = moved-none old new last noted is;
-  rests = inl (ap (entries_of new.jobs) noted);
+  wrote = noted.wrote;
+  rests = noted.most;
   no_take = subst HasNoTake (sym is) none;
   closed = λ shut. ap (λ (m : MachineView). is_closed m.history) is ∙ shut;
 }
 
--- what a closing leaves
-pub record Closes (old new : MachineView) (last : Option Written) : Type 0 where
-  pub wrote : IsMoved old (entries_of new.jobs last) new
-  pub closes : WritesAtMost Close (entries_of new.jobs last)
-  pub closed : is_closed new.history ≡ true
-
-pub close_after : (closes : Bool) (old new : MachineView) (last : Option Written) → (IsTrue closes ↔ (is_closed old.history ≡ false)) → OnTrue closes (new ≡ with_event old Close) → OnFalse closes (new ≡ old)
-    → OnTrue closes (last ≡ Some (plain (note.Event Close))) → OnFalse closes (last ≡ None) → Closes old new last
-close_after true old new last iff is _ noted _ = record {
-  wrote = moved-one old new last (note.Event Close) noted (event-step old new Close refl (iff.0 refl) is);
-  closes = inr (ap (entries_of new.jobs) noted);
-  closed = ap (λ (m : MachineView). is_closed m.history) is ∙ (list_any-append is_close old.history (Close ∷ []) ∙ or-of (is_closed old.history) true refl);
-}
-close_after false old new last iff _ is _ noted = record {
-  wrote = moved-none old new last noted is;
-  closes = inl (ap (entries_of new.jobs) noted);
-  closed = ap (λ (m : MachineView). is_closed m.history) is ∙ true_from_ne_false (is_closed old.history) (λ unclosed. let is_not : false ≡ true = iff.1 unclosed in cc);
-}
+-- a closing was written, or stood there already
+pub closed_after : (closes : Bool) (old new : MachineView) → (IsTrue closes ↔ (is_closed old.history ≡ false)) → OnTrue closes (new ≡ with_event old Close) → OnFalse closes (new ≡ old) → is_closed new.history ≡ true
+closed_after true old new iff is _ = ap (λ (m : MachineView). is_closed m.history) is ∙ (list_any-append is_close old.history (Close ∷ []) ∙ or-of (is_closed old.history) true refl)
+closed_after false old new iff _ is = ap (λ (m : MachineView). is_closed m.history) is ∙ true_from_ne_false (is_closed old.history) (λ unclosed. let is_not : false ≡ true = iff.1 unclosed in cc)

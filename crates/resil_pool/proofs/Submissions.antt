@@ -120,21 +120,18 @@ refused_for_memory machine id cause.WrongNumber is right = absurd (is right)
 refused_for_memory machine id cause.Memory is right = refl
 refused_for_memory machine id _ is right = absurd is
 
+-- what holds of what was written, and of what was written otherwise, holds as the answer says
+as_told : {A E : Type 0} {written other entries : List LoggedEvent} (P : List LoggedEvent → Type 0) (answer : Result A E) → P written → P other → OnOk answer (entries ≡ written) → OnErr answer (entries ≡ other) → P entries
+as_told P (Ok x) p q is _ = subst P (sym is) p
+as_told P (Err x) p q _ is = subst P (sym is) q
+
 -- a resize to these sizes was written, or nothing, as the answer says
 module _ {A E : Type 0} (core max : ℕ) (answer : Result A E) (entries : List LoggedEvent) (one : OnOk answer (entries ≡ log_event None (Resized core max) ∷ [])) (none : OnErr answer (entries ≡ [])) where
   pub resize-may : (old : LockSeatState) → MayHaveWritten old.0.rank old.0.own → old.0.number ≢ closer_number → MayHave old entries
-  resize-may old fits apart = go answer one none
-    where
-      go : (r : Result A E) → OnOk r (entries ≡ log_event None (Resized core max) ∷ []) → OnErr r (entries ≡ []) → MayHave old entries
-      go (Ok x) e _ = subst (MayHave old) (sym e) (ends-none old (log_event None (Resized core max) ∷ []) fits (apart, tt) refl)
-      go (Err x) _ e = subst (MayHave old) (sym e) (ends-none old [] fits tt refl)
+  resize-may old fits apart = as_told (MayHave old) answer (ends-none old (log_event None (Resized core max) ∷ []) fits (apart, tt) refl) (ends-none old [] fits tt refl) one none
 
   pub resize-own : (number : ℕ) → own_in number entries ≡ []
-  resize-own number = go answer one none
-    where
-      go : (r : Result A E) → OnOk r (entries ≡ log_event None (Resized core max) ∷ []) → OnErr r (entries ≡ []) → own_in number entries ≡ []
-      go (Ok x) e _ = ap (own_in number) e
-      go (Err x) _ e = ap (own_in number) e
+  resize-own number = as_told (λ (xs : List LoggedEvent). own_in number xs ≡ []) answer refl refl one none
 
 -- the resize was written
 pub sees-resize : {old : LockSeatState} {m : MachineView} {entries : List LoggedEvent} {m' : MachineView} {new : LockSeatState} (core max : ℕ) → Turned old m entries m' new → entries ≡ log_event None (Resized core max) ∷ []

@@ -1,6 +1,6 @@
 -- What the callers hand in when a pool is drained, and what is compared with their receipts: the history and the results.
 use Rattle.std.specs.Prelude.{◌≡◌, ◌-◌, ◌≤◌, ℕ, List, Some, All, length, map, slice_get}
-use Rattle.resil_pool.specs.Words.{IsPrefix, Event, Row, LoggedEvent, Receipt}
+use Rattle.resil_pool.specs.Words.{Id, IsPrefix, Event, Row, LoggedEvent, Receipt}
 use Rattle.resil_pool.specs.Lock.{NamesCaller, events_in, own_in}
 use Rattle.resil_pool.specs.Parts.{CallerView, submission_of}
 use Rattle.resil_pool.specs.Draining.Report.{receipts_at, AreReceiptsOf, AreSubmissions}
@@ -21,17 +21,17 @@ pub record IsGathered (callers : List CallerView) (seen : List LoggedEvent) (rec
 abbrev pub IsOfPlanOn : List (List Receipt) → Row → Type 0
 IsOfPlanOn receipts row = (receipt : Receipt) → slice_get (receipts_at receipts row.id.caller) (row.id.number - 1) ≡ Some receipt → row.run.plan ≡ receipt.plan
 
--- the receipt of the submission has its number
-pub record HasNumberedReceipt (receipts : List (List Receipt)) (row : Row) : Type 0 where
-  pub from : 1 ≤ row.id.caller
-  pub counted : 1 ≤ row.id.number
+-- the receipt of the submission of this id has its number
+pub record HasNumberedReceipt (receipts : List (List Receipt)) (id : Id) : Type 0 where
+  pub from : 1 ≤ id.caller
+  pub counted : 1 ≤ id.number
   pub receipt : Receipt
-  pub there : slice_get (receipts_at receipts row.id.caller) (row.id.number - 1) ≡ Some receipt
-  pub number : receipt.number ≡ row.id.number
+  pub there : slice_get (receipts_at receipts id.caller) (id.number - 1) ≡ Some receipt
+  pub number : receipt.number ≡ id.number
 
 -- it has the plan that was run too
 pub record HasReceipt (receipts : List (List Receipt)) (row : Row) : Type 0 where
-  pub numbered : HasNumberedReceipt receipts row
+  pub numbered : HasNumberedReceipt receipts row.id
   pub plan : row.run.plan ≡ numbered.receipt.plan
 
 -- the history and the results are what the receipts of this many callers say

@@ -73,7 +73,7 @@ fn all_name_callers(history: &[Event], callers: u16) -> bool
 
 // Whether there is a receipt of the submission of a result, with its number.
 fn has_receipt(row: &Row, receipts: &[Vec<Receipt>]) -> bool
-    ensures { IsTrue result ↔ HasNumberedReceipt (map (λ own. own.items) receipts.now) row.now }
+    ensures { IsTrue result ↔ HasNumberedReceipt (map (λ own. own.items) receipts.now) row.now.id }
 {
     if row.id.caller == 0 || row.id.number == 0 {
         return false;
@@ -90,7 +90,7 @@ fn has_receipt(row: &Row, receipts: &[Vec<Receipt>]) -> bool
 
 // Whether there is a receipt of the submission of each result, with its number.
 fn all_have_receipts(rows: &[Row], receipts: &[Vec<Receipt>]) -> bool
-    ensures { IsTrue result ↔ All (HasNumberedReceipt (map (λ own. own.items) receipts.now)) rows.now }
+    ensures { IsTrue result ↔ All (λ row. HasNumberedReceipt (map (λ own. own.items) receipts.now) row.id) rows.now }
 {
     rows.iter().all(|row| has_receipt(row, receipts))
 }

@@ -1,6 +1,5 @@
 //! What lies under the lock: the machine, and what the last turn wrote.
-ghost use Rattle.std.specs.Prelude.{◌≡◌, Some, None};
-ghost use Rattle.std.specs.Bool.{OnTrue, OnFalse};
+ghost use Rattle.std.specs.Prelude.{◌≡◌, Some, None, if◌then◌else◌};
 ghost use Rattle.resil_pool.specs.Lock.{plain};
 
 use crate::lock::logged_event::{LoggedEvent, Note};
@@ -40,8 +39,7 @@ impl Model for BoxedState {
 
 /// What is noted of an act that wrote this, or nothing.
 pub(crate) fn note_if(written: bool, note: Note) -> Option<Written>
-    ensures noted { OnTrue written (result ≡ Some (plain note)) }
-    ensures nothing { OnFalse written (result ≡ None) }
+    ensures { result ≡ if written then Some (plain note) else None }
 {
     if written {
         Some(Written { note, plan: None })

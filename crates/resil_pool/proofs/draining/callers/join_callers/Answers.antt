@@ -4,7 +4,7 @@ use Rattle.std.specs.Prelude.{All}
 use Rattle.resil_pool.specs.Words.{IsPrefix, LoggedEvent, Receipt}
 use Rattle.resil_pool.specs.Lock.{own_in, LockSeatState}
 use Rattle.resil_pool.specs.Parts.{CallerView}
-use Rattle.resil_pool.proofs.JoinedCallers.{HasItsSubmissions, SoFar, so_far_next, still_there, all_gathered, list_count, all_left, mapped_push}
+use Rattle.resil_pool.proofs.JoinedCallers.{IsJoined, SoFar, so_far_next, still_there, all_gathered, list_count, all_left, mapped_push}
 use Rattle.resil_pool.proofs.Logs.{numbering}
 use Rattle.resil_pool.proofs.Submissions.{entries_of_caller}
 use Rattle.resil_pool.proofs.draining.callers.join_callers.Goals as goal
@@ -36,15 +36,14 @@ loop-below-preserved c =
     let seen = c.args.closer.now.me.0.seen in
     let same : c.loop-below.closer.me.0.seen ≡ seen = ap (λ (k : LockSeatState). k.0.seen) i.same in
     let caller = c.seat.inside in
-    let begins : IsPrefix x.seen seen = subst (λ (y : List LoggedEvent × List LoggedEvent). IsPrefix y.0 y.1) (λ j. (ap (λ (k : CallerView). k.seen) c.seat.view_is j, same j)) joined.begins in
-    let own : HasItsSubmissions seen x = subst (HasItsSubmissions seen) c.seat.view_is (entries_of_caller caller.seat.me caller.number caller.receipts.items seen c.seat.invariant (ap (own_in caller.seat.me.0.number) (sym same) ∙ joined.same_own numbering)) in record {
+    let mine : IsJoined seen x = subst (IsJoined seen) c.seat.view_is (record { begins = subst (IsPrefix caller.seat.me.0.seen) same joined.begins; own = entries_of_caller caller.seat.me caller.number caller.receipts.items seen c.seat.invariant (ap (own_in caller.seat.me.0.number) (sym same) ∙ joined.same_own numbering) }) in record {
       table = joined.source ∙ i.table;
       same = joined.same ∙ i.same;
       sources = all_left (λ k. k.source.table_id ≡ c.args.lock.now.table.shared.table_id) _ _ _ x inside c.swap_remove.ensures.value c.swap_remove.ensures.items i.sources;
       room = c.push_reserved.ensures.capacity ∙ i.room;
       so_far = subst (λ (lists : List (List Receipt)). SoFar c.args.callers.items c.swap_remove.new.self.items (c.loop-below.below + 1) seen lists)
           (sym (mapped_push _ _ _ _ _ c.push_reserved.ensures.items (ap (λ (k : CallerView). k.receipts) c.seat.view_is)))
-          (so_far_next _ _ _ _ _ _ c.in-Some.place x i.so_far inside c.swap_remove.ensures.value c.swap_remove.ensures.items number begins own);
+          (so_far_next _ _ _ _ _ _ c.in-Some.place x i.so_far inside c.swap_remove.ensures.value c.swap_remove.ensures.items number mine);
     }
 
 pub returns-clause-gathered : goal.returns-clause-gathered

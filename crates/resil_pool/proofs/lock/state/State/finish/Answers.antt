@@ -11,8 +11,8 @@ pub unreachable-requires : goal.unreachable-requires
 unreachable-requires c = let no : false ≡ true = c.in-Err.ensures.out.1 (c.requires.out, c.requires.plan) in cc
 
 pub returns-clause-wrote : goal.returns-clause-wrote
-returns-clause-wrote c = moved-one _ _ _ (note.Event (Finish c.args.id)) c.note_if-self.ensures.noted (finish-step _ _ _ _ c.requires.out c.in-Ok.ensures.event)
+returns-clause-wrote c = moved-one _ _ _ (note.Event (Finish c.args.id)) c.note_if-self.ensures (finish-step _ _ _ _ c.requires.out c.in-Ok.ensures.event)
 
 pub returns-clause-kept : goal.returns-clause-kept
 returns-clause-kept c =
-    finish-told _ c.args.id c.args.run _ c.note_if-self.ensures.noted (ap (λ (m : MachineView). run_of m.jobs c.args.id) c.in-Ok.ensures.event ∙ run_of-with_run c.args.self.now.machine.jobs c.args.id _ _ c.requires.plan)
+    finish-told _ c.args.id c.args.run _ c.note_if-self.ensures (ap (λ (m : MachineView). run_of m.jobs c.args.id) c.in-Ok.ensures.event ∙ run_of-with_run c.args.self.now.machine.jobs c.args.id _ _ c.requires.plan)

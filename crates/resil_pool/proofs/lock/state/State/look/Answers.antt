@@ -7,10 +7,10 @@ pub returns-in-Some-clause-wrote : goal.returns-in-Some-clause-wrote
 returns-in-Some-clause-wrote c =
     let before : length c.history-before.result.now ≡ length c.args.self.now.machine.history = search rules in
     let after : length c.history.result.now ≡ length c.pick.new.self.history = search rules in
-    (picked-by _ _ _ _ _ _ _ c.in-Some.ensures.picked before after c.note_of_pick-written.ensures.took c.note_of_pick-written.ensures.started c.note_if-self.ensures.noted).wrote
+    (picked-by _ _ _ _ _ _ _ c.in-Some.ensures.picked before after c.note_of_pick-written.ensures.took c.note_of_pick-written.ensures.started c.note_if-self.ensures).wrote
 
 pub returns-in-Some-clause-picks : goal.returns-in-Some-clause-picks
 returns-in-Some-clause-picks c =
     let before : length c.history-before.result.now ≡ length c.args.self.now.machine.history = search rules in
     let after : length c.history.result.now ≡ length c.pick.new.self.history = search rules in
-    (picked-by _ _ _ _ _ _ _ c.in-Some.ensures.picked before after c.note_of_pick-written.ensures.took c.note_of_pick-written.ensures.started c.note_if-self.ensures.noted).picks
+    (picked-by _ _ _ _ _ _ _ c.in-Some.ensures.picked before after c.note_of_pick-written.ensures.took c.note_of_pick-written.ensures.started c.note_if-self.ensures).picks
