@@ -61,13 +61,7 @@ fn has_refused(ends: &[WorkerEnd]) -> bool
     ensures never { result ≡ false }
     ensures none { ¬ Any (λ e. IsSome e.refused) ends.now }
 {
-    for place in 0..ends.len() {
-        let end = &ends[place];
-        if end.refused.is_some() {
-            return true;
-        }
-    }
-    false
+    ends.iter().any(|end| end.refused.is_some())
 }
 
 /// Drains a pool. Where all its parts are handed in, it closes it if it is open, takes the machine out and joins the callers
