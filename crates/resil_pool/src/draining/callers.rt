@@ -17,13 +17,7 @@ fn find_caller(callers: &[Caller], number: u16) -> Option<usize>
     ensures found { IfSome result (λ place. (place < length callers.now) × ((d : CallerView) → (slice_index_or callers.now place d).number ≡ number)) }
     ensures none { IfNone result (All (λ c. c.number ≢ number) callers.now) }
 {
-    for place in 0..callers.len() {
-        let caller = &callers[place];
-        if caller.number == number {
-            return Some(place);
-        }
-    }
-    None
+    callers.iter().position(|caller| caller.number == number)
 }
 
 // Whether the callers' numbers are 1 to `count`, each once.
