@@ -1,8 +1,8 @@
 -- What callers were told agrees with the history and the results of their pool's machine.
 use Rattle.std.proofs.Common.{◌≡◌, ◌≢◌, ◌≤◌, ◌-◌, ℕ, Bool, cond, List, [], ◌∷◌, ◌++◌, map, take, length, refl, sym, ap, ◌∙◌, subst, arith, append_assoc, append-nil, eq-eqb, get_or, Option, Some}
-use Rattle.std.specs.Prelude.{All, option_map, slice_get}
+use Rattle.std.specs.Prelude.{All, Contains, option_map, slice_get}
 use Rattle.std.specs.List.{cons_option}
-use Rattle.std.proofs.lemmas.List.Elements.{All-nil, All-cons, All-head, All-tail}
+use Rattle.std.proofs.lemmas.List.Elements.{All-nil, All-cons, All-head, All-tail, All-contains, Contains-append_right}
 use Rattle.std.proofs.Math.ListN.{get_or-map}
 use Rattle.std.proofs.lemmas.List.{length-append, length-map, get_or_at, take_at, take-map}
 use Rattle.std.proofs.lemmas.Option.{same_Some, slice_get_read}
@@ -23,48 +23,53 @@ record EntryHasReceipt (lists : List (List Receipt)) (entry : Id × Option PlanV
   pub numbered : HasNumberedReceipt lists entry.0
   pub plan : entry.1 ≡ Some numbered.receipt.plan
 
--- what stands in a log at this place is the submission of the receipt at that place
-record IsReceiptAt (caller : ℕ) (receipts : List Receipt) (place : ℕ) (n : LoggedEvent) : Type 0 where
+-- what stands in a log after these is the submission of the receipt after theirs
+record IsReceiptAfter (caller : ℕ) (receipts : List Receipt) (front : List LoggedEvent) (n : LoggedEvent) : Type 0 where
+  pub first : List Receipt
   pub receipt : Receipt
-  pub there : slice_get receipts place ≡ Some receipt
+  pub told : front ≡ map (submission_of caller) first
+  pub there : slice_get receipts (length first) ≡ Some receipt
   pub is : submission_of caller receipt ≡ n
 
-receipt_at : (caller : ℕ) (receipts : List Receipt) (front back : List LoggedEvent) (n : LoggedEvent) → map (submission_of caller) receipts ≡ front ++ n ∷ back → IsReceiptAt caller receipts (length front) n
-receipt_at caller receipts front back n is =
-    let sum = length-append front (n ∷ back) in
-    let all : length receipts ≡ length (front ++ n ∷ back) = sym (length-map receipts (submission_of caller)) ∙ ap length is in
-    let x = at_place receipts (length front) (omega (arith, sum, all)) in record {
-      receipt = x.0;
-      there = slice_get_read receipts (length receipts) (length front) x.0 refl (omega (arith, sum, all)) (sym x.1);
-      is = sym (ap (submission_of caller) x.1) ∙ (sym (get_or-map (submission_of caller) receipts (length front) x.0)
-          ∙ (ap (λ (xs : List LoggedEvent). get_or xs (length front) (submission_of caller x.0)) is ∙ get_or_at front n back (submission_of caller x.0) (length front) refl));
-    }
+receipt_after : (caller : ℕ) (receipts : List Receipt) (front back : List LoggedEvent) (n : LoggedEvent) → map (submission_of caller) receipts ≡ front ++ n ∷ back → IsReceiptAfter caller receipts front n
+receipt_after caller [] [] back n same = absurd (cc same)
+receipt_after caller [] (x ∷ front) back n same = absurd (cc same)
+receipt_after caller (receipt ∷ receipts) [] back n same = record { first = []; receipt = receipt; told = refl; there = refl; is = cc same }
+receipt_after caller (receipt ∷ receipts) (x ∷ front) back n same =
+    let here : x ≡ submission_of caller receipt = cc same in
+    let tail : map (submission_of caller) receipts ≡ front ++ n ∷ back = cc same in
+    let rest = receipt_after caller receipts front back n tail in
+    record { first = receipt ∷ rest.first; receipt = rest.receipt; told = λ i. here i ∷ rest.told i; there = rest.there; is = rest.is }
+
+-- an event of a legal history was allowed after those before it
+allowed_at : (limits : Sizes) (before front : List Event) (event : Event) (back : List Event) → AreAllowedAfter limits before (front ++ event ∷ back) → IsAllowed limits (before ++ front) event
+allowed_at limits before [] event back legal = subst (λ (h : List Event). IsAllowed limits h event) (sym (append-nil before)) legal.0
+allowed_at limits before (x ∷ front) event back legal = subst (λ (h : List Event). IsAllowed limits h event) (append_assoc before (x ∷ []) front) (allowed_at limits (before ++ x ∷ []) front event back legal.1)
 
 abbrev number_of : Note → ℕ
 number_of (note.Event (Submit id reply)) = id.number
 number_of _ = 0
 
-module _ (limits : Sizes) (callers : ℕ) (log : List LoggedEvent) (lists : List (List Receipt)) (many : length lists ≡ callers) (logged : AreLogged log lists) where
+module _ (limits : Sizes) (callers : ℕ) (log : List LoggedEvent) (lists : List (List Receipt)) (many : length lists ≡ callers) (logged : AreLogged log lists) (legal : IsLegal limits (events_in log)) (names : AllNameCallers callers (events_in log)) where
   -- a submission in the log stands on a receipt of the caller that it names, at its number
-  one_entry : (before after : List LoggedEvent) (n : LoggedEvent) (id : Id) (reply : Reply) → log ≡ before ++ n ∷ after → n.note ≡ note.Event (Submit id reply) → IsAllowed limits (events_in before) (Submit id reply) → NamesCaller callers (Submit id reply)
-      → EntryHasReceipt lists (id, n.plan)
-  one_entry before after n id reply is event allowed names =
-      let low = names.0 in
-      let high = names.1 in
-      let apart : id.caller ≢ closer_number = λ e. absurd (omega arith) in
+  one_entry : (before after : List LoggedEvent) (n : LoggedEvent) (id : Id) (reply : Reply) → log ≡ before ++ n ∷ after → n.note ≡ note.Event (Submit id reply) → EntryHasReceipt lists (id, n.plan)
+  one_entry before after n id reply is event =
+      let events : events_in log ≡ events_in before ++ Submit id reply ∷ events_in after =
+      ap events_in is ∙ (events_in-append before (n ∷ after) ∙ ap (λ (x : Note). events_in before ++ cons_option (event_of x) (events_in after)) event) in
+      let there : Contains (events_in log) (Submit id reply) = subst (λ (h : List Event). Contains h (Submit id reply)) (sym events) (Contains-append_right (events_in before) (Submit id reply ∷ events_in after) (Submit id reply) (0, omega arith, refl)) in
+      let named : NamesCaller callers (Submit id reply) = All-contains (NamesCaller callers) (events_in log) (Submit id reply) names there in
+      let low = named.0 in
+      let high = named.1 in
+      let allowed : IsAllowed limits (events_in before) (Submit id reply) = allowed_at limits [] (events_in before) (Submit id reply) (events_in after) (subst (IsLegal limits) events legal) in
       let kept : own_in id.caller (n ∷ after) ≡ n ∷ own_in id.caller after =
       ap (λ (b : Bool). cond b (n ∷ own_in id.caller after) (own_in id.caller after)) (ap (is_own_note id.caller) event ∙ eq-eqb id.caller id.caller refl) in
       let mine : own_in id.caller log ≡ own_in id.caller before ++ n ∷ own_in id.caller after =
       ap (own_in id.caller) is ∙ (own_in-append id.caller before (n ∷ after) ∙ ap (λ (xs : List LoggedEvent). own_in id.caller before ++ xs) kept) in
-      let at = receipt_at id.caller (receipts_at lists id.caller) (own_in id.caller before) (own_in id.caller after) n (sym (logged id.caller low (omega arith)) ∙ mine) in
-      let front = own_in id.caller before in
-      let first = take (length front) (receipts_at lists id.caller) in
-      let told : front ≡ map (submission_of id.caller) first =
-      sym (take_at front (n ∷ own_in id.caller after) (length front) refl) ∙ (ap (take (length front)) (sym mine ∙ logged id.caller low (omega arith)) ∙ take-map (submission_of id.caller) (length front) (receipts_at lists id.caller)) in
-      let count : length (submissions (events_in before) id.caller) ≡ length front =
-      ap length (submissions_of_entries id.caller before first apart told) ∙ (length-map first (submit_of id.caller) ∙ (sym (length-map first (submission_of id.caller)) ∙ ap length (sym told))) in
+      let at = receipt_after id.caller (receipts_at lists id.caller) (own_in id.caller before) (own_in id.caller after) n (sym (logged id.caller low (omega arith)) ∙ mine) in
+      let count : length (submissions (events_in before) id.caller) ≡ length at.first =
+      ap length (submissions_of_entries id.caller before at.first (λ e. absurd (omega arith)) at.told) ∙ length-map at.first (submit_of id.caller) in
       let next = allowed.0 in
-      let place : id.number - 1 ≡ length (own_in id.caller before) = omega arith in record {
+      let place : id.number - 1 ≡ length at.first = omega arith in record {
         numbered = record {
           from = low;
           counted = omega arith;
@@ -75,31 +80,15 @@ module _ (limits : Sizes) (callers : ℕ) (log : List LoggedEvent) (lists : List
         plan = sym (ap (λ (x : LoggedEvent). x.plan) at.is);
       }
 
-  -- one entry more, where its event is an accepted submission
-  put : (n : LoggedEvent) (rest : List LoggedEvent) (written : Note) → n.note ≡ written → All (EntryHasReceipt lists) (plans_in rest) → ((id : Id) (reply : Reply) → written ≡ note.Event (Submit id reply) → EntryHasReceipt lists (id, n.plan)) → All (EntryHasReceipt lists) (plans_in (n ∷ rest))
-  put n rest written is later one = subst (λ (x : Note). All (EntryHasReceipt lists) (cons_option (option_map (λ (id : Id). (id, n.plan)) (accepted_of x)) (plans_in rest))) (sym is) (put_at written one)
+  entries : (before rest : List LoggedEvent) → log ≡ before ++ rest → All (EntryHasReceipt lists) (plans_in rest)
+  entries before [] is = All-nil (EntryHasReceipt lists)
+  entries before (n ∷ rest) is = by n.note refl (entries (before ++ n ∷ []) rest (is ∙ sym (append_assoc before (n ∷ []) rest)))
     where
-      put_at : (x : Note) → ((id : Id) (reply : Reply) → x ≡ note.Event (Submit id reply) → EntryHasReceipt lists (id, n.plan)) → All (EntryHasReceipt lists) (cons_option (option_map (λ (id : Id). (id, n.plan)) (accepted_of x)) (plans_in rest))
-      put_at (note.Event (Submit id Core)) f = All-cons (EntryHasReceipt lists) (id, n.plan) (plans_in rest) (f id Core refl) later
-      put_at (note.Event (Submit id Queued)) f = All-cons (EntryHasReceipt lists) (id, n.plan) (plans_in rest) (f id Queued refl) later
-      put_at (note.Event (Submit id Extra)) f = All-cons (EntryHasReceipt lists) (id, n.plan) (plans_in rest) (f id Extra refl) later
-      put_at _ f = later
-
-  entries : (before rest : List LoggedEvent) → log ≡ before ++ rest → AreAllowedAfter limits (events_in before) (events_in rest) → All (NamesCaller callers) (events_in rest) → All (EntryHasReceipt lists) (plans_in rest)
-  entries before [] is legal names = All-nil (EntryHasReceipt lists)
-  entries before (n ∷ rest) is legal names = by n.note refl (entries (before ++ n ∷ []) rest (is ∙ sym (append_assoc before (n ∷ []) rest))) legal names
-    where
-      by : (written : Note) → n.note ≡ written → (AreAllowedAfter limits (events_in (before ++ n ∷ [])) (events_in rest) → All (NamesCaller callers) (events_in rest) → All (EntryHasReceipt lists) (plans_in rest))
-          → AreAllowedAfter limits (events_in before) (cons_option (event_of written) (events_in rest)) → All (NamesCaller callers) (cons_option (event_of written) (events_in rest)) → All (EntryHasReceipt lists) (plans_in (n ∷ rest))
-      by (note.Event e) at later legal names =
-          let seen : events_in (before ++ n ∷ []) ≡ events_in before ++ e ∷ [] = events_in-append before (n ∷ []) ∙ ap (λ (x : Note). events_in before ++ cons_option (event_of x) []) at in
-          put n rest (note.Event e) at (later (subst (λ (h : List Event). AreAllowedAfter limits h (events_in rest)) (sym seen) legal.1) (All-tail (NamesCaller callers) e (events_in rest) names))
-          (λ id reply same.
-          let is_submit : e ≡ Submit id reply = cc same in
-          one_entry before rest n id reply is (at ∙ same) (subst (IsAllowed limits (events_in before)) is_submit legal.0) (subst (NamesCaller callers) is_submit (All-head (NamesCaller callers) e (events_in rest) names)))
-      by (note.Started id) at later legal names =
-          let seen : events_in (before ++ n ∷ []) ≡ events_in before = events_in-append before (n ∷ []) ∙ (ap (λ (x : Note). events_in before ++ cons_option (event_of x) []) at ∙ append-nil (events_in before)) in
-          put n rest (note.Started id) at (later (subst (λ (h : List Event). AreAllowedAfter limits h (events_in rest)) (sym seen) legal) names) (λ other reply same. absurd (cc same))
+      by : (written : Note) → n.note ≡ written → All (EntryHasReceipt lists) (plans_in rest) → All (EntryHasReceipt lists) (cons_option (option_map (λ (id : Id). (id, n.plan)) (accepted_of written)) (plans_in rest))
+      by (note.Event (Submit id Core)) at later = All-cons (EntryHasReceipt lists) (id, n.plan) (plans_in rest) (one_entry before rest n id Core is at) later
+      by (note.Event (Submit id Queued)) at later = All-cons (EntryHasReceipt lists) (id, n.plan) (plans_in rest) (one_entry before rest n id Queued is at) later
+      by (note.Event (Submit id Extra)) at later = All-cons (EntryHasReceipt lists) (id, n.plan) (plans_in rest) (one_entry before rest n id Extra is at) later
+      by _ at later = later
 
 -- so each result is of the plan on its receipt
 rows_have : (lists : List (List Receipt)) (jobs : List Accepted) (rows : List Row) → AreResultsOf jobs rows → All (EntryHasReceipt lists) (map plan_entry jobs) → All (HasReceipt lists) rows
@@ -132,5 +121,5 @@ agreed limits count callers log lists old new made rows many gathered legal name
   submissions = still_submissions log old.history new.history lists gathered.submissions home.history same;
   no_others = kept (subst (AllNameCallers count) (sym home.history) names);
   results = rows_have lists new.jobs rows results
-      (subst (All (EntryHasReceipt lists)) (sym (ap (map plan_entry) jobs ∙ (runs_entries old.jobs made ∙ home.plans))) (entries limits count log lists many gathered.logged [] log refl legal names));
+      (subst (All (EntryHasReceipt lists)) (sym (ap (map plan_entry) jobs ∙ (runs_entries old.jobs made ∙ home.plans))) (entries limits count log lists many gathered.logged legal names [] log refl));
 }
