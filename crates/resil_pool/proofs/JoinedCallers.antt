@@ -56,10 +56,7 @@ so_far_next initial callers rest below seen lists place x s inside here is numbe
 pub done_length : (initial callers : List CallerView) (below : ℕ) (seen : List LoggedEvent) (lists : List (List Receipt)) → (s : SoFar initial callers below seen lists) → length s.done ≡ below
 done_length initial callers below seen lists s = sym (length-map s.done (λ c. c.number)) ∙ (ap length s.numbered ∙ length-range_with_len 1 below)
 
--- as many lists are there as callers are out
-pub list_count : {A : Type 0} (f : A → List Receipt) (xs : List A) (initial callers : List CallerView) (below : ℕ) (seen : List LoggedEvent) → SoFar initial callers below seen (map f xs) → length xs ≡ below
-list_count f xs initial callers below seen s = sym (length-map xs f) ∙ (ap length s.told ∙ (length-map s.done (λ c. c.receipts) ∙ done_length initial callers below seen (map f xs) s))
-
+-- as many lists are there as callers
 pub gathered_count : {A : Type 0} (f : A → List Receipt) (xs : List A) (callers : List CallerView) (count : ℕ) (seen : List LoggedEvent) → AreNumbered count callers → IsGathered callers seen (map f xs) → length xs ≡ count
 gathered_count f xs callers count seen all g =
     sym (length-map xs f) ∙ (ap length g.told.handed_in ∙ (length-map g.told.in_order (λ c. c.receipts) ∙ (length_permutation callers g.told.in_order g.told.same ∙ all.as_many)))

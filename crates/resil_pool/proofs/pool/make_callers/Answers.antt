@@ -1,6 +1,7 @@
 -- One more caller gets the next number.
 use Rattle.std.proofs.Common.{◌≡◌, ◌+◌, ℕ, [], ◌∷◌, ◌++◌, length, refl, inr, sym, ap, ◌∙◌, arith}
-use Rattle.std.proofs.lemmas.List.FromFn.{length-map-range_with_len, map-range_with_len_more}
+use Rattle.std.proofs.lemmas.List.{length-append}
+use Rattle.std.proofs.lemmas.List.FromFn.{map-range_with_len_more}
 use Rattle.resil_pool.specs.Parts.{caller_view, new_caller}
 use Rattle.resil_lock.specs.Lock.{made_one, member_view}
 use Rattle.resil_pool.specs.Lock.{LockSeatState, closer_view, pool_id}
@@ -12,16 +13,6 @@ admit-requires c = record {
   rank = ap (λ (k : LockSeatState). k.0.rank) c.loop-made.invariant.closer;
   blank = record { numbered = inr refl; balanced = λ id. omega arith };
 }
-
-pub push_reserved-requires : goal.push_reserved-requires
-push_reserved-requires c =
-    let i = c.loop-made.invariant in
-    let made : length c.loop-made.callers.items ≡ c.loop-made.made = ap length i.callers ∙ length-map-range_with_len (new_caller (pool_id c.args.lock.now.table.shared.table_id c.args.lock.now.table.shared.key)) 1 c.loop-made.made in
-    let len = c.loop-made.callers.ok in
-    let room = i.room in
-    let few = c.requires.room.1 in
-    let test = c.loop-made-test.true in
-    omega arith
 
 pub loop-made-preserved : goal.loop-made-preserved
 loop-made-preserved c =
@@ -35,5 +26,6 @@ loop-made-preserved c =
       table = c.admit.ensures.opener.0 ∙ i.table;
       closer = c.admit.ensures.opener.1 ∙ (ap (λ (k : LockSeatState). (made_one k.0, k.1)) i.closer ∙ ap (λ (n : ℕ). (closer_view opening n, [])) (omega arith));
       callers = c.push_reserved.ensures.items ∙ ((λ j. i.callers j ++ value j ∷ []) ∙ sym (map-range_with_len_more (new_caller pool) 1 made (made + 1) (omega arith)));
+      count = ap length c.push_reserved.ensures.items ∙ (length-append _ _ ∙ ap (λ (n : ℕ). n + 1) i.count);
       room = c.push_reserved.ensures.capacity ∙ i.room;
     }

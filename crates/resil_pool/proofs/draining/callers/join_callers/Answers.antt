@@ -1,10 +1,10 @@
 -- Each caller is found, in the order of the numbers.
-use Rattle.std.proofs.Common.{◌≡◌, ◌≢◌, ◌+◌, ◌<◌, List, length, get_or, sym, ap, ◌∙◌, subst, arith}
+use Rattle.std.proofs.Common.{◌≡◌, ◌≢◌, ◌+◌, ◌<◌, ℕ, List, length, length-append, get_or, sym, ap, ◌∙◌, subst, arith}
 use Rattle.std.specs.Prelude.{All}
 use Rattle.resil_pool.specs.Words.{IsPrefix, LoggedEvent, Receipt}
 use Rattle.resil_pool.specs.Lock.{own_in, LockSeatState}
 use Rattle.resil_pool.specs.Parts.{CallerView}
-use Rattle.resil_pool.proofs.JoinedCallers.{IsJoined, SoFar, so_far_next, still_there, all_gathered, list_count, all_left, mapped_push}
+use Rattle.resil_pool.proofs.JoinedCallers.{IsJoined, SoFar, so_far_next, still_there, all_gathered, all_left, mapped_push}
 use Rattle.resil_pool.proofs.Logs.{numbering}
 use Rattle.resil_pool.proofs.Submissions.{entries_of_caller}
 use Rattle.resil_pool.proofs.draining.callers.join_callers.Goals as goal
@@ -13,16 +13,6 @@ pub unreachable-requires : goal.unreachable-requires
 unreachable-requires c =
     still_there _ _ _ _ _ _ c.requires.numbered c.loop-below.invariant.so_far c.loop-below-test.true
     (subst (λ (xs : List CallerView). All (λ k. k.number ≢ c.loop-below.below + 1) xs) c.as_slice.ensures.value c.in_default.ensures.none)
-
-pub push_reserved-requires : goal.push_reserved-requires
-push_reserved-requires c =
-    let i = c.loop-below.invariant in
-    let many = list_count _ _ _ _ _ _ i.so_far in
-    let len = c.loop-below.receipts.ok in
-    let room = i.room in
-    let few = c.requires.room.1 in
-    let test = c.loop-below-test.true in
-    omega arith
 
 pub loop-below-preserved : goal.loop-below-preserved
 loop-below-preserved c =
@@ -40,6 +30,7 @@ loop-below-preserved c =
       table = joined.source ∙ i.table;
       same = joined.same ∙ i.same;
       sources = all_left (λ k. k.source.table_id ≡ c.args.lock.now.table.shared.table_id) _ _ _ x inside c.swap_remove.ensures.value c.swap_remove.ensures.items i.sources;
+      count = ap length c.push_reserved.ensures.items ∙ (length-append _ _ ∙ ap (λ (n : ℕ). n + 1) i.count);
       room = c.push_reserved.ensures.capacity ∙ i.room;
       so_far = subst (λ (lists : List (List Receipt)). SoFar c.args.callers.items c.swap_remove.new.self.items (c.loop-below.below + 1) seen lists)
           (sym (mapped_push _ _ _ _ _ c.push_reserved.ensures.items (ap (λ (k : CallerView). k.receipts) c.seat.view_is)))
