@@ -101,11 +101,8 @@ rows_have lists (job ∷ jobs) (row ∷ rows) h all =
 rows_have lists _ _ h all = absurd h
 
 -- a result with a receipt is of the plan on it
-of_its_plan : (lists : List (List Receipt)) (row : Row) → HasReceipt lists row → IsOfPlanOn lists row
-of_its_plan lists row has receipt there = has.plan ∙ ap (λ (r : Receipt). r.plan) (same_Some has.numbered.receipt receipt (sym has.numbered.there ∙ there))
-
 pub of_their_plans : (lists : List (List Receipt)) (rows : List Row) → All (HasReceipt lists) rows → All (IsOfPlanOn lists) rows
-of_their_plans lists rows all = λ k d within. of_its_plan lists (get_or rows k d) (all k d within)
+of_their_plans lists rows all = λ k d within receipt there. let has = all k d within in has.plan ∙ ap (λ (r : Receipt). r.plan) (same_Some has.numbered.receipt receipt (sym has.numbered.there ∙ there))
 
 -- runs that are kept change no plan
 runs_entries : (jobs : List Accepted) (made : List Row) → map plan_entry (with_runs jobs made) ≡ map plan_entry jobs

@@ -40,12 +40,6 @@ module _ {A : Type 0} where
     Contains-from_filter xs y c = All-contains (Contains xs) (filter p xs) y (All-filter p (Contains xs) xs (All-contains_itself xs)) c
 
 module _ (opening : Opening) (words : List ℕ) (homes : List (m.Option (Option State))) (views : List View) (k : HoldsBetweenSteps StandsFor MayHaveWritten is_own opening words homes views) where
-  numbered : (index : ℕ) (v : View) → IsSeatAt views index v → is_there v.phase ≡ true → v.number ≡ index
-  numbered = (k.numbers numbering).numbered
-
-  own : (number : ℕ) (v : View) → IsSeatAt views number v → is_there v.phase ≡ true → own_in number v.seen ≡ own_in number k.log
-  own = (k.numbers numbering).all_own
-
   submissions : StandWithTheirCallers k.log views
   submissions submission id reply c is =
       let mine_is : is_own id.caller submission ≡ true = ap (is_own_note id.caller) is ∙ eq-eqb id.caller id.caller refl in
@@ -54,30 +48,31 @@ module _ (opening : Opening) (words : List ℕ) (homes : List (m.Option (Option 
       (λ (t : (v : View) × IsSeatAt views id.caller v). (
         t.0,
         t.1,
-        λ here. Contains-from_filter (is_own id.caller) t.0.seen submission (subst (λ (xs : List LoggedEvent). Contains xs submission) (sym (own id.caller t.0 t.1 here)) mine),
+        λ here. Contains-from_filter (is_own id.caller) t.0.seen submission (subst (λ (xs : List LoggedEvent). Contains xs submission) (sym ((k.numbers numbering).all_own id.caller t.0 t.1 here)) mine),
       ))
       (λ (beyond : length views ≤ id.caller). let none = subst (λ (xs : List LoggedEvent). Contains xs submission) ((k.numbers numbering).no_others id.caller beyond) mine in let inside = none.1 in absurd (omega arith))
       (at_or_beyond views id.caller)
 
   pub holds_between_turns : HoldsBetweenTurns opening.limits words homes views
-  holds_between_turns = record {
-    one_word = k.one_word;
-    one_slot = k.one_slot;
-    bit = k.bit;
-    taken = k.taken;
-    free = k.free;
-    in_slot = k.in_slot;
-    out = k.out;
-    history = k.log;
-    legal = k.stood.1.legal;
-    longest = k.longest;
-    at_home = λ state at. (k.at_home state at).home;
-    holder = λ index v at is. record { sized = ap (λ (o : Opening). o.limits) (k.keyed index v at (holder_there v.phase is)); whole = k.holder index v at is };
-    opened = λ index v at is. ap (λ (o : Opening). o.limits) (k.keyed index v at is);
-    numbered = numbered;
-    apart = λ index other v w at at' differ is is' same. differ (sym (numbered index v at is) ∙ (same ∙ numbered other w at' is'));
-    own = own;
-    no_others = (k.numbers numbering).no_others;
-    submissions = submissions;
-    closer = record { seat = k.opener.seat; first = k.opener.first; there = k.opener.there; number = numbered 0 k.opener.seat k.opener.first k.opener.there; counted = (k.numbers numbering).counted k.opener.seat k.opener.first };
-  }
+  holds_between_turns =
+      let n = k.numbers numbering in record {
+        one_word = k.one_word;
+        one_slot = k.one_slot;
+        bit = k.bit;
+        taken = k.taken;
+        free = k.free;
+        in_slot = k.in_slot;
+        out = k.out;
+        history = k.log;
+        legal = k.stood.1.legal;
+        longest = k.longest;
+        at_home = λ state at. (k.at_home state at).home;
+        holder = λ index v at is. record { sized = ap (λ (o : Opening). o.limits) (k.keyed index v at (holder_there v.phase is)); whole = k.holder index v at is };
+        opened = λ index v at is. ap (λ (o : Opening). o.limits) (k.keyed index v at is);
+        numbered = n.numbered;
+        apart = λ index other v w at at' differ is is' same. differ (sym (n.numbered index v at is) ∙ (same ∙ n.numbered other w at' is'));
+        own = n.all_own;
+        no_others = n.no_others;
+        submissions = submissions;
+        closer = record { seat = k.opener.seat; first = k.opener.first; there = k.opener.there; number = n.numbered 0 k.opener.seat k.opener.first k.opener.there; counted = n.counted k.opener.seat k.opener.first };
+      }

@@ -6,8 +6,7 @@ use Rattle.std.proofs.lemmas.Bool.{OnTrue_from}
 use Rattle.std.proofs.lemmas.List.{length-map, get_or_default, append_cancel_right}
 use Rattle.std.proofs.lemmas.List.Folds.{list_any_none}
 use Rattle.std.proofs.Math.ListN.{get_or-map}
-use Rattle.resil_pool.specs.Words.{is_close, is_closed, MachineView, Event, Submit, Close, LoggedEvent}
-use Rattle.resil_pool.specs.declared.hold.JobRow.{JobRow}
+use Rattle.resil_pool.specs.Words.{JobRow, is_close, is_closed, MachineView, Event, Submit, Close, LoggedEvent}
 use Rattle.resil_pool.specs.Lock.{log_event, events_in, closer_number, own_in, LockSeatState, WritesAtMost}
 use Rattle.resil_pool.specs.Hold.{submitter, row_caller, AreRows, BeginsWithRows, TellsOfRows}
 use Rattle.resil_pool.proofs.JoinedCallers.{at_place}

@@ -24,9 +24,6 @@ starts_in-append xs ys = filter_map-append (λ (n : LoggedEvent). started_of n.n
 pub plans_in-append : (xs ys : List LoggedEvent) → plans_in (xs ++ ys) ≡ plans_in xs ++ plans_in ys
 plans_in-append xs ys = filter_map-append logged_plan xs ys
 
-pub runs_in-append : (xs ys : List LoggedEvent) → runs_in (xs ++ ys) ≡ runs_in xs ++ runs_in ys
-runs_in-append xs ys = filter_map-append (λ (n : LoggedEvent). n.ended) xs ys
-
 pub takes_in-append : (xs ys : List LoggedEvent) → taken (events_in (xs ++ ys)) ≡ taken (events_in xs) ++ taken (events_in ys)
 takes_in-append xs ys = ap taken (events_in-append xs ys) ∙ filter_map-append taken_id (events_in xs) (events_in ys)
 

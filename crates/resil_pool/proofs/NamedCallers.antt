@@ -7,10 +7,7 @@ use Rattle.resil_pool.specs.NamedCallers.{IsCallersNumber, KeepsNames, LeavesNam
 use Rattle.resil_pool.proofs.Logs.{events_in-append}
 
 module _ (callers : ℕ) where
-  -- nothing was written, or one event more that names a caller, if it is a submission
-  same_history : (old new : List Event) → new ≡ old → AllNameCallers callers old → AllNameCallers callers new
-  same_history old new is all = subst (AllNameCallers callers) (sym is) all
-
+  -- one event more was written, which names a caller, if it is a submission
   one_more_event : (old new : List Event) (e : Event) → new ≡ old ++ e ∷ [] → NamesCaller callers e → AllNameCallers callers old → AllNameCallers callers new
   one_more_event old new e is names all = subst (AllNameCallers callers) (sym is) (All-push (NamesCaller callers) old e all names)
 
@@ -47,7 +44,7 @@ module _ (callers : ℕ) where
 
   pub pick_names : (old new : MachineView) (id : Id) → IsPicked old id new → KeepsNames callers old new
   pick_names old new id picked = ⊎_elim
-      (λ t. same_history old.history new.history (ap (λ (m : MachineView). m.history) t.1))
+      (λ t. subst (AllNameCallers callers) (sym (ap (λ (m : MachineView). m.history) t.1)))
       (λ t. one_more_event old.history new.history (Take id) (ap (λ (m : MachineView). m.history) t.2) tt)
       picked
 
@@ -56,13 +53,13 @@ module _ (callers : ℕ) where
 
   pub worker_names : (old new : MachineView) → AppendsAtMostOne old new → KeepsNames callers old new
   worker_names old new may = ⊎_elim
-      (λ (k : Unchanged old new). same_history old.history new.history k.history)
+      (λ (k : Unchanged old new). subst (AllNameCallers callers) (sym k.history))
       (λ (w : AppendsWorkersEvent old new). one_more_event old.history new.history w.event w.writes.history (workers_event_names w.event w.other))
       may
 
   pub closing_names : (old new : MachineView) → AppendsCloseAtMost old new → KeepsNames callers old new
   closing_names old new may = ⊎_elim
-      (λ (k : Unchanged old new). same_history old.history new.history k.history)
+      (λ (k : Unchanged old new). subst (AllNameCallers callers) (sym k.history))
       (λ (w : AppendsToMachine None old Close new). one_more_event old.history new.history Close w.history tt)
       may
 
@@ -72,7 +69,7 @@ module _ (callers : ℕ) where
   -- a turn keeps the names, where all that its seat may write does
   seats_turn_names : (me : LockSeatState) (plan : Option PlanView) (machine : MachineView) → ((e : Event) → MayWrite me.0.key.callers me.0.number e → NamesCaller callers e) → IsTurn me plan machine → LeavesNames callers me machine
   seats_turn_names me plan machine names turn = ⊎_elim
-      (λ (k : MatchesLog me.0.key.limits me.0.seen machine). same_history (events_in me.0.seen) machine.history k.history)
+      (λ (k : MatchesLog me.0.key.limits me.0.seen machine). subst (AllNameCallers callers) (sym k.history))
       (λ (w : AppendedOne me plan machine).
       one_more_event (events_in me.0.seen) machine.history w.event (w.home.history ∙ events_in-append me.0.seen (log_event plan w.event ∷ [])) (names w.event w.own))
       turn

@@ -47,13 +47,6 @@ agrees_at f history xs place x own within is same all =
     all (place + 1) (omega arith) (omega arith)
     ∙ ap (map (submit_of (place + 1))) (ap (λ (k : ℕ). get_or (map f xs) k []) less ∙ (at_mapped f xs place x within is ∙ sym same))
 
--- a result whose receipt has its number, and which is of the plan there, has its receipt
-pub with_plans : (lists : List (List Receipt)) (rows : List Row) → All (λ row. HasNumberedReceipt lists row.id) rows → All (IsOfPlanOn lists) rows → All (HasReceipt lists) rows
-with_plans lists rows all plans = λ k d within. let n = all k d within in record { numbered = n; plan = plans k d within n.receipt n.there }
-
-pub without_plans : (lists : List (List Receipt)) (rows : List Row) → All (HasReceipt lists) rows → All (λ row. HasNumberedReceipt lists row.id) rows
-without_plans lists rows all = λ k d within. (all k d within).numbered
-
 -- the results of jobs, one by one
 ids_same : (jobs : List Accepted) (rows : List Row) → AreResultsOf jobs rows → map (λ row. row.id) rows ≡ ids_of jobs
 ids_same [] [] h = refl

@@ -2,9 +2,8 @@
 use Rattle.std.proofs.Common.{◌≡◌, ◌≢◌, ne_eqb, ℕ, ◌+◌, ◌≤◌, Bool, true, false, cond, List, [], ◌∷◌, ◌++◌, map, length, refl, sym, ap, ◌∙◌, subst, arith, append-nil, Some, None, Result, Ok, Err, OnOk, OnErr, eq-eqb}
 use Rattle.std.specs.List.{cons_option}
 use Rattle.std.proofs.lemmas.List.{map-append, length-map}
-use Rattle.resil_rule.specs.declared.error.AdmitError.{AdmitError}
 use Rattle.resil_rule.specs.declared.error.AdmitError.TheVariants as cause
-use Rattle.resil_pool.specs.Words.{TableId, PlanView, is_submit_of, submissions, next_number, IsLegal, MachineView, IsSubmitRefusal, Id, Reply, Event, Submit, Close, Resized, LoggedEvent, Note, Opening, Receipt}
+use Rattle.resil_pool.specs.Words.{AdmitError, TableId, PlanView, is_submit_of, submissions, next_number, IsLegal, MachineView, IsSubmitRefusal, Id, Reply, Event, Submit, Close, Resized, LoggedEvent, Note, Opening, Receipt}
 use Rattle.resil_pool.specs.declared.lock.logged_event.Note.TheVariants as note
 use Rattle.resil_pool.specs.Lock.{log_event, event_of, events_in, closer_number, is_own_event, is_own_note, own_in, SeesMore, SeesOwn, View, LockSeatState, MayHaveWritten, IsMoved}
 use Rattle.resil_pool.specs.Resize.{SeesResize}

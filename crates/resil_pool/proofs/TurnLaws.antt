@@ -11,7 +11,7 @@ use Rattle.resil_pool.specs.declared.lock.logged_event.Note.TheVariants as note
 use Rattle.resil_pool.specs.Lock.{NamesCaller, AllNameCallers, log_event, events_in, starts_in, picked_in, ended_in, closer_number, is_own_note, is_own, own_in, plans_in, plan_entry, runs_in, SeesMore, SeesOwn, View, LockSeatState, IsMachineOf, MayHaveWritten, starts_of, told, IsDue, Tallies, EndsOnlyPicked, IsResting, MayWrite, IsStep, IsMoved, Takes, WritesAtMost, SeesClosing, WroteCloseAtMost, TookATurn}
 use Rattle.resil_pool.specs.Parts.{IsCloser, source_of}
 use Rattle.resil_pool.specs.Worker.{takes_in}
-use Rattle.resil_pool.proofs.Logs.{own_in-append, events_in-append, starts_in-append, plans_in-append, runs_in-append, takes_in-append, picked-more, ended-more, numbering, few-job, due-job, take-next}
+use Rattle.resil_pool.proofs.Logs.{own_in-append, events_in-append, starts_in-append, plans_in-append, takes_in-append, picked-more, ended-more, numbering, few-job, due-job, take-next}
 use Rattle.resil_pool.proofs.NamedCallers.{written_names}
 
 -- the seat of this number may write these
@@ -184,12 +184,6 @@ pub record IsQuiet (callers number : ℕ) (entries : List LoggedEvent) : Type 0 
 pub ends-none : (old : LockSeatState) (entries : List LoggedEvent) → MayHaveWritten old.0.rank old.0.own → MayWriteEach old.0.key.callers old.0.number entries → ended_in entries ≡ [] → MayHave old entries
 ends-none old entries fits may ends = record { may = may; due = λ id. let b = fits.balanced id in let e = ap (times id) ends in omega (arith, b, e) }
 
-pub takes-quiet : (callers number : ℕ) (id : Id) (entries : List LoggedEvent) → Takes id entries → IsQuiet callers number entries
-takes-quiet callers number id entries takes = either (IsQuiet callers number) (record { may = (tt, tt); own = refl; ends = refl; runs = refl }) (record { may = (tt, tt); own = refl; ends = refl; runs = refl }) takes
-
-pub rests-quiet : (callers number : ℕ) (entries : List LoggedEvent) → WritesAtMost IdleEnd entries → IsQuiet callers number entries
-rests-quiet callers number entries rests = either (IsQuiet callers number) (record { may = tt; own = refl; ends = refl; runs = refl }) (record { may = (tt, tt); own = refl; ends = refl; runs = refl }) rests
-
 pub may-close : (old : LockSeatState) (entries : List LoggedEvent) → MayHaveWritten old.0.rank old.0.own → old.0.number ≡ closer_number → WritesAtMost Close entries → MayHave old entries
 may-close old entries fits first closes = either (MayHave old) (ends-none old [] fits tt refl) (ends-none old (log_event None Close ∷ []) fits (first, tt) refl) closes
 
@@ -248,7 +242,7 @@ module _ {old : LockSeatState} {m : MachineView} {entries : List LoggedEvent} {m
 
   -- the runs with which the seat has ended jobs, and the jobs that it took from the queue
   pub runs-now : runs_in new.0.own ≡ runs_in old.0.own ++ runs_in entries
-  runs-now = ap runs_in own-now ∙ runs_in-append old.0.own entries
+  runs-now = ap runs_in own-now ∙ filter_map-append (λ (n : LoggedEvent). n.ended) old.0.own entries
 
   pub takes-now : takes_in new.0.own ≡ takes_in old.0.own ++ takes_in entries
   takes-now = ap takes_in own-now ∙ takes_in-append old.0.own entries

@@ -16,7 +16,7 @@ use Rattle.resil_pool.specs.Words.{PlanView, RunView, Asked, is_same_id, times, 
 use Rattle.resil_pool.specs.declared.worker.AtWork.{AtWork}
 use Rattle.resil_pool.specs.Lock.{log_event, start_of, finish_of, picked_in, ended_in, plans_in, plan_entry, runs_in, LockSeatState, MayHaveWritten, IsDue, Tallies, Takes, WritesAtMost}
 use Rattle.resil_pool.proofs.Logs.{plans_in-append}
-use Rattle.resil_pool.proofs.TurnLaws.{HasTurn, MayHave, Turned, either, IsQuiet, takes-quiet, rests-quiet, takes-now, runs-now, tallies-now}
+use Rattle.resil_pool.proofs.TurnLaws.{HasTurn, MayHave, Turned, either, IsQuiet, takes-now, runs-now, tallies-now}
 use Rattle.resil_pool.specs.Worker.{KeepsPlan, HasRunTakes, RunsItsTakes, TakesAtMost, takes_in, asked_in, first_refused, HasRunJob, HasRunNone, HasRunOne, HasMadeRound, HasWorked}
 
 -- jobs with the same plans in the same order have the same plan under an id, whatever comes after them
@@ -57,8 +57,8 @@ on_over _ P Q f p = tt
 
 -- whether a look found a job or not, it ended none
 pub look-quiet : (callers number : ℕ) (look : Look (Id × PlanView)) (entries : List LoggedEvent) → OnFound look (λ picked. Takes picked.0 entries) → OnNothing look (WritesAtMost IdleEnd entries) → IsQuiet callers number entries
-look-quiet callers number (Found picked) entries takes rests = takes-quiet callers number picked.0 entries takes
-look-quiet callers number _ entries takes rests = rests-quiet callers number entries rests
+look-quiet callers number (Found picked) entries takes rests = either (IsQuiet callers number) (record { may = (tt, tt); own = refl; ends = refl; runs = refl }) (record { may = (tt, tt); own = refl; ends = refl; runs = refl }) takes
+look-quiet callers number _ entries takes rests = either (IsQuiet callers number) (record { may = tt; own = refl; ends = refl; runs = refl }) (record { may = (tt, tt); own = refl; ends = refl; runs = refl }) rests
 
 -- what a seat's turn picked, by what it wrote
 module _ {old : LockSeatState} {m : MachineView} {entries : List LoggedEvent} {m' : MachineView} {new : LockSeatState} (t : Turned old m entries m' new) where

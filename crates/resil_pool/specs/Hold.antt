@@ -1,7 +1,6 @@
 -- What a pool whose rows are held has in its history first: the rows, in their order, and the closing.
 use Rattle.std.specs.Prelude.{◌≡◌, ◌↔◌, ◌++◌, ◌∷◌, ℕ, Bool, IsTrue, List, Option, Some, None, map}
-use Rattle.resil_pool.specs.Words.{Sizes, Event, Submit, Close, LoggedEvent}
-use Rattle.resil_pool.specs.declared.hold.JobRow.{JobRow}
+use Rattle.resil_pool.specs.Words.{JobRow, Sizes, Event, Submit, Close, LoggedEvent}
 use Rattle.resil_pool.specs.Lock.{log_event, events_in, closer_number, SeesOwn}
 
 -- the caller that an event is a submission of

@@ -1,8 +1,7 @@
 -- What contracts see of the parts of a pool: its closer, its callers, its workers and their ends.
 use Rattle.std.specs.Prelude.{◌≡◌, ◌≢◌, ◌≤◌, ℕ, List, [], Option, Some, map}
 use Rattle.std.specs.List.{range_with_len}
-use Rattle.resil_pool.specs.Words.{TableId, PlanView, RunView, IsLegal, Row, Id, Event, Submit, LoggedEvent, Receipt}
-use Rattle.resil_pool.specs.declared.receipt.Ticket.{Ticket}
+use Rattle.resil_pool.specs.Words.{Ticket, TableId, PlanView, RunView, IsLegal, Row, Id, Event, Submit, LoggedEvent, Receipt}
 use Rattle.resil_pool.specs.Lock.{log_event, events_in, closer_number, own_in, runs_in, LockSeatState, PoolId, pool_id, IsResting}
 use Rattle.resil_lock.specs.declared.protocol.Rank.TheVariants.{Member}
 

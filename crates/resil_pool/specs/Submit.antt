@@ -1,7 +1,6 @@
 -- What a submission makes of the machine.
 use Rattle.std.specs.Prelude.{◌≡◌, ◌∷◌, [], List, Some, Result, IfOk, IfErr, OnErr}
-use Rattle.resil_rule.specs.declared.error.AdmitError.{AdmitError}
-use Rattle.resil_pool.specs.Words.{PlanView, IsAllowed, MachineView, with_submission, IsSubmitRefusal, Id, Reply, Submit, LoggedEvent}
+use Rattle.resil_pool.specs.Words.{AdmitError, PlanView, IsAllowed, MachineView, with_submission, IsSubmitRefusal, Id, Reply, Submit, LoggedEvent}
 use Rattle.resil_pool.specs.Lock.{log_event}
 
 -- the answer to a submission: it was allowed and written, with its plan, or nothing was and the job comes back

@@ -9,6 +9,7 @@ pub use Rattle.resil_rule.specs.declared.event.Id.{Id}
 pub use Rattle.resil_rule.specs.declared.event.Reply.{Reply}
 pub use Rattle.resil_rule.specs.declared.event.Event.{Event}
 pub use Rattle.resil_rule.specs.declared.event.Event.TheVariants.{Submit, Close, Take, Finish, IdleEnd, Resized}
+pub use Rattle.resil_rule.specs.declared.error.AdmitError.{AdmitError}
 pub use Rattle.resil_rule.specs.History.{submissions, is_close, is_closed, taken, taken_id, finished, finished_id, times, is_among, started, is_same_id, waiting, is_submit_of, accepted, started_id, next_number, accepted_id}
 pub use Rattle.resil_rule.specs.Admission.{IsAllowed, AreAllowedAfter, IsLegal}
 pub use Rattle.resil_admission.specs.MachineView.{MachineView, AreResultsOf, jobs_in_flight, newly_accepted, with_event, with_submission, with_run, with_finish, IsPicked, ids_of, plan_of, IsSubmitRefusal, HasNoneToPick, AllDone, IsFinishRefusal, next_started}
@@ -20,3 +21,5 @@ pub use Rattle.resil_pool.specs.declared.lock.opening.Opening.{Opening}
 pub use Rattle.resil_pool.specs.declared.lock.state.State.{State}
 pub use Rattle.resil_pool.specs.declared.lock.state.Written.{Written}
 pub use Rattle.resil_pool.specs.declared.receipt.Receipt.{Receipt}
+pub use Rattle.resil_pool.specs.declared.receipt.Ticket.{Ticket}
+pub use Rattle.resil_pool.specs.declared.hold.JobRow.{JobRow}

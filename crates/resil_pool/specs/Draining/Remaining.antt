@@ -1,7 +1,6 @@
 -- What a drain runs itself: the jobs that are left.
 use Rattle.std.specs.Prelude.{◌≡◌, ◌+◌, ◌++◌, ℕ, List, [], ◌∷◌, Some, All, Contains, length, map}
-use Rattle.resil_rule.specs.declared.error.AdmitError.{AdmitError}
-use Rattle.resil_pool.specs.Words.{IsPrefix, Asked, finished, taken, submissions, MachineView, with_run, plan_of, IsPicked, IsFinishRefusal, Accepted, Id, Event, Row, RunView}
+use Rattle.resil_pool.specs.Words.{AdmitError, IsPrefix, Asked, finished, taken, submissions, MachineView, with_run, plan_of, IsPicked, IsFinishRefusal, Accepted, Id, Event, Row, RunView}
 use Rattle.resil_pool.specs.Lock.{run_of}
 use Rattle.resil_pool.specs.NamedCallers.{KeepsNames}
 use Rattle.resil_pool.specs.Worker.{asked_in}
