@@ -1,22 +1,21 @@
 -- What callers were told agrees with the history and the results of their pool's machine.
-use Rattle.std.proofs.Common.{◌≡◌, ◌≢◌, ◌≤◌, ◌-◌, ℕ, Bool, cond, List, [], ◌∷◌, ◌++◌, map, take, length, refl, sym, ap, ◌∙◌, subst, arith, append_assoc, append-nil, eq-eqb, get_or, Option, Some}
+use Rattle.std.proofs.Common.{◌≡◌, ◌-◌, ℕ, Bool, cond, List, [], ◌∷◌, ◌++◌, map, length, refl, sym, ap, ◌∙◌, subst, arith, append_assoc, append-nil, eq-eqb, Option, Some}
 use Rattle.std.specs.Prelude.{All, Contains, option_map, slice_get}
 use Rattle.std.specs.List.{cons_option}
 use Rattle.std.proofs.lemmas.List.Elements.{All-nil, All-cons, All-head, All-tail, All-contains, Contains-append_right}
-use Rattle.std.proofs.Math.ListN.{get_or-map}
-use Rattle.std.proofs.lemmas.List.{length-append, length-map, get_or_at, take_at, take-map}
-use Rattle.std.proofs.lemmas.Option.{same_Some, slice_get_read}
+use Rattle.std.proofs.lemmas.List.{length-map}
+use Rattle.std.proofs.lemmas.Option.{same_Some}
 use Rattle.resil_rule.specs.declared.event.Reply.TheVariants.{Core, Queued, Extra}
 use Rattle.resil_pool.specs.Words.{PlanView, Sizes, submissions, IsAllowed, AreAllowedAfter, IsLegal, Id, Reply, Event, Submit, MachineView, AreResultsOf, Accepted, Row, LoggedEvent, Note, Receipt}
 use Rattle.resil_pool.specs.declared.lock.logged_event.Note.TheVariants as note
-use Rattle.resil_pool.specs.Lock.{NamesCaller, AllNameCallers, events_in, closer_number, is_own_note, event_of, accepted_of, own_in, plans_in, plan_entry, MatchesLog}
+use Rattle.resil_pool.specs.Lock.{NamesCaller, AllNameCallers, events_in, is_own_note, event_of, accepted_of, own_in, plans_in, plan_entry, MatchesLog}
 use Rattle.resil_pool.specs.Parts.{CallerView, submit_of, submission_of}
 use Rattle.resil_pool.specs.Draining.{receipts_at, AreLogged, IsGathered, IsOfPlanOn, HasNumberedReceipt, HasReceipt, AgreeWithReceipts, with_runs}
 use Rattle.resil_pool.specs.NamedCallers.{KeepsNames}
 use Rattle.resil_pool.proofs.Logs.{own_in-append, events_in-append}
 use Rattle.resil_pool.proofs.MachineCalls.{filed-with_run}
 use Rattle.resil_pool.proofs.Submissions.{submissions_of_entries}
-use Rattle.resil_pool.proofs.JoinedCallers.{at_place, still_submissions}
+use Rattle.resil_pool.proofs.JoinedCallers.{still_submissions}
 
 -- the plan of an accepted job stands on the receipt of its submission
 record EntryHasReceipt (lists : List (List Receipt)) (entry : Id × Option PlanView) : Type 0 where

@@ -10,7 +10,7 @@ use Rattle.resil_rule.proofs.EventLaws.{not-among}
 use Rattle.resil_lock.specs.declared.protocol.Rank.{Rank}
 use Rattle.resil_lock.specs.Lock.{weigh, IsCovered, IsNumbering}
 use Rattle.resil_pool.specs.Words.{taken, taken_id, finished, finished_id, times, is_among, started, Id, IsLegal, Sizes, MachineView, jobs_in_flight, LoggedEvent, Opening}
-use Rattle.resil_pool.specs.Lock.{event_of, started_of, events_in, starts_in, picked_in, ended_in, is_own, own_in, plans_in, logged_plan, runs_in, IsMachineOf, MayHaveWritten, starts_of, EndsOnlyPicked, IsDue}
+use Rattle.resil_pool.specs.Lock.{event_of, started_of, events_in, starts_in, picked_in, ended_in, is_own, own_in, plans_in, logged_plan, IsMachineOf, MayHaveWritten, starts_of, EndsOnlyPicked, IsDue}
 
 pub own_in-append : (c : ℕ) (xs ys : List LoggedEvent) → own_in c (xs ++ ys) ≡ own_in c xs ++ own_in c ys
 own_in-append c xs ys = filter-append (is_own c) xs ys

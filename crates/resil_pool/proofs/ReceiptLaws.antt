@@ -6,7 +6,7 @@ use Rattle.std.proofs.lemmas.List.{length-append, length-map, length-take-le, ta
 use Rattle.std.proofs.lemmas.List.Elements.{filter-append}
 use Rattle.resil_pool.specs.Words.{IsValue, is_submit_of, submissions, accepted, MachineView, AreResultsOf, ids_of, Accepted, Event, Receipt, Row}
 use Rattle.resil_pool.specs.Parts.{submit_of}
-use Rattle.resil_pool.specs.Draining.{AreSubmissions, AreCollected, IsOfPlanOn, HasNumberedReceipt, HasReceipt, AgreeWithReceipts, Differ}
+use Rattle.resil_pool.specs.Draining.{AreSubmissions, AreCollected, HasReceipt, AgreeWithReceipts, Differ}
 
 -- an event that passes stands between those that pass before and after it
 passes_at : (p : Event → Bool) (h : List Event) (i : ℕ) (d : Event) → i < length h → p (get_or h i d) ≡ true → filter p h ≡ filter p (take i h) ++ get_or h i d ∷ filter p (drop (i + 1) h)

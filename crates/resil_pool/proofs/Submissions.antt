@@ -1,5 +1,5 @@
 -- A caller's turns: a submission, and a resize.
-use Rattle.std.proofs.Common.{◌≡◌, ◌≢◌, ne_eqb, ℕ, ◌+◌, ◌≤◌, Bool, true, false, cond, List, [], ◌∷◌, ◌++◌, map, length, refl, sym, ap, ◌∙◌, subst, arith, append-nil, Some, None, Result, Ok, Err, OnOk, OnErr, eq-eqb}
+use Rattle.std.proofs.Common.{◌≡◌, ◌≢◌, ne_eqb, ℕ, ◌+◌, ◌≤◌, Bool, true, false, cond, List, [], ◌∷◌, ◌++◌, map, length, refl, sym, ap, ◌∙◌, subst, arith, Some, None, Result, Ok, Err, OnOk, OnErr, eq-eqb}
 use Rattle.std.specs.List.{cons_option}
 use Rattle.std.proofs.lemmas.List.{map-append, length-map}
 use Rattle.resil_rule.specs.declared.error.AdmitError.TheVariants as cause
@@ -8,10 +8,9 @@ use Rattle.resil_pool.specs.declared.lock.logged_event.Note.TheVariants as note
 use Rattle.resil_pool.specs.Lock.{log_event, event_of, events_in, closer_number, is_own_event, is_own_note, own_in, SeesMore, SeesOwn, View, LockSeatState, MayHaveWritten, IsMoved}
 use Rattle.resil_pool.specs.Resize.{SeesResize}
 use Rattle.resil_pool.specs.Submit.{AnswersSubmission}
-use Rattle.resil_pool.proofs.Logs.{own_in-append}
 use Rattle.resil_pool.specs.Parts.{CallerView, caller_view, submission_id, submit_of, submission_of, IsCaller}
 use Rattle.resil_pool.proofs.MachineCalls.{submission-step}
-use Rattle.resil_pool.proofs.TurnLaws.{HasTurn, MayHave, Turned, ends-none, saw, home-now, view-now, rests-now, key-now, sees-more, sees-own, wrote-none, wrote-one}
+use Rattle.resil_pool.proofs.TurnLaws.{HasTurn, MayHave, Turned, ends-none, saw, view-now, rests-now, key-now, sees-more, sees-own, wrote-none, wrote-one}
 
 -- a caller's seat isn't the closer's
 pub is_not_closer : (me : LockSeatState) (number : ℕ) (receipts : List Receipt) → IsCaller me number receipts → me.0.number ≢ closer_number
@@ -135,12 +134,11 @@ module _ {A E : Type 0} (core max : ℕ) (answer : Result A E) (entries : List L
 -- the resize was written
 pub sees-resize : {old : LockSeatState} {m : MachineView} {entries : List LoggedEvent} {m' : MachineView} {new : LockSeatState} (core max : ℕ) → Turned old m entries m' new → entries ≡ log_event None (Resized core max) ∷ []
     → SeesResize old.0.key.limits old.0.number old.0.seen core max new.0.seen
-sees-resize {old} {entries = entries} core max t is =
-    let now = saw t in record {
-      legal = (home-now t).legal;
+sees-resize {old} core max t is =
+    let more = sees-more t (ap (own_in old.0.number) is) in record {
+      legal = more.legal;
       before = t.me.0.seen;
       begins = t.acted.took.begins;
-      ends = now ∙ ap (λ (xs : List LoggedEvent). t.me.0.seen ++ xs) is;
-      same_own = ap (own_in old.0.number) now
-          ∙ (own_in-append old.0.number t.me.0.seen entries ∙ (ap (λ (xs : List LoggedEvent). own_in old.0.number t.me.0.seen ++ own_in old.0.number xs) is ∙ (append-nil (own_in old.0.number t.me.0.seen) ∙ t.acted.took.same_own)));
+      ends = saw t ∙ ap (λ (xs : List LoggedEvent). t.me.0.seen ++ xs) is;
+      same_own = more.same_own;
     }

@@ -6,9 +6,9 @@ use Rattle.std.proofs.lemmas.List.Elements.{filter_map-append, All-push}
 use Rattle.resil_rule.proofs.LegalLaws.{legal-push}
 use Rattle.resil_lock.specs.declared.protocol.Phase.TheVariants.{Holding}
 use Rattle.resil_lock.specs.Lock.{IsNumbering, IsCovered, holder_view, left_view}
-use Rattle.resil_pool.specs.Words.{IsPrefix, PlanView, Sizes, IsAllowed, IsLegal, is_among, started, started_id, times, Id, Event, Submit, IdleEnd, Close, MachineView, jobs_in_flight, Row, LoggedEvent, Note, Opening, State, TableId}
+use Rattle.resil_pool.specs.Words.{IsPrefix, PlanView, Sizes, IsAllowed, IsLegal, is_among, started, started_id, times, Id, Event, Submit, Close, MachineView, jobs_in_flight, Row, LoggedEvent, Note, Opening, State, TableId}
 use Rattle.resil_pool.specs.declared.lock.logged_event.Note.TheVariants as note
-use Rattle.resil_pool.specs.Lock.{NamesCaller, AllNameCallers, log_event, events_in, starts_in, picked_in, ended_in, closer_number, is_own_note, is_own, own_in, plans_in, plan_entry, runs_in, SeesMore, SeesOwn, View, LockSeatState, IsMachineOf, MayHaveWritten, starts_of, told, IsDue, Tallies, EndsOnlyPicked, IsResting, MayWrite, IsStep, IsMoved, Takes, WritesAtMost, SeesClosing, WroteCloseAtMost, TookATurn}
+use Rattle.resil_pool.specs.Lock.{NamesCaller, AllNameCallers, log_event, events_in, starts_in, picked_in, ended_in, closer_number, is_own_note, is_own, own_in, plans_in, plan_entry, runs_in, SeesMore, SeesOwn, View, LockSeatState, IsMachineOf, MayHaveWritten, starts_of, told, IsDue, Tallies, EndsOnlyPicked, IsResting, MayWrite, IsStep, IsMoved, WritesAtMost, SeesClosing, WroteCloseAtMost, TookATurn}
 use Rattle.resil_pool.specs.Parts.{IsCloser, source_of}
 use Rattle.resil_pool.specs.Worker.{takes_in}
 use Rattle.resil_pool.proofs.Logs.{own_in-append, events_in-append, starts_in-append, plans_in-append, takes_in-append, picked-more, ended-more, numbering, few-job, due-job, take-next}

@@ -1,5 +1,5 @@
 -- What a worker's turns tell of the log that its seat has seen, and what all its rounds leave.
-use Rattle.std.proofs.Common.{◌≡◌, ◌≤◌, ◌+◌, ⊎_elim, inl, inr, ℕ, get_or, Bool, true, false, not, cond, List, [], ◌∷◌, ◌++◌, map, filter, refl, sym, ap, ◌∙◌, subst, append-nil, append_assoc, arith, Option, Some, None}
+use Rattle.std.proofs.Common.{◌≡◌, ⊎_elim, inl, inr, ℕ, get_or, Bool, true, false, not, cond, List, [], ◌∷◌, ◌++◌, map, filter, refl, sym, ap, ◌∙◌, subst, append-nil, append_assoc, arith, Option, Some, None}
 use Rattle.std.specs.Prelude.{option_map, find, All, Contains}
 use Rattle.std.specs.Option.{option_or}
 use Rattle.std.proofs.lemmas.List.Folds.{find-append}
@@ -12,9 +12,9 @@ use Rattle.resil_lock.specs.declared.work.Look.TheVariants.{Found, Over}
 use Rattle.resil_lock.specs.Work.{AfterRounds, OnFound, OnNothing, OnOver}
 use Rattle.resil_lock.proofs.RoundLaws.{after-rounds}
 use Rattle.resil_permit.proofs.Log.Prefixes.{prefix_trans}
-use Rattle.resil_pool.specs.Words.{PlanView, RunView, Asked, is_same_id, times, MachineView, IsPicked, plan_of, Accepted, Id, Take, IdleEnd, Row, LoggedEvent}
+use Rattle.resil_pool.specs.Words.{PlanView, RunView, Asked, is_same_id, MachineView, plan_of, Accepted, Id, Take, IdleEnd, Row, LoggedEvent}
 use Rattle.resil_pool.specs.declared.worker.AtWork.{AtWork}
-use Rattle.resil_pool.specs.Lock.{log_event, start_of, finish_of, picked_in, ended_in, plans_in, plan_entry, runs_in, LockSeatState, MayHaveWritten, IsDue, Tallies, Takes, WritesAtMost}
+use Rattle.resil_pool.specs.Lock.{log_event, start_of, finish_of, plans_in, plan_entry, runs_in, LockSeatState, IsDue, Tallies, Takes, WritesAtMost}
 use Rattle.resil_pool.proofs.Logs.{plans_in-append}
 use Rattle.resil_pool.proofs.TurnLaws.{HasTurn, MayHave, Turned, either, IsQuiet, takes-now, runs-now, tallies-now}
 use Rattle.resil_pool.specs.Worker.{KeepsPlan, HasRunTakes, RunsItsTakes, TakesAtMost, takes_in, asked_in, first_refused, HasRunJob, HasRunNone, HasRunOne, HasMadeRound, HasWorked}
@@ -78,8 +78,8 @@ module _ {old : LockSeatState} {m : MachineView} {entries : List LoggedEvent} {m
   ended-none quiet = runs-now t ∙ (ap (λ (rows : List Row). runs_in old.0.own ++ rows) quiet.runs ∙ append-nil (runs_in old.0.own))
 
 -- the end of a job that the seat had picked
-pub may-end : (old : LockSeatState) (id : Id) (run : RunView) → IsDue id old.0.own → MayHave old (finish_of id run ∷ [])
-may-end old id run due = record { may = (tt, tt); due = λ x. let d = due x in omega (arith, d) }
+pub may-end : (old : LockSeatState) (id : Id) (run : RunView) (entries : List LoggedEvent) → entries ≡ finish_of id run ∷ [] → IsDue id old.0.own → MayHave old entries
+may-end old id run entries is due = subst (MayHave old) (sym is) (record { may = (tt, tt); due = λ x. let d = due x in omega (arith, d) })
 
 -- the first of two
 option_map-or : {A B : Type 0} (f : A → B) (x y : Option A) → option_map f (option_or x y) ≡ option_or (option_map f x) (option_map f y)

@@ -2,7 +2,7 @@
 use Rattle.std.specs.Prelude.{◌≡◌, ◌⊎◌, ◌++◌, ◌∷◌, [], ℕ, Bool, List, All, Contains, Option, Some, None, option_map, find, filter, flat_map, map, not, true}
 use Rattle.resil_lock.specs.declared.work.Look.{Look}
 use Rattle.resil_lock.specs.declared.work.Look.TheVariants.{Nothing}
-use Rattle.resil_pool.specs.Words.{AdmitError, Accepted, plan_of, IsPrefix, Sizes, is_closed, is_same_id, taken, IsAllowed, Row, Id, Event, Take, IdleEnd, MachineView, IsFinishRefusal, with_event, PlanView, RunView, Asked, LoggedEvent}
+use Rattle.resil_pool.specs.Words.{AdmitError, Accepted, plan_of, IsPrefix, Sizes, is_closed, taken, IsAllowed, Row, Id, Event, Take, IdleEnd, MachineView, IsFinishRefusal, with_event, PlanView, RunView, Asked, LoggedEvent}
 use Rattle.resil_pool.specs.Lock.{events_in, plans_in, plan_entry, runs_in, MatchesLog, View, IsMoved, WritesAtMost}
 use Rattle.resil_pool.specs.declared.worker.AtWork.{AtWork}
 

@@ -1,5 +1,5 @@
 -- What lies under the lock says of itself: which logs it stands for, which seats there are, what a turn wrote, and which jobs a seat's own turns picked and ended.
-use Rattle.std.specs.Prelude.{◌≡◌, ◌≤◌, ◌<◌, ◌⊎◌, ◌+◌, ℕ, List, [], ◌∷◌, Option, Some, None, length, option_map, take}
+use Rattle.std.specs.Prelude.{◌≡◌, ◌≤◌, ◌⊎◌, ◌+◌, ℕ, List, [], ◌∷◌, Option, Some, None, length, option_map, take}
 use Rattle.atomic_table.specs.Table.{Me}
 use Rattle.resil_lock.specs.declared.protocol.View as lock
 use Rattle.resil_lock.specs.declared.protocol.Rank.{Rank}

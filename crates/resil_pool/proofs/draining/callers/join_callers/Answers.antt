@@ -1,7 +1,7 @@
 -- Each caller is found, in the order of the numbers.
 use Rattle.std.proofs.Common.{◌≡◌, ◌≢◌, ◌+◌, ◌<◌, ℕ, List, length, length-append, get_or, sym, ap, ◌∙◌, subst, arith}
 use Rattle.std.specs.Prelude.{All}
-use Rattle.resil_pool.specs.Words.{IsPrefix, LoggedEvent, Receipt}
+use Rattle.resil_pool.specs.Words.{IsPrefix, Receipt}
 use Rattle.resil_pool.specs.Lock.{own_in, LockSeatState}
 use Rattle.resil_pool.specs.Parts.{CallerView}
 use Rattle.resil_pool.proofs.JoinedCallers.{IsJoined, SoFar, so_far_next, still_there, all_gathered, all_left, mapped_push}
