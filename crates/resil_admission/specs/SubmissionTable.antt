@@ -9,7 +9,3 @@ row_at rows caller = slice_index_or rows caller []
 -- the index of the accepted job of an id; there is none of number 0
 abbrev pub place_at : List (List (Option ℕ)) → Id → Option ℕ
 place_at rows id = slice_index_or (None ∷ row_at rows id.caller) id.number None
-
--- two tables in which each caller has the same submissions
-abbrev pub AreSameRows : List (List (Option ℕ)) → List (List (Option ℕ)) → Type 0
-AreSameRows rows after = (caller : ℕ) → row_at after caller ≡ row_at rows caller

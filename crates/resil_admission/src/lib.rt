@@ -17,7 +17,6 @@
 //! and runs. The words of the rule, and the audit of a history, are handed on from `resil_rule`.
 #![tactic(auto)]
 
-mod caller_submissions;
 mod jobs;
 mod kept_job;
 mod machine;
