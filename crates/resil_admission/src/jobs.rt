@@ -16,7 +16,7 @@ ghost use Rattle.resil_rule.specs.History.{is_same_id, is_among};
 ghost use Rattle.resil_admission.specs.MachineView.{plan_of, ids_of, with_run, AllDone, AreResultsOf};
 ghost use Rattle.resil_admission.specs.JobsView.{HasPlace};
 
-use super::kept_job::KeptJob;
+use super::kept_job::{KeptJob, Progress};
 use super::submission_table::SubmissionTable;
 use super::{Id, Row};
 use resil_decor::{Plan, Run, SharedPlan};
@@ -102,7 +102,10 @@ impl Jobs {
     {
         let index = self.rows.len() + self.later.len();
         self.places.set(id, index);
-        self.later.push_back_reserved(KeptJob::new(id, plan));
+        self.later.push_back_reserved(KeptJob {
+            id,
+            progress: Progress::Unfinished(plan),
+        });
     }
 
     // The index of the job of an id, from 0.

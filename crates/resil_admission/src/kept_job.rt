@@ -12,7 +12,7 @@ use std::marker::Model;
 
 /// How far a job is.
 #[derive(Drop)]
-enum Progress {
+pub(crate) enum Progress {
     /// Its run hasn't ended: its plan, which it shares with its job.
     Unfinished(SharedPlan),
     /// Its run, which has its plan.
@@ -22,8 +22,8 @@ enum Progress {
 /// An accepted job: its submission, and its plan or its run.
 #[derive(Drop)]
 pub(crate) struct KeptJob {
-    id: Id,
-    progress: Progress,
+    pub(crate) id: Id,
+    pub(crate) progress: Progress,
 }
 
 impl Model for KeptJob {
@@ -36,16 +36,6 @@ impl Model for KeptJob {
 }
 
 impl KeptJob {
-    // A job of this plan, which has no run yet.
-    pub(crate) fn new(id: Id, plan: SharedPlan) -> KeptJob
-        ensures { result ≡ record { id = id; plan = plan; run = None } }
-    {
-        KeptJob {
-            id,
-            progress: Progress::Unfinished(plan),
-        }
-    }
-
     // Its plan.
     pub(crate) fn plan(&self) -> &Plan
         ensures { result.now ≡ self.now.plan }

@@ -23,13 +23,13 @@ invariant_of-self c =
     let index : c.len.result + c.len-2.result ≡ length ids = omega (arith, long, c.len.ensures, c.len-2.ensures, c.self.inside.rows.ok, c.self.inside.later.ok) in
     let grown : ids_of (jobs_kept rows (later ++ job ∷ [])) ≡ ids ++ c.args.id ∷ [] = ap ids_of (kept-push rows later job) ∙ map-append (λ job. job.id) (jobs_kept rows later) (job ∷ []) in
     record {
-      own_runs = rw (c.push_back_reserved.ensures.items, c.new.ensures, kept-push) (runs-push _ _ kept.own_runs refl);
+      own_runs = rw (c.push_back_reserved.ensures.items, kept-push) (runs-push _ _ kept.own_runs refl);
       room = omega (arith, ap length c.push_back_reserved.ensures.items, length-append {A = Accepted}, room, kept.room, c.self.inside.later.ok);
       places = λ x.
           c.set.ensures x
           ∙ ap (λ (n : ℕ). cond (is_same_id c.args.id x) (Some n) (place_at c.self.inside.places x)) index
           ∙ ap (λ (rest : Option ℕ). cond (is_same_id c.args.id x) (Some (length ids)) rest) (kept.places x)
-          ∙ sym (ap (λ (jobs : List Accepted). position (is_same_id x) (ids_of (jobs_kept rows jobs))) (rw c.new.ensures at c.push_back_reserved.ensures.items) ∙ ap (position (is_same_id x)) grown ∙ position-last c.args.id x ids new);
+          ∙ sym (ap (λ (jobs : List Accepted). position (is_same_id x) (ids_of (jobs_kept rows jobs))) c.push_back_reserved.ensures.items ∙ ap (position (is_same_id x)) grown ∙ position-last c.args.id x ids new);
     }
 
 pub returns : goal.returns
