@@ -227,8 +227,9 @@ impl Machine {
         let Some(slot) = self.rule.find(id) else {
             return Err((AdmitError::NotOut, run));
         };
+        // A job that is out was accepted, and so it is kept.
         let Some(index) = self.jobs.index_of(id) else {
-            return Err((AdmitError::NotOut, run));
+            unreachable!()
         };
         if !is_run_of(&self.jobs, index, &run, is_own_plan) {
             return Err((AdmitError::OtherJob, run));

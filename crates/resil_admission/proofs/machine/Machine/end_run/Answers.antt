@@ -19,13 +19,8 @@ returns-in_default-clause-refused c =
 pub returns-in_default-clause-out : goal.returns-in_default-clause-out
 returns-in_default-clause-out c = let bars = returns-in_default-clause-refused c in ((λ ok. absurd (cc ok)), (λ known. absurd (cc (known.0, bars))))
 
-pub returns-in_default-index_of-clause-out : goal.returns-in_default-index_of-clause-out
-returns-in_default-index_of-clause-out c =
-    let none = nowhere c.args.id (ids_of c.self.inside.jobs.jobs) (sym c.index_of.ensures ∙ is-nothing c.index_of.result c.in_default-index_of.not-Some) in
-    absurd (cc (none, (found-known c.self.inside.rule c.self.inside.history.events c.self.invariant.state c.in-Some.slot c.args.id c.in-Some.ensures.found c.self.inside.jobs.jobs c.self.invariant.accepted)))
-
-pub returns-in_default-index_of-clause-refused : goal.returns-in_default-index_of-clause-refused
-returns-in_default-index_of-clause-refused c =
+pub unreachable-requires : goal.unreachable-requires
+unreachable-requires c =
     let none = nowhere c.args.id (ids_of c.self.inside.jobs.jobs) (sym c.index_of.ensures ∙ is-nothing c.index_of.result c.in_default-index_of.not-Some) in
     absurd (cc (none, (found-known c.self.inside.rule c.self.inside.history.events c.self.invariant.state c.in-Some.slot c.args.id c.in-Some.ensures.found c.self.inside.jobs.jobs c.self.invariant.accepted)))
 
