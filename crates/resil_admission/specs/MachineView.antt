@@ -83,24 +83,14 @@ HasNoneToPick m = (next_started m ≡ None) × ((id : Id) → ¬ IsAllowed m.lim
 abbrev pub IsSubmitRefusal : MachineView → Id → AdmitError → Type 0
 IsSubmitRefusal m id refused.WrongNumber = id.number ≢ next_number m.history id.caller
 IsSubmitRefusal m id refused.Memory = id.number ≡ next_number m.history id.caller
-IsSubmitRefusal m id refused.CoreOutOfRange = ⊥
-IsSubmitRefusal m id refused.MaxOutOfRange = ⊥
-IsSubmitRefusal m id refused.QueueOutOfRange = ⊥
-IsSubmitRefusal m id refused.NotOut = ⊥
-IsSubmitRefusal m id refused.OtherJob = ⊥
-IsSubmitRefusal m id refused.NotDone = ⊥
+IsSubmitRefusal m id _ = ⊥
 
 -- why the end of a run is refused: no job of that id is out, or one is, and another plan was submitted under its id
 abbrev pub IsFinishRefusal : MachineView → Id → PlanView → AdmitError → Type 0
 IsFinishRefusal m id plan refused.NotOut = is_among id (jobs_in_flight m) ≡ false
 IsFinishRefusal m id plan refused.OtherJob =
     (is_among id (jobs_in_flight m) ≡ true) × (submitted : PlanView) × (plan_of m.jobs id ≡ Some submitted) × (submitted ≢ plan)
-IsFinishRefusal m id plan refused.Memory = ⊥
-IsFinishRefusal m id plan refused.WrongNumber = ⊥
-IsFinishRefusal m id plan refused.CoreOutOfRange = ⊥
-IsFinishRefusal m id plan refused.MaxOutOfRange = ⊥
-IsFinishRefusal m id plan refused.QueueOutOfRange = ⊥
-IsFinishRefusal m id plan refused.NotDone = ⊥
+IsFinishRefusal m id plan _ = ⊥
 
 -- each job has its run
 abbrev pub AllDone : List Accepted → Type 0
