@@ -56,16 +56,10 @@ plans-submitted v jobs id plan Closed accepts unpicked waits new = absurd (cc ac
 pub accepted-after : (h : List Event) (jobs : List Accepted) (id : Id) (plan : PlanView) (reply : Reply) → is_acceptance reply ≡ true → ids_of jobs ≡ accepted h
     → ids_of (jobs ++ record { id = id; plan = plan; run = None } ∷ []) ≡ accepted (h ++ Submit id reply ∷ [])
 accepted-after h jobs id plan reply accepts same =
-    map-append (λ job. job.id) jobs (record { id = id; plan = plan; run = None } ∷ []) ∙ ap (λ (ids : List Id). ids ++ id ∷ []) same ∙ sym (filtered-more accepted_id h (Submit id reply) id (takes reply accepts))
-  where
-    takes : (reply : Reply) → is_acceptance reply ≡ true → accepted_id (Submit id reply) ≡ Some id
-    takes reply accepts = grind (arith, accepts)
+    map-append (λ job. job.id) jobs (record { id = id; plan = plan; run = None } ∷ []) ∙ ap (λ (ids : List Id). ids ++ id ∷ []) same ∙ sym (filtered-more accepted_id h (Submit id reply) id (grind (arith, accepts)))
 
 pub refused-after : (h : List Event) (id : Id) (reply : Reply) → is_acceptance reply ≡ false → accepted (h ++ Submit id reply ∷ []) ≡ accepted h
-refused-after h id reply bars = accepted-same h (Submit id reply) (none reply bars)
-  where
-    none : (reply : Reply) → is_acceptance reply ≡ false → accepted_id (Submit id reply) ≡ None
-    none reply bars = grind (arith, bars)
+refused-after h id reply bars = accepted-same h (Submit id reply) (grind (arith, bars))
 
 -- the first job that wasn't picked
 pub next-is : (v : RuleView PlanView) (h : List Event) → IsStateOf h v → (id : Id) (plan : PlanView) → slice_get v.unpicked 0 ≡ Some (id, plan) → slice_get (started h) (length (started h) - length v.unpicked) ≡ Some id
@@ -135,17 +129,12 @@ out-there v h state slot there =
     sym (out-are v h state slot.id) ∙ among-times slot.id (ids_out v.out) ∙ ap is_positive more
 
 -- a machine after a submission, as its contracts see it
-newly-none : (id : Id) (reply : Reply) (plan : PlanView) → is_acceptance reply ≡ false → newly_accepted id reply plan ≡ []
-newly-none id reply plan bars = grind (arith, bars)
-
-none-started : (id : Id) (reply : Reply) → is_acceptance reply ≡ false → started_id (Submit id reply) ≡ None
-none-started id reply bars = grind (arith, bars)
-
 pub refused-view : (v : RuleView PlanView) (h : List Event) (jobs : List Accepted) (id : Id) (reply : Reply) (plan : PlanView) → is_acceptance reply ≡ false
     → seen v (h ++ Submit id reply ∷ []) jobs ≡ machine_submission (seen v h jobs) id reply plan
 refused-view v h jobs id reply plan bars =
-    let same = quiet-picked h (Submit id reply) v.unpicked (none-started id reply bars) in
-    let whole : jobs ≡ jobs ++ newly_accepted id reply plan = sym (append-nil jobs) ∙ ap (λ (more : List Accepted). jobs ++ more) (sym (newly-none id reply plan bars)) in
+    let same = quiet-picked h (Submit id reply) v.unpicked (grind (arith, bars)) in
+    let none : newly_accepted id reply plan ≡ [] = grind (arith, bars) in
+    let whole : jobs ≡ jobs ++ newly_accepted id reply plan = rw none (sym (append-nil jobs)) in
     ap (λ (n : ℕ). record (seen v (h ++ Submit id reply ∷ []) jobs) { picked = n }) same
     ∙ ap (λ (all : List Accepted). record (seen v h jobs) { history = h ++ Submit id reply ∷ []; jobs = all }) whole
 

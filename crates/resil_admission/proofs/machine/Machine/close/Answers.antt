@@ -1,4 +1,4 @@
-use Rattle.std.proofs.Common.{◌∙◌, sym, refl, arith, rules}
+use Rattle.std.proofs.Common.{◌∙◌, sym, refl, arith}
 use Rattle.resil_rule.specs.RuleView.{owed, with_close}
 use Rattle.resil_rule.specs.declared.event.Event.TheVariants.{Close}
 use Rattle.resil_rule.proofs.UnpickedLaws.{accepted-same}
@@ -17,9 +17,3 @@ invariant_of-self-2 c =
     let room = c.write.ensures.room (owed (with_close v)) (omega (arith, close-owes v (with_close v) still refl, kept.room)) in
     rw rule (machine-after h Close (with_close v) c.write.new.self c.self.inside.jobs (follows h kept.state).1 (c.write.ensures.written h refl) room
     (kept.accepted ∙ sym (accepted-same h Close refl)) kept.unpicked_plans kept.queue_plans)
-
-pub returns-then-not-close-clause-closes : goal.returns-then-not-close-clause-closes
-returns-then-not-close-clause-closes c = search rules
-
-pub returns-then-not-close-clause-event : goal.returns-then-not-close-clause-event
-returns-then-not-close-clause-event c = search rules
