@@ -16,7 +16,7 @@ use crate::batch::error::BatchError;
 use crate::batch::shared::Batch;
 use resil_decor::Passes;
 use resil_pool::{Closer, Hook, Pool, Worker, WorkerEnd};
-use std::alloc::Global;
+use std::alloc::{AllocError, Global};
 use std::sync::Wait;
 use std::thread::{JoinHandle, Scope, Threads};
 
@@ -41,6 +41,16 @@ pub(crate) struct ReadyWorkers<'a, R: Wait> {
     threads: WorkerThreads,
 }
 
+// Room for this many threads of workers, and for their ends.
+fn room_for(alloc: Global, count: usize) -> Result<WorkerThreads, AllocError>
+    ensures started { IfOk result (λ room. (room.started.items ≡ []) × (count ≤ vec_capacity room.started)) }
+    ensures ends { IfOk result (λ room. (room.ends.items ≡ []) × (count ≤ vec_capacity room.ends)) }
+{
+    let started = Vec::with_capacity(alloc, count)?;
+    let ends = Vec::with_capacity(alloc, count)?;
+    Ok(WorkerThreads { started, ends })
+}
+
 // Gives each worker passes that are split from these, and makes room for its thread and its end.
 pub(crate) fn prepare_workers<'a, R: Wait>(
     alloc: Global,
@@ -53,9 +63,7 @@ pub(crate) fn prepare_workers<'a, R: Wait>(
     ensures ready { IfOk result (AreReadyWorkers pool.now.source (length workers.items)) }
     ensures split { IfOk result (λ ready. All (λ one. AreSplitFrom passes.old one.passes) ready.each.items) }
 {
-    let started = Vec::with_capacity(alloc, workers.len())?;
-    let ends = Vec::with_capacity(alloc, workers.len())?;
-    let threads = WorkerThreads { started, ends };
+    let threads = room_for(alloc, workers.len())?;
     let mut each = Vec::with_capacity(alloc, workers.len())?;
     for worker in workers {
         let Ok(passes) = passes.split(alloc) else {
