@@ -17,7 +17,8 @@ use Rattle.resil_pool.specs.Lock.Turn.{PoolId}
 use Rattle.resil_pool.specs.Pool.{PoolView}
 use Rattle.resil_pool.specs.Parts.{CallerView, EndView, new_caller, new_callers}
 use Rattle.resil_pool.specs.Draining.Report.{AreNumbered, AreReceiptsOf, receipts_at}
-use Rattle.resil_pool.specs.Draining.{HasAllHandles, IsStranger, IsDrainError, Ended}
+use Rattle.resil_pool.specs.declared.draining.report.DrainFault.TheVariants.{PartMissing, Stranger, ReceiptsDiffer}
+use Rattle.resil_pool.specs.Draining.{HasAllHandles, IsPartMissing, IsStranger, IsReceiptsDiffer, IsDrainError, Ended}
 use Rattle.resil_workers.specs.Batch.Submit.{AreCallers, ArePlansOf, ReceiptsMatchRows, plans_of, plans_on_receipts}
 use Rattle.resil_workers.specs.Batch.Run.{IsFinishedBatch, DrainedBatch, HasStranger}
 use Rattle.resil_pool.proofs.JoinedCallers.{at_place}
@@ -73,8 +74,11 @@ has-handles rows sizes count pool callers ends limits many is = record {
   as_many = is.ends ∙ sym (ap (λ (s : Sizes). s.max) limits);
 }
 
-pub of-counts : (rows : List JobRow) (source : PoolId) (m n v w : ℕ) (sent : List CallerView) (left : List EndView) → m ≡ n → v ≡ w → IsFinishedBatch rows source m v sent left → IsFinishedBatch rows source n w sent left
-of-counts rows source m n v w sent left many workers is = subst (λ (k : ℕ). IsFinishedBatch rows source k w sent left) many (subst (λ (k : ℕ). IsFinishedBatch rows source m k sent left) workers is)
+-- a drain that had all parts and found the receipts right gives but one fault
+pub only-stranger : (fault : DrainFault) → ¬ IsPartMissing fault → ¬ IsReceiptsDiffer fault → IsStranger fault
+only-stranger Stranger there agree = tt
+only-stranger ReceiptsDiffer there agree = absurd (agree tt)
+only-stranger (PartMissing pool closer callers ends) there agree = absurd (there tt)
 
 -- once it is drained, all its rows were submitted
 pub was-drained : (rows : List JobRow) (sizes : Sizes) (count : ℕ) (pool : PoolView) (callers : List CallerView) (ends : List EndView) (answer : Result DrainReport DrainFault)

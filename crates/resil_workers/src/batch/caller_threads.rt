@@ -60,7 +60,11 @@ fn start_callers<'s, E: 's, R: Threads + Wait + Sync, H: Hook + Sync>(
             move || -> Submitted
                 requires { caller.source ≡ pool.now.source }
                 ensures { HasSubmitted rows.entry.now caller result }
-            { submit_own(rt, alloc, pool, caller, rows) },
+            {
+                let mut caller = caller;
+                let outcome = submit_own(rt, alloc, pool, &mut caller, rows);
+                Submitted { caller, outcome }
+            },
         ) {
             Ok(thread) => threads.push_reserved(thread),
             Err(_refused) => return (threads, Err(BatchError::Thread)),

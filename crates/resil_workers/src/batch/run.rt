@@ -24,7 +24,7 @@ use crate::batch::worker_threads::{ReadyWorkers, join_workers, prepare_workers, 
 use resil_admission::Limits;
 use resil_decor::Passes;
 use resil_pool::{
-    Caller, Closer, DrainFault, Hook, JobRow, MAX_CALLERS, Pool, Report, SubmitError, WorkerEnd,
+    Caller, Closer, Hook, JobRow, MAX_CALLERS, Pool, Report, SubmitError, Worker, WorkerEnd,
     close_held, drain, open_pool,
 };
 use std::alloc::Global;
@@ -174,7 +174,7 @@ fn submit_then_work<'a, R: Threads + Wait + Sync, H: Hook + Sync>(
     batch: &Batch<'_, R, H>,
     pool: &Pool,
     mut closer: Closer,
-    callers: Vec<Caller>,
+    mut callers: Vec<Caller>,
     workers: ReadyWorkers<'a, R>,
 ) -> Result<(Closer, Vec<Caller>, Vec<WorkerEnd>), RunError>
     requires closer { closer.source ≡ pool.now.source }
@@ -187,7 +187,7 @@ fn submit_then_work<'a, R: Threads + Wait + Sync, H: Hook + Sync>(
     ensures begins { IfOk result (λ r. BeginsWithRows batch.now.rows.now (events_in r.0.seen)) }
     ensures refused { IfErr result (λ error. (error ≡ RunError.Memory) ⊎ (error ≡ RunError.NoThread) ⊎ (error ≡ RunError.ReceiptsDiffer)) }
 {
-    let (callers, submitted) = submit_in_order(batch.rt, batch.alloc, pool, callers, batch.rows);
+    let submitted = submit_in_order(batch.rt, batch.alloc, pool, &mut callers, batch.rows);
     let in_order = close_held(batch.rt, pool, &mut closer, batch.rows);
     let (closer, worked) = work_off(batch, pool, closer, workers);
     let ends = answer_held(submitted, worked, in_order)?;
@@ -219,47 +219,71 @@ fn answer_held(
     Ok(ends)
 }
 
-// The rows are submitted and the workers work, in one of the two orders, and the pool is closed.
+// The workers are made ready, the rows are submitted and the workers work, in one of two orders.
 fn submit_and_work<'a, R: Threads + Wait + Sync, H: Hook + Sync>(
     batch: &Batch<'_, R, H>,
     pool: &Pool,
     closer: Closer,
     callers: Vec<Caller>,
-    workers: ReadyWorkers<'a, R>,
+    workers: Vec<Worker>,
+    passes: &mut Passes<'a, R>,
 ) -> Result<(Closer, Vec<Caller>, Vec<WorkerEnd>), RunError>
     requires closer { closer.source ≡ pool.now.source }
     requires callers { AreCallers pool.now.source callers.items }
     requires new { All (λ c. c.receipts ≡ []) callers.items }
     requires rows { All (IsFrom (length callers.items)) batch.now.rows.now }
-    requires workers { AreReadyWorkers pool.now.source (length workers.each.items) workers }
+    requires workers { All (λ w. w.source ≡ pool.now.source) workers.items }
     ensures closer { IfOk result (λ r. r.0.source ≡ pool.now.source) }
-    ensures finished { IfOk result (λ r. IsFinishedBatch batch.now.rows.now pool.now.source (length callers.items) (length workers.entry.each.items) r.1.items r.2.items) }
+    ensures finished { IfOk result (λ r. IsFinishedBatch batch.now.rows.now pool.now.source (length callers.items) (length workers.items) r.1.items r.2.items) }
     ensures begins { IsTrue batch.now.hold → IfOk result (λ r. BeginsWithRows batch.now.rows.now (events_in r.0.seen)) }
     ensures refused { IfErr result (λ error. (error ≡ RunError.Memory) ⊎ (error ≡ RunError.NoThread) ⊎ (error ≡ RunError.ReceiptsDiffer)) }
     ensures order { IsErrOf result RunError.ReceiptsDiffer → IsTrue batch.now.hold }
+    ensures passes { passes.new ≡ passes.old }
 {
-    if !batch.hold {
-        let (closer, done) = submit_beside_work(batch, pool, closer, callers, workers);
-        let (callers, ends) = done?;
-        return Ok((closer, callers, ends));
+    let workers = prepare_workers(batch.alloc, pool, workers, passes)?;
+    if batch.hold {
+        return submit_then_work(batch, pool, closer, callers, workers);
     }
-    submit_then_work(batch, pool, closer, callers, workers)
+    let (closer, done) = submit_beside_work(batch, pool, closer, callers, workers);
+    let (callers, ends) = done?;
+    Ok((closer, callers, ends))
 }
 
-// Refuses more than 64 callers, and a row that names none of them.
-fn check_rows(callers: u16, rows: &[JobRow]) -> Result<(), RunError>
-    ensures too_many { IsErrOf result RunError.TooManyCallers ↔ (64 < callers) }
-    ensures bad_caller { IsErrOf result RunError.BadCaller ↔ ((callers ≤ 64) × ¬ All (IsFrom callers) rows.now) }
-    ensures fine { OnOk result ((callers ≤ 64) × All (IsFrom callers) rows.now) }
-    ensures refused { IfErr result (λ error. (error ≡ RunError.TooManyCallers) ⊎ (error ≡ RunError.BadCaller)) }
+// Opens a pool, and has its rows submitted and its jobs run. More than 64 callers are refused, and a row that names none of them.
+fn finish_batch<'a, R: Threads + Wait + Sync, H: Hook + Sync>(
+    batch: &Batch<'_, R, H>,
+    config: RunConfig,
+    passes: &mut Passes<'a, R>,
+) -> Result<(Pool, Closer, Vec<Caller>, Vec<WorkerEnd>), RunError>
+    ensures limits { IfOk result (λ r. r.0.source.limits ≡ config.limits) }
+    ensures number { IfOk result (λ r. r.0.callers ≡ config.callers) }
+    ensures closer { IfOk result (λ r. r.1.source ≡ r.0.source) }
+    ensures finished { IfOk result (λ r. IsFinishedBatch batch.now.rows.now r.0.source config.callers config.limits.max r.2.items r.3.items) }
+    ensures begins { IsTrue batch.now.hold → IfOk result (λ r. BeginsWithRows batch.now.rows.now (events_in r.1.seen)) }
+    ensures too_many { IsErrOf result RunError.TooManyCallers ↔ (64 < config.callers) }
+    ensures bad_caller { IsErrOf result RunError.BadCaller ↔ ((config.callers ≤ 64) × ¬ All (IsFrom config.callers) batch.now.rows.now) }
+    ensures stranger { ¬ IsErrOf result RunError.Stranger }
+    ensures order { IsErrOf result RunError.ReceiptsDiffer → IsTrue batch.now.hold }
+    ensures passes { passes.new ≡ passes.old }
 {
-    if callers > MAX_CALLERS {
+    if config.callers > MAX_CALLERS {
         return Err(RunError::TooManyCallers);
     }
-    if !all_from(rows, callers) {
+    if !all_from(batch.rows, config.callers) {
         return Err(RunError::BadCaller);
     }
-    Ok(())
+    let Ok((pool, closer, callers, workers)) = open_pool(
+        batch.alloc,
+        config.limits,
+        config.keep_alive,
+        config.callers,
+    ) else {
+        return Err(RunError::Memory);
+    };
+    match submit_and_work(batch, &pool, closer, callers, workers, passes) {
+        Ok((closer, callers, ends)) => Ok((pool, closer, callers, ends)),
+        Err(error) => Err(error),
+    }
 }
 
 /// Runs the jobs of these rows on a pool of its own, and drains it. With `hold` all rows are submitted in row
@@ -312,21 +336,10 @@ pub fn run_jobs<'a, R: Threads + Wait + Sync, H: Hook + Sync>(
         hold,
         hook,
     };
-    check_rows(config.callers, batch.rows)?;
-    let Ok((pool, closer, callers, workers)) = open_pool(
-        alloc,
-        config.limits,
-        config.keep_alive,
-        config.callers,
-    ) else {
-        return Err(RunError::Memory);
-    };
-    let workers = prepare_workers(alloc, &pool, workers, passes)?;
-    let (closer, callers, ends) = submit_and_work(&batch, &pool, closer, callers, workers)?;
+    let (pool, closer, callers, ends) = finish_batch(&batch, config, passes)?;
     match drain(rt, pool, closer, callers, ends, passes) {
         Ok(report) => Ok(report),
-        Err(DrainFault::Stranger) => Err(RunError::Stranger),
-        Err(DrainFault::ReceiptsDiffer) => Err(RunError::ReceiptsDiffer),
-        Err(DrainFault::PartMissing(_, _, _, _)) => unreachable!(),
+        // All parts were there, and the receipts are what the history says.
+        Err(_fault) => Err(RunError::Stranger),
     }
 }

@@ -48,40 +48,25 @@ fn submit_copy<R: Wait>(
     }
 }
 
-// Whether the row is this caller's.
-fn is_own(row: &JobRow, caller: &Caller) -> bool
-    ensures { IsTrue result ↔ (row.now.caller ≡ caller.now.number) }
-{
-    row.caller == caller.number()
-}
-
 // Submits the rows of one caller, in row order.
 pub(crate) fn submit_own<R: Wait>(
     rt: &R,
     alloc: Global,
     pool: &Pool,
-    mut caller: Caller,
+    caller: &mut Caller,
     rows: &[JobRow],
-) -> Submitted
-    requires { caller.source ≡ pool.now.source }
-    ensures same { IsSameCaller caller result.caller }
-    ensures told { OnOk result.outcome (plans_on_receipts result.caller ≡ plans_on_receipts caller ++ plans_of rows.now caller.number) }
+) -> Result<(), SubmitError>
+    requires { caller.old.source ≡ pool.now.source }
+    ensures same { IsSameCaller caller.old caller.new }
+    ensures told { OnOk result (plans_on_receipts caller.new ≡ plans_on_receipts caller.old ++ plans_of rows.now caller.old.number) }
 {
     for row in rows {
-        if !is_own(row, &caller) {
+        if row.caller != caller.number() {
             continue;
         }
-        if let Err(error) = submit_copy(rt, alloc, pool, &mut caller, &row.plan) {
-            return Submitted {
-                caller,
-                outcome: Err(error),
-            };
-        }
+        submit_copy(rt, alloc, pool, caller, &row.plan)?;
     }
-    Submitted {
-        caller,
-        outcome: Ok(()),
-    }
+    Ok(())
 }
 
 // Submits all rows in their order, each by its caller.
@@ -89,21 +74,19 @@ pub(crate) fn submit_in_order<R: Wait>(
     rt: &R,
     alloc: Global,
     pool: &Pool,
-    mut callers: Vec<Caller>,
+    callers: &mut Vec<Caller>,
     rows: &[JobRow],
-) -> (Vec<Caller>, Result<(), SubmitError>)
-    requires callers { AreCallers pool.now.source callers.items }
-    requires new { All (λ c. c.receipts ≡ []) callers.items }
-    requires rows { All (IsFrom (length callers.items)) rows.now }
-    ensures number { length result.0.items ≡ length callers.items }
-    ensures callers { AreCallers pool.now.source result.0.items }
-    ensures told { OnOk result.1 (ReceiptsMatchRows rows.now result.0.items) }
+) -> Result<(), SubmitError>
+    requires callers { AreCallers pool.now.source callers.old.items }
+    requires new { All (λ c. c.receipts ≡ []) callers.old.items }
+    requires rows { All (IsFrom (length callers.old.items)) rows.now }
+    ensures number { length callers.new.items ≡ length callers.old.items }
+    ensures callers { AreCallers pool.now.source callers.new.items }
+    ensures told { OnOk result (ReceiptsMatchRows rows.now callers.new.items) }
 {
     for row in rows {
         let caller = &mut callers[usize::from(row.caller) - 1];
-        if let Err(error) = submit_copy(rt, alloc, pool, caller, &row.plan) {
-            return (callers, Err(error));
-        }
+        submit_copy(rt, alloc, pool, caller, &row.plan)?;
     }
-    (callers, Ok(()))
+    Ok(())
 }
