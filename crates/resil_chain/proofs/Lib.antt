@@ -1,2 +1,3 @@
 pub mod HeadLaws
+pub mod RunFieldLaws
 pub mod RunLaws

@@ -4,7 +4,7 @@ use Rattle.std.proofs.lemmas.List.{map_push}
 use Rattle.resil_decor.specs.declared.layer.Layer.{Layer}
 use Rattle.resil_decor.specs.Run.{RunView}
 use Rattle.resil_input.specs.CsvTable.{record_text, table_text}
-use Rattle.resil_input.specs.RunFields.{run_fields}
+use Rattle.resil_chain.specs.RunFields.{run_fields}
 use Rattle.resil_input.proofs.TableLaws.{table_text-more}
 use Rattle.resil_chain.specs.Runs.{AreRunsOf, IsRunOf, IsTextOfRuns, chain_text_header}
 use Rattle.resil_chain.specs.Rows.{ChainRowView}

@@ -4,7 +4,7 @@ use Rattle.resil_decor.specs.declared.layer.Layer.{Layer}
 use Rattle.resil_decor.specs.Listed.{first_answers}
 use Rattle.resil_decor.specs.Run.{IsValue, RunView}
 use Rattle.resil_input.specs.CsvTable.{table_text}
-use Rattle.resil_input.specs.RunFields.{run_fields}
+use Rattle.resil_chain.specs.RunFields.{run_fields}
 use Rattle.resil_chain.specs.Rows.{ChainRowView}
 
 -- the fields of the header

@@ -10,6 +10,7 @@ ghost use Rattle.resil_heads.specs.CommandError.{IsError};
 
 pub mod head;
 pub mod rows;
+pub mod run_fields;
 pub mod runs;
 mod worked_heads;
 

@@ -10,9 +10,9 @@ ghost use Rattle.resil_chain.specs.Rows.{ChainRowView};
 ghost use Rattle.resil_chain.specs.Runs.{IsRunOf, IsTextOfRuns};
 
 use crate::rows::ChainRow;
+use crate::run_fields::RunTexts;
 use resil_decor::{Chain, Job, Listed, Plan, Run};
 use resil_input::csv_table::CsvTable;
-use resil_input::run_fields::RunTexts;
 use resil_retry::Script;
 use std::alloc::{AllocError, Global};
 

@@ -1,5 +1,5 @@
 -- The text of a table: records of fields, none of which needs quotes.
-use Rattle.std.specs.Prelude.{◌≡◌, ◌<◌, ℕ, ◌++◌, ◌∷◌, [], List, Bool, true, false, not, unwrap_or, Some}
+use Rattle.std.specs.Prelude.{◌≡◌, ◌<◌, ℕ, ◌++◌, ◌∷◌, [], List, Bool, true, false, codes, not, unwrap_or, Some}
 use Rattle.std.specs.List.{flat_map, join_with_byte, list_all}
 use Rattle.csv.specs.Writing.{comma, default_writer, fields_written, first_length, has_written, needs_quotes, text_written, writer_setup}
 use Rattle.csv.specs.Machine.{line_feed}
@@ -12,6 +12,10 @@ record_text fields = join_with_byte comma fields ++ line_feed ∷ []
 -- a table: its records in order
 abbrev pub table_text : List (List (List ℕ)) → List ℕ
 table_text records = flat_map record_text records
+
+-- the header of a table of results: the id of a job, and what is told of its run
+abbrev pub results_header : List (List ℕ)
+results_header = codes "caller" ∷ codes "number" ∷ codes "outcome" ∷ codes "calls" ∷ codes "waits" ∷ codes "asked" ∷ []
 
 -- whether a field has no comma, quote or line end in it
 abbrev pub is_plain : List ℕ → Bool

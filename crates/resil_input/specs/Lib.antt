@@ -7,6 +7,5 @@ pub mod Number
 pub mod OutcomeText
 pub mod Output
 pub mod ReaderState
-pub mod RunFields
 pub mod Script
 pub mod TextEquality

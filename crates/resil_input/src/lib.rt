@@ -16,5 +16,4 @@ pub mod kept;
 pub mod number;
 pub mod outcome_text;
 pub mod output;
-pub mod run_fields;
 pub mod script;

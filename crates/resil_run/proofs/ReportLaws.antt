@@ -3,9 +3,9 @@ use Rattle.std.proofs.Common.{◌≡◌, ◌<◌, ◌+◌, ◌∷◌, ◌++◌, 
 use Rattle.std.proofs.lemmas.List.{map_more}
 use Rattle.resil_admission.specs.declared.row.Row.{Row}
 use Rattle.resil_decor.specs.Run.{RunView}
-use Rattle.resil_input.specs.RunFields.{results_header, run_fields}
+use Rattle.resil_chain.specs.RunFields.{run_fields}
 use Rattle.resil_run.specs.Report.{result_fields}
-use Rattle.resil_input.specs.CsvTable.{record_text, table_text}
+use Rattle.resil_input.specs.CsvTable.{record_text, results_header, table_text}
 use Rattle.resil_input.proofs.TableLaws.{table_text-more}
 
 -- the text so far, with one more result

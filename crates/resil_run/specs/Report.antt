@@ -8,10 +8,10 @@ use Rattle.resil_rule.specs.declared.event.Reply.TheVariants.{Core}
 use Rattle.resil_rule.specs.declared.event.Event.{Event}
 use Rattle.resil_rule.specs.declared.event.Event.TheVariants.{Submit, Finish, IdleEnd, Close}
 use Rattle.resil_admission.specs.declared.row.Row.{Row}
-use Rattle.resil_input.specs.RunFields.{results_header, run_fields}
+use Rattle.resil_chain.specs.RunFields.{run_fields}
 use Rattle.resil_replay.specs.declared.history.Version.TheVariants.{One}
 use Rattle.resil_replay.specs.History.{history_text}
-use Rattle.resil_input.specs.CsvTable.{table_text}
+use Rattle.resil_input.specs.CsvTable.{results_header, table_text}
 
 -- the fields of a result: the job's id, and those of its run
 abbrev pub result_fields : Row → List (List ℕ)

@@ -10,8 +10,8 @@ ghost use Rattle.resil_input.specs.CsvTable.{HasColumns, record_text, text_so_fa
 
 use itoa::Buffer;
 use resil_admission::{Event, Row};
+use resil_chain::run_fields::RunTexts;
 use resil_input::csv_table::CsvTable;
-use resil_input::run_fields::RunTexts;
 use resil_replay::history::{Version, history_text};
 use std::alloc::{AllocError, Global};
 

@@ -9,7 +9,7 @@ use Rattle.resil_input.specs.OutcomeText.{parse_outcome}
 use Rattle.resil_input.specs.TextEquality.{is_same}
 use Rattle.resil_input.specs.declared.csv_rows.BodyError.{BodyError}
 use Rattle.resil_stats.specs.declared.results.JobResult.{JobResult}
-use Rattle.resil_input.specs.RunFields.{results_header}
+use Rattle.resil_input.specs.CsvTable.{results_header}
 
 -- ---- The two parts of a body.
 

@@ -37,7 +37,7 @@ pub struct Rows;
 impl RowFormat for Rows {
     type Row = JobResult;
 
-    ghost use Rattle.resil_input.specs.RunFields.{results_header};
+    ghost use Rattle.resil_input.specs.CsvTable.{results_header};
     ghost use Rattle.resil_stats.specs.Results.{parse_result};
 
     ghost header = { results_header };

@@ -1,6 +1,6 @@
 use Rattle.std.proofs.Common.{◌∙◌}
 use Rattle.std.proofs.lemmas.Result.{on_ok_weaker}
-use Rattle.resil_input.proofs.PlainLaws.{ArePlain-run_fields}
+use Rattle.resil_chain.proofs.RunFieldLaws.{ArePlain-run_fields}
 use Rattle.resil_chain.proofs.RunLaws.{IsTextOfRuns-more}
 use Rattle.resil_chain.proofs.runs.push_row.Goals as goal
 

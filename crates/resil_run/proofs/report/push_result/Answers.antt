@@ -2,7 +2,8 @@ use Rattle.std.proofs.Common.{◌∷◌, ◌++◌, ◌∙◌, [], ℕ, List, ap,
 use Rattle.std.proofs.lemmas.Result.{on_ok_weaker}
 use Rattle.std.specs.Fmt.{decimal}
 use Rattle.resil_input.specs.CsvTable.{ArePlain, record_text, text_so_far}
-use Rattle.resil_input.proofs.PlainLaws.{ArePlain-run_fields, IsPlain_number}
+use Rattle.resil_input.proofs.PlainLaws.{IsPlain_number}
+use Rattle.resil_chain.proofs.RunFieldLaws.{ArePlain-run_fields}
 use Rattle.resil_run.proofs.ReportLaws.{texts-of_run}
 use Rattle.resil_run.proofs.report.push_result.Goals as goal
 

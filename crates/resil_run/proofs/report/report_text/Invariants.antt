@@ -1,9 +1,8 @@
 use Rattle.std.proofs.Common.{◌≡◌, ◌∷◌, ◌++◌, codes, map, take}
 use Rattle.resil_replay.specs.declared.history.Version.TheVariants.{One}
 use Rattle.resil_replay.specs.History.{history_text}
-use Rattle.resil_input.specs.RunFields.{results_header}
 use Rattle.resil_run.specs.Report.{result_fields}
-use Rattle.resil_input.specs.CsvTable.{HasColumns, table_text, text_so_far}
+use Rattle.resil_input.specs.CsvTable.{HasColumns, results_header, table_text, text_so_far}
 use Rattle.resil_run.proofs.report.report_text.Given as goal
 
 -- the history, the empty line, the header and the records of the results so far

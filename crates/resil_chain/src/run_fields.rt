@@ -8,11 +8,11 @@ ghost use Rattle.std.specs.Prelude.{String, ◌≡◌, ◌++◌, map, OnOk};
 ghost use Rattle.std.specs.Fmt.{decimal};
 ghost use Rattle.std.specs.String.{string_bytes};
 ghost use Rattle.resil_input.specs.OutcomeText.{outcome_text};
-ghost use Rattle.resil_input.specs.RunFields.{asked_item, items_text, run_fields};
+ghost use Rattle.resil_chain.specs.RunFields.{asked_item, items_text, run_fields};
 
-use crate::outcome_text::push_outcome;
 use itoa::Buffer;
 use resil_decor::{Asked, Run};
+use resil_input::outcome_text::push_outcome;
 use std::alloc::{AllocError, Global};
 use std::marker::Model;
 
@@ -110,7 +110,7 @@ impl Item for Asked {
 
 // Writes items, with semicolons between them, in place of what was there. Errors: `AllocError` where
 // memory runs out.
-#[tactic(auto, using(crate::proofs::PlainLaws::items_text_flat))]
+#[tactic(auto, using(crate::proofs::RunFieldLaws::items_text_flat))]
 fn write_items<I: Item>(text: &mut String, items: &[I]) -> Result<(), AllocError>
     ensures { OnOk result (string_bytes text.new ≡ items_text (map I.text_of items.now)) }
 {

@@ -30,7 +30,3 @@ asked_text asked = items_text (map asked_item asked)
 -- the fields of a run
 abbrev pub run_fields : RunView → List (List ℕ)
 run_fields run = outcome_text run.outcome ∷ decimal run.calls ∷ waits_text run.waits ∷ asked_text run.asked ∷ []
-
--- the header of a table of results: the id of a job, and the fields of its run
-abbrev pub results_header : List (List ℕ)
-results_header = codes "caller" ∷ codes "number" ∷ codes "outcome" ∷ codes "calls" ∷ codes "waits" ∷ codes "asked" ∷ []

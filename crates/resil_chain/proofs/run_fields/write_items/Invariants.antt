@@ -1,8 +1,8 @@
 use Rattle.std.proofs.Common.{◌≡◌, ◌∷◌, ◌++◌, drop, map}
 use Rattle.std.specs.List.{flat_map}
 use Rattle.std.specs.String.{string_bytes}
-use Rattle.resil_input.specs.RunFields.{items_text}
-use Rattle.resil_input.proofs.run_fields.write_items.Given as goal
+use Rattle.resil_chain.specs.RunFields.{items_text}
+use Rattle.resil_chain.proofs.run_fields.write_items.Given as goal
 
 -- the items so far, and those that are left
 abbrev pub invariant-loop-item : goal.invariant-loop-item
