@@ -1,7 +1,8 @@
 //! `chain`: runs a job for each row through the layers of the head, and writes the result of each.
 //!
-//! No bulkhead is made: the row has the answers that its bulkheads give. `head` and
-//! `rows` are what is read, and `runs` runs the jobs and writes the text.
+//! No bulkhead is made: the row has the answers that its bulkheads give. `head` and `rows` are what
+//! is read, and `runs` runs the jobs and writes the text, by the fields that `run_fields` gives a
+//! run.
 #![tactic(auto)]
 
 ghost use Rattle.std.specs.Prelude.{MatchResult};

@@ -16,8 +16,8 @@ use Rattle.resil_heads.specs.declared.command_error.CommandError.{CommandError}
 use Rattle.resil_heads.specs.declared.command_error.CommandError.TheVariants as error
 use Rattle.resil_heads.specs.declared.refusal.Refusal.{Refusal}
 use Rattle.resil_heads.specs.declared.refusal.Refusal.TheVariants as refusal
-use Rattle.resil_run.specs.Run.{HasRun, IsRunRefusal, IsRunText}
-use Rattle.resil_run.specs.Play.{MayAnswerOnThreads}
+use Rattle.resil_driver.specs.Run.{HasRun, IsRunRefusal, IsRunText}
+use Rattle.resil_driver.specs.Run.Play.{MayAnswerOnThreads}
 use Rattle.resil_driver.specs.Command.{IsTextOf, IsRefusalOf}
 use Rattle.resil_driver.specs.Answer.{IsAnswerOf, IsRefusalFor, IsRefusedFor, LacksThread}
 use Rattle.resil_driver.specs.Program.{IsAnswerTo}

@@ -11,8 +11,8 @@ use Rattle.resil_words.specs.declared.command_line.Request.TheVariants as reques
 use Rattle.resil_words.specs.declared.command_line.RunOptions.{RunOptions}
 use Rattle.resil_heads.specs.declared.refusal.Refusal.{Refusal}
 use Rattle.resil_heads.specs.declared.refusal.Refusal.TheVariants as refusal
-use Rattle.resil_run.specs.Run.{HasRun, IsRunText, IsRunRefusal}
-use Rattle.resil_run.specs.Play.{MayAnswerOnThreads}
+use Rattle.resil_driver.specs.Run.{HasRun, IsRunText, IsRunRefusal}
+use Rattle.resil_driver.specs.Run.Play.{MayAnswerOnThreads}
 use Rattle.resil_driver.specs.Command.{IsTextOf, IsRefusalOf}
 
 -- a text of any command, for an input within the limit

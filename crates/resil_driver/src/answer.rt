@@ -9,9 +9,9 @@ ghost use Rattle.resil_heads.specs.CommandError.{IsError, IsRunError};
 ghost use Rattle.resil_driver.specs.Answer.{IsAnswerOf, IsRefusedFor, LacksThread};
 
 use crate::command::command_text;
+use crate::run::{self, ThreadRunner};
 use resil_heads::{CommandError, Refusal};
 use resil_input::io::Input;
-use resil_run::ThreadRunner;
 use resil_words::{Request, RunOptions, Single};
 use std::alloc::Global;
 use std::sync::Wait;
@@ -50,6 +50,6 @@ pub(crate) fn run_answer<R: Threads + Wait + Sync>(
 {
     match input {
         Input::TooLong => Err(CommandError::Refused(Refusal::TooLong)),
-        Input::Whole(bytes) => resil_run::text(&ThreadRunner, rt, alloc, words, bytes),
+        Input::Whole(bytes) => run::text(&ThreadRunner, rt, alloc, words, bytes),
     }
 }

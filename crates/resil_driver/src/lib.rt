@@ -4,13 +4,14 @@
 //! each command to an input of any length, and `program` reads the words and the input, and writes
 //! the answer with its status.
 //!
-//! `run` alone starts threads and may wait, so there are two entries: `drive_single` for the other
-//! commands, which has no runtime, and `drive` for all.
+//! `run` is the command of that name, which alone starts threads and may wait. So there are two
+//! entries: `drive_single` for the other commands, which has no runtime, and `drive` for all.
 #![tactic(auto)]
 
 mod answer;
 mod command;
 mod program;
+pub mod run;
 
 pub use program::{drive, drive_single};
 pub use resil_heads::{CommandError, Refusal, RunRefusal, StepRefusal, refusal_line};

@@ -1,5 +1,5 @@
 //! The tests of the program's crates: `resil_input`, `resil_heads`, `resil_words`, `resil_replay`,
-//! `resil_chain`, `resil_weave`, `resil_run` and `resil_driver`.
+//! `resil_chain`, `resil_weave` and `resil_driver`.
 //!
 //! A crate that has tests is proved twice, without them and with them. So these are in a crate that
 //! has nothing else. What words and an input give as text or as a refusal is shown by `examples/`;

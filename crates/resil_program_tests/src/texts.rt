@@ -4,6 +4,7 @@ use resil_admission::{AdmitError, Event, Id, Reply, Row, Verdict};
 use resil_chain::head::read_head;
 use resil_chain::runs::run_row;
 use resil_decor::{DecorError, Run};
+use resil_driver::run::report::report_text;
 use resil_driver::{CommandError, Refusal, RunRefusal, UsageError, refusal_line};
 use resil_heads::HeadError;
 use resil_input::csv_rows::BodyError;
@@ -11,7 +12,6 @@ use resil_input::io::{ReadError, ReadFailure, WriteError};
 use resil_replay::audit::verdict_text;
 use resil_replay::events;
 use resil_replay::history::{Version, history_text};
-use resil_run::report::report_text;
 use std::alloc::Global;
 use std::fmt::Display;
 use std::process::Abort;
@@ -71,7 +71,7 @@ fn greatest_position(rt: HostRuntime) {
 
 // The caller of the one job of a body of `run`.
 fn caller_of(rt: &impl Abort, alloc: Global, body: &[u8]) -> u16 {
-    let mut jobs = resil_run::rows::read_rows(alloc, 65_535, body).expect(rt, "rows");
+    let mut jobs = resil_driver::run::rows::read_rows(alloc, 65_535, body).expect(rt, "rows");
     jobs.pop().expect(rt, "a row").caller
 }
 

@@ -1,0 +1,102 @@
+//! The bodies of `run`: the jobs, each with the caller that submits it and its script.
+//!
+//! A row names one of the pool's callers. The rows of one caller are its jobs in the order of
+//! submission. All rows are read before the first job is submitted, so a row that can't be read
+//! keeps every job from running.
+
+ghost use Rattle.std.specs.Prelude.{◌≡◌, MatchResult, IfOk};
+ghost use Rattle.resil_driver.specs.Run.Rows.{parse_caller_up_to, parse_job_fields, IsRunBody, IsRunBodyError};
+
+use csv::ByteRecord;
+use resil_heads::run::RUN_HEADER;
+use resil_input::csv_rows::{self, BodyError, RowFormat, has_fields};
+use resil_input::fields::field_at;
+use resil_input::number::parse_caller;
+use resil_input::script::parse_script;
+use resil_retry::Script;
+use std::alloc::{AllocError, Global};
+
+/// One row of a `run`.
+#[derive(Drop)]
+pub struct ScriptedJob {
+    /// The caller that submits the job, from 1.
+    pub caller: u16,
+    /// The outcomes of the innermost function, call by call. Later calls have the last one.
+    pub script: Script,
+}
+
+/// The bodies of `run`: the header `caller,script`, and a [`ScriptedJob`] for each record, whose
+/// caller is one of the pool's.
+#[derive(Clone, Copy)]
+pub struct Rows {
+    /// The number of the pool's callers. They are numbered from 1.
+    pub callers: u16,
+}
+
+impl RowFormat for Rows {
+    type Row = ScriptedJob;
+
+    ghost use Rattle.resil_driver.specs.Run.Rows.{run_rows_header, parse_job};
+
+    ghost header = { run_rows_header };
+
+    ghost row_of = { λ rows fields. parse_job rows.callers fields };
+
+    fn is_header(&self, fields: &ByteRecord) -> bool {
+        has_fields(fields, RUN_HEADER)
+    }
+
+    fn row_of(
+        &self,
+        alloc: Global,
+        fields: &ByteRecord,
+    ) -> Result<Option<ScriptedJob>, AllocError> {
+        parse_job_fields(
+            alloc,
+            self.callers,
+            field_at(fields, 0),
+            field_at(fields, 1),
+        )
+    }
+}
+
+// Reads the number of a caller, from 1 to `callers`.
+fn parse_caller_up_to(callers: u16, field: &[u8]) -> Option<u16>
+    ensures { result ≡ parse_caller_up_to callers field.now }
+{
+    let caller = parse_caller(field)?;
+    if caller > callers {
+        return None;
+    }
+    Some(caller)
+}
+
+// Reads a job from two fields. Errors: `AllocError` where memory runs out.
+fn parse_job_fields(
+    alloc: Global,
+    callers: u16,
+    caller: &[u8],
+    script: &[u8],
+) -> Result<Option<ScriptedJob>, AllocError>
+    ensures { IfOk result (λ job. job ≡ parse_job_fields callers caller.now script.now) }
+{
+    let Some(caller) = parse_caller_up_to(callers, caller) else {
+        return Ok(None);
+    };
+    let Some(script) = parse_script(alloc, script)? else {
+        return Ok(None);
+    };
+    Ok(Some(ScriptedJob { caller, script }))
+}
+
+/// Reads the jobs of a body of `run`, in order. Each names a caller from 1 to `callers`.
+///
+/// # Errors
+///
+/// The first that is met: `Memory` where memory runs out; `BadHeader` where the first record is
+/// missing or isn't the header; `BadRow` with the position of the first record that is no job.
+pub fn read_rows(alloc: Global, callers: u16, body: &[u8]) -> Result<Vec<ScriptedJob>, BodyError>
+    ensures { MatchResult result (λ jobs. IsRunBody callers body.now jobs.items) (IsRunBodyError callers body.now) }
+{
+    csv_rows::read_rows(alloc, &Rows { callers }, body)
+}

@@ -1,0 +1,125 @@
+//! What carries out the jobs of a `run`.
+//!
+//! A runner is told the settings of the pool, the bulkheads and the rows. What it may answer then
+//! is its own meaning, of which nothing else is known to its caller: so a report or an error that
+//! `run` passes on is one that a runner gave for just these settings, bulkheads and rows. The runner
+//! over threads hands them on to `run_jobs` as they are, and compares the answers of the report with
+//! the bulkheads.
+
+ghost use Rattle.std.specs.Prelude.{◌≡◌, ◌≢◌, ◌≤◌, All, IfErr, map};
+ghost use Rattle.std.specs.Thread.{IsSync};
+ghost use Rattle.resil_rule.specs.Limits.{AreLimits};
+ghost use Rattle.resil_decor.specs.Passes.{sources_of};
+ghost use Rattle.resil_workers.specs.Batch.Submit.{IsFrom};
+ghost use Rattle.resil_driver.specs.Run.Settings.{run_settings};
+
+use crate::run::grants::may_have_answered;
+use crate::run::head::RunHead;
+use resil_bulkhead::{Bulkhead, Pass};
+use resil_decor::Passes;
+use resil_words::RunOptions;
+use resil_workers::{JobRow, NoHook, Report, RunConfig, RunError, run_jobs};
+use std::alloc::Global;
+use std::sync::Wait;
+use std::thread::Threads;
+
+/// What a run is told beside its bulkheads and its rows.
+#[derive(Clone, Copy)]
+pub struct RunSettings {
+    /// The sizes of the pool, its keep-alive, and how many callers there are.
+    pub config: RunConfig,
+    /// Whether all rows are submitted before a worker starts.
+    pub hold: bool,
+}
+
+/// The settings that a head and the words say.
+pub(crate) fn run_settings(head: &RunHead, words: RunOptions) -> RunSettings
+    ensures { result ≡ run_settings head.now words }
+{
+    RunSettings {
+        config: RunConfig {
+            limits: head.limits,
+            keep_alive: head.keep_alive,
+            callers: words.callers,
+        },
+        hold: words.hold,
+    }
+}
+
+/// The jobs of a run, with the pool that they are submitted to and the bulkheads that they ask.
+#[derive(Drop)]
+pub struct RunBatch<'a> {
+    /// What the pool is opened with, and when its workers start.
+    pub settings: RunSettings,
+    /// The bulkheads that the jobs ask, by their ids.
+    pub bulkheads: &'a [Bulkhead],
+    /// A pass of each of the bulkheads, in the same order.
+    pub passes: Vec<Pass>,
+    /// The jobs, each with the caller that submits it.
+    pub rows: Vec<JobRow>,
+}
+
+/// Carries out the jobs of a `run`.
+pub trait JobRunner {
+    ghost use Rattle.std.specs.Prelude.{List, Result};
+    ghost use Rattle.resil_bulkhead.specs.Bulkhead.{BulkheadView};
+    ghost use Rattle.resil_workers.specs.declared.batch.run.RunError.{RunError};
+    ghost use Rattle.resil_pool.specs.declared.hold.JobRow.{JobRow};
+    ghost use Rattle.resil_pool.specs.declared.draining.report.Report.{Report};
+    ghost use Rattle.resil_driver.specs.declared.run.runner.RunSettings.{RunSettings};
+
+    /// What a run with these settings, with these bulkheads by their ids and of these rows may
+    /// answer.
+    ghost MayAnswer: { RunSettings → List BulkheadView → List JobRow → Result Report RunError → Type 0 };
+
+    /// The report of the rows, which callers numbered from 1 submit to a pool of the settings. Its
+    /// jobs ask the bulkheads, of each of which there is a pass. It may start threads of this runtime,
+    /// and wait.
+    ///
+    /// # Errors
+    ///
+    /// `Memory`; `NoThread` where a thread can't be started; `Stranger` and `ReceiptsDiffer` where
+    /// there is no report; `Stranger` too where a job was granted more permits of a bulkhead at once than that has.
+    fn run<R: Threads + Wait + Sync>(
+        &self,
+        rt: &R,
+        alloc: Global,
+        batch: RunBatch<'_>,
+    ) -> Result<Report, RunError>
+        requires shared { IsSync R.row }
+        requires limits { AreLimits batch.settings.config.limits }
+        requires callers { batch.settings.config.callers ≤ 64 }
+        requires passes { sources_of batch.passes.items ≡ map (λ b. b.permits) batch.bulkheads.now }
+        requires rows { All (IsFrom batch.settings.config.callers) batch.rows.items }
+        ensures callers { IfErr result (λ error. error ≢ RunError.TooManyCallers) }
+        ensures rows { IfErr result (λ error. error ≢ RunError.BadCaller) }
+        ensures answer { MayAnswer batch.entry.settings batch.entry.bulkheads.now batch.entry.rows.items result };
+}
+
+/// Carries out the jobs of a `run` on threads.
+pub struct ThreadRunner;
+
+impl JobRunner for ThreadRunner {
+    ghost use Rattle.resil_driver.specs.Run.Play.{MayAnswerOnThreads};
+
+    ghost MayAnswer = { MayAnswerOnThreads };
+
+    fn run<R: Threads + Wait + Sync>(
+        &self,
+        rt: &R,
+        alloc: Global,
+        batch: RunBatch<'_>,
+    ) -> Result<Report, RunError> {
+        let RunBatch {
+            settings: RunSettings { config, hold },
+            bulkheads,
+            passes,
+            rows,
+        } = batch;
+        let mut passes = Passes::new(rt, bulkheads, passes);
+        match run_jobs(rt, alloc, config, &mut passes, rows, &NoHook, hold) {
+            Ok(report) if !may_have_answered(bulkheads, &report.results) => Err(RunError::Stranger),
+            answer => answer,
+        }
+    }
+}

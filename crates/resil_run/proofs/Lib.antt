@@ -1,5 +1,0 @@
-pub mod BulkheadLaws
-pub mod ErrorLaws
-pub mod HeadLaws
-pub mod JobLaws
-pub mod ReportLaws

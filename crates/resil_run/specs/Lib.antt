@@ -1,9 +1,0 @@
-pub mod Bulkheads
-pub mod Grants
-pub mod Head
-pub mod Play
-pub mod Report
-pub mod Rows
-pub mod Run
-pub mod Settings
-pub mod WorkedHeads
