@@ -1,13 +1,10 @@
 -- The rows read so far, one more row, and the first record that is no row.
-use denote.Ref.{Bor}
-use Rattle.std.proofs.Common.{◌≡◌, ◌≢◌, ◌∷◌, ◌++◌, ◌∙◌, ◌+◌, ℕ, suc, List, [], Option, Some, None, Result, Ok, Err, length, map, refl, sym, ap, append_assoc, add-one, arith, MatchResult}
+use Rattle.std.proofs.Common.{◌≡◌, ◌≢◌, ◌∷◌, ◌++◌, ◌∙◌, ◌+◌, ℕ, suc, List, [], Option, Some, None, Result, Ok, Err, length, map, refl, sym, ap, append_assoc, arith, MatchResult}
 use Rattle.std.specs.Result.{IsErrAnd}
 use Rattle.std.proofs.lemmas.List.{length-append, length-map, map_push}
 use Rattle.std.specs.List.{prefix_len}
 use Rattle.std.specs.Option.{is_some}
-use Rattle.csv.specs.declared.reader.Reader.{Reader}
-use Rattle.resil_input.specs.CsvRows.{IsBody, IsBodyError, ParseAs, records_of, row_under}
-use Rattle.resil_input.specs.ReaderState.{ReadsHeader, ReadsRow, records_left}
+use Rattle.resil_input.specs.CsvRows.{IsBody, IsBodyError, ParseAs, row_under}
 use Rattle.resil_input.specs.declared.csv_rows.BodyError.{BodyError}
 use Rattle.resil_input.specs.declared.csv_rows.BodyError.TheVariants as error
 
@@ -25,21 +22,6 @@ ParseAs-length header row_of records rows spell = sym (length-map records (row_u
 pub append-next : (all : List (List (List ℕ))) (fields : List (List ℕ)) (records left more : List (List (List ℕ)))
     → all ≡ records ++ left → left ≡ fields ∷ more → all ≡ (records ++ fields ∷ []) ++ more
 append-next all fields records left more e next = e ∙ rw next (sym (append_assoc records (fields ∷ []) more))
-
--- why a header can't be read is why its body has no rows
-pub header-refused : {Row : Type 0} (header : List (List ℕ)) (row_of : List (List ℕ) → Option Row) (body : List ℕ) (old new : Reader (Bor (List ℕ))) (why : BodyError)
-    → records_left old ≡ records_of body → ReadsHeader header old new (Err why) → IsBodyError header row_of body why
-header-refused header row_of body old new error.Memory e h = tt
-header-refused header row_of body old new error.BadHeader e h = rw e at h
-header-refused header row_of body old new (error.BadRow position) e h = absurd h
-
--- why a row can't be read is why its body has no rows
-pub row-refused : {Row : Type 0} (header : List (List ℕ)) (row_of : List (List ℕ) → Option Row) (body : List ℕ) (old new : Reader (Bor (List ℕ))) (records : List (List (List ℕ))) (rows : List Row) (count : ℕ) (why : BodyError)
-    → records_of body ≡ header ∷ (records ++ records_left old) → ParseAs header row_of records rows → count ≡ length rows → ReadsRow header row_of old new (count + 1) (Err why) → IsBodyError header row_of body why
-row-refused header row_of body old new records rows count error.Memory all spell len h = tt
-row-refused header row_of body old new records rows count error.BadHeader all spell len h = absurd h
-row-refused header row_of body old new records rows count (error.BadRow position) all spell len h =
-    (records, h.1, h.2, rows, all ∙ rw h.3 refl, spell, h.4, h.0 ∙ rw (add-one, len, ParseAs-length header row_of records rows spell) refl)
 
 -- an error that is passed on as it is
 pub handed-on : {T E : Type 0} (r : Result T E) (P : T → Type 0) (Q : E → Type 0) (why : E) → IsErrAnd r (λ e. e ≡ why) → Q why → MatchResult r P Q

@@ -1,13 +1,10 @@
 -- The state of a `csv` reader in a body: the records that it has yet to give.
-use Rattle.std.specs.Prelude.{ℕ, suc, ◌≡◌, ◌≢◌, ◌∷◌, [], false, List, Option, Some, None, length, unwrap_or, IfSome, Result, Ok, Err, slice_get, ⊤}
+use Rattle.std.specs.Prelude.{ℕ, suc, ◌≡◌, ◌≢◌, ◌∷◌, [], false, List, Some, length, unwrap_or, IfSome}
 use denote.Ref.{Bor}
 use Rattle.csv.specs.Machine.{ends_at_end}
 use Rattle.csv.specs.Reading.{Ready, records_from, default_config, source_of}
 use Rattle.csv.specs.declared.reader.Reader.{Reader}
 use Rattle.csv.specs.declared.reader.Trim.TheVariants as trim
-use Rattle.resil_input.specs.CsvRows.{row_under}
-use Rattle.resil_input.specs.declared.csv_rows.BodyError.{BodyError}
-use Rattle.resil_input.specs.declared.csv_rows.BodyError.TheVariants as error
 use Rattle.resil_input.specs.declared.csv_rows.Next.{Next}
 use Rattle.resil_input.specs.declared.csv_rows.Next.TheVariants.{Record, UnequalLength, End}
 
@@ -37,18 +34,3 @@ GivesNext old new fields End = records_left old ≡ []
 -- a reader after the header, so that each record that it gives has as many fields
 abbrev pub IsInBody : List (List ℕ) → Reader (Bor (List ℕ)) → Type 0
 IsInBody header reader = IsBetweenRecords reader × (reader.expected ≡ Some (length header))
-
--- what reading a header answers, and does to the reader
-abbrev pub ReadsHeader : List (List ℕ) → Reader (Bor (List ℕ)) → Reader (Bor (List ℕ)) → Result Unit BodyError → Type 0
-ReadsHeader header old new (Ok _) = IsInBody header new × (records_left old ≡ header ∷ records_left new)
-ReadsHeader header old new (Err error.BadHeader) = slice_get (records_left old) 0 ≢ Some header
-ReadsHeader header old new (Err error.Memory) = ⊤
-ReadsHeader header old new (Err (error.BadRow position)) = ⊥
-
--- what reading the row at a position answers, and does to the reader
-abbrev pub ReadsRow : {Row : Type 0} → List (List ℕ) → (List (List ℕ) → Option Row) → Reader (Bor (List ℕ)) → Reader (Bor (List ℕ)) → ℕ → Result (Option Row) BodyError → Type 0
-ReadsRow header row_of old new position (Ok (Some row)) = IsInBody header new × (fields : List (List ℕ)) × (records_left old ≡ fields ∷ records_left new) × (row_under header row_of fields ≡ Some row)
-ReadsRow header row_of old new position (Ok None) = records_left old ≡ []
-ReadsRow header row_of old new position (Err (error.BadRow at)) = (at ≡ position) × (bad : List (List ℕ)) × (rest : List (List (List ℕ))) × (records_left old ≡ bad ∷ rest) × (row_under header row_of bad ≡ None)
-ReadsRow header row_of old new position (Err error.Memory) = ⊤
-ReadsRow header row_of old new position (Err error.BadHeader) = ⊥

@@ -8,7 +8,7 @@ ghost use Rattle.std.specs.Prelude.{◌≡◌, ◌∷◌, ℕ, List, Option, Som
 ghost use Rattle.csv.specs.Records.{fields_of};
 ghost use Rattle.resil_input.specs.declared.csv_rows.BodyError.TheVariants.{Memory};
 ghost use Rattle.resil_input.specs.CsvRows.{IsBody, IsBodyError, records_of, RowsUnique, RowsExcludeErrors, ErrorsUnique};
-ghost use Rattle.resil_input.specs.ReaderState.{IsBetweenRecords, IsInBody, GivesNext, ReadsHeader, ReadsRow, records_left};
+ghost use Rattle.resil_input.specs.ReaderState.{IsBetweenRecords, IsInBody, GivesNext, records_left};
 
 use crate::fields::{field_at, is_text};
 use csv::{ByteRecord, ErrorKind, Reader, ReaderBuilder};
@@ -111,43 +111,6 @@ fn next_record(reader: &mut Reader<&[u8]>, fields: &mut ByteRecord) -> Result<Ne
     }
 }
 
-// Reads the header. Errors: `Memory` where memory runs out; `BadHeader` where the first record is
-// missing or another one.
-fn read_header<F: RowFormat>(
-    format: &F,
-    reader: &mut Reader<&[u8]>,
-    fields: &mut ByteRecord,
-) -> Result<(), BodyError>
-    ensures { IsBetweenRecords reader.old → reader.old.expected ≡ None → ReadsHeader F.header reader.old reader.new result }
-{
-    match next_record(reader, fields)? {
-        Next::Record if format.is_header(fields) => Ok(()),
-        _ => Err(BodyError::BadHeader),
-    }
-}
-
-// Reads the row at a position, or `None` where the body ends there. Errors: `Memory` where memory
-// runs out; `BadRow` where the record there is no row.
-fn next_row<F: RowFormat>(
-    alloc: Global,
-    format: &F,
-    reader: &mut Reader<&[u8]>,
-    fields: &mut ByteRecord,
-    position: usize,
-) -> Result<Option<F::Row>, BodyError>
-    requires { IsInBody F.header reader.old }
-    ensures { ReadsRow F.header (F.row_of format.now) reader.old reader.new position result }
-{
-    match next_record(reader, fields)? {
-        Next::Record => match format.row_of(alloc, fields)? {
-            Some(row) => Ok(Some(row)),
-            None => Err(BodyError::BadRow(position)),
-        },
-        Next::UnequalLength => Err(BodyError::BadRow(position)),
-        Next::End => Ok(None),
-    }
-}
-
 // Reads the records after the header as rows, in order. Errors: `Memory` where memory runs out;
 // `BadRow` with the position of the first record that is no row.
 fn read_records<F: RowFormat>(
@@ -161,10 +124,16 @@ fn read_records<F: RowFormat>(
         → MatchResult result (λ rows. IsBody F.header (F.row_of format.now) body rows.items) (IsBodyError F.header (F.row_of format.now) body) }
 {
     let mut rows = Vec::new(alloc);
-    while let Some(row) = next_row(alloc, format, reader, fields, rows.len() + 1)? {
-        rows.push(row)?;
+    'rows: loop {
+        match next_record(reader, fields)? {
+            Next::Record => match format.row_of(alloc, fields)? {
+                Some(row) => rows.push(row)?,
+                None => return Err(BodyError::BadRow(rows.len() + 1)),
+            },
+            Next::UnequalLength => return Err(BodyError::BadRow(rows.len() + 1)),
+            Next::End => return Ok(rows),
+        }
     }
-    Ok(rows)
 }
 
 // Reads the header and the rows of a body that the reader has yet to read. Errors: as for
@@ -180,8 +149,12 @@ fn read_body<F: RowFormat>(
         → MatchResult result (λ rows. IsBody F.header (F.row_of format.now) body rows.items) (IsBodyError F.header (F.row_of format.now) body) }
 {
     let mut fields = ByteRecord::new(alloc);
-    read_header(format, reader, &mut fields)?;
-    read_records(alloc, format, reader, &mut fields)
+    match next_record(reader, &mut fields)? {
+        Next::Record if format.is_header(&fields) => {
+            read_records(alloc, format, reader, &mut fields)
+        }
+        _ => Err(BodyError::BadHeader),
+    }
 }
 
 /// Reads the rows of a body, in order.

@@ -9,6 +9,3 @@ loop-written-preserved g c = record {
   front = write_more _ _ _ _ _ _ c.loop-written.invariant.front c.in_ok-written.ensures.bytes;
   same = search rules;
 }
-
-pub returns-clause-whole : goal.returns-clause-whole
-returns-clause-whole = grind (arith, common_steps)

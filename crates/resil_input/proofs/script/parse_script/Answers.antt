@@ -1,4 +1,4 @@
-use Rattle.std.proofs.Common.{◌≡◌, ◌==◌, ◌∷◌, ◌∙◌, List, [], Option, Some, None, map, sym, ap, arith, rules}
+use Rattle.std.proofs.Common.{◌≡◌, ◌==◌, ◌∷◌, ◌∙◌, List, [], Option, Some, None, map, sym, ap, arith}
 use Rattle.std.proofs.lemmas.List.Splits.{slice_split_none}
 use Rattle.std.specs.Prelude.{MatchOption, IsSomeAnd}
 use Rattle.resil_retry.specs.declared.outcome.Outcome.{Outcome}
@@ -19,6 +19,3 @@ returns-else-contains-clause-script c =
     script-of_one c.parse_outcome.result _ c.map.ensures.cases
     ∙ ap (λ outcome. all_some (outcome ∷ [])) c.parse_outcome.ensures
     ∙ ap (λ parts. all_some (map parse_outcome parts)) (sym one)
-
-pub returns-then-contains-clause-error : goal.returns-then-contains-clause-error
-returns-then-contains-clause-error c = search rules
