@@ -22,14 +22,10 @@ parse_grant letter = if letter == 121 then Some true else if letter == 110 then 
 abbrev pub parse_grants : List ℕ → Option (List Bool)
 parse_grants letters = all_some (map parse_grant letters)
 
--- the row that two fields are read as
-abbrev pub parse_chain_row_fields : List ℕ → List ℕ → Option ChainRowView
-parse_chain_row_fields script grants =
-    option_and_then (λ outcomes. option_map (λ answers. record { script = outcomes; grants = answers }) (parse_grants grants)) (parse_script script)
-
 -- the row that a record is read as
 abbrev pub parse_chain_row : List (List ℕ) → Option ChainRowView
-parse_chain_row fields = parse_chain_row_fields (get_or fields 0 []) (get_or fields 1 [])
+parse_chain_row fields =
+    option_and_then (λ outcomes. option_map (λ answers. record { script = outcomes; grants = answers }) (parse_grants (get_or fields 1 []))) (parse_script (get_or fields 0 []))
 
 -- a body of these rows
 abbrev pub IsChainBody : List ℕ → List ChainRowView → Type 0

@@ -6,7 +6,7 @@
 //! read keeps every job from running.
 
 ghost use Rattle.std.specs.Prelude.{◌≡◌, option_map, MatchResult, IfOk};
-ghost use Rattle.resil_chain.specs.Rows.{parse_grant, parse_grants, parse_chain_row_fields, IsChainBody, IsChainBodyError};
+ghost use Rattle.resil_chain.specs.Rows.{parse_grant, parse_grants, IsChainBody, IsChainBodyError};
 
 use csv::ByteRecord;
 use resil_heads::forms::{Body, Form};
@@ -63,7 +63,13 @@ impl RowFormat for Rows {
     }
 
     fn row_of(&self, alloc: Global, fields: &ByteRecord) -> Result<Option<ChainRow>, AllocError> {
-        parse_chain_row_fields(alloc, field_at(fields, 0), field_at(fields, 1))
+        let Some(script) = parse_script(alloc, field_at(fields, 0))? else {
+            return Ok(None);
+        };
+        let Some(grants) = parse_grants(alloc, field_at(fields, 1))? else {
+            return Ok(None);
+        };
+        Ok(Some(ChainRow { script, grants }))
     }
 }
 
@@ -90,23 +96,6 @@ fn parse_grants(alloc: Global, letters: &[u8]) -> Result<Option<Vec<bool>>, Allo
         grants.push(granted)?;
     }
     Ok(Some(grants))
-}
-
-// Reads a row from two fields. Errors: `AllocError` where memory runs out.
-fn parse_chain_row_fields(
-    alloc: Global,
-    script: &[u8],
-    grants: &[u8],
-) -> Result<Option<ChainRow>, AllocError>
-    ensures { IfOk result (λ row. row ≡ parse_chain_row_fields script.now grants.now) }
-{
-    let Some(script) = parse_script(alloc, script)? else {
-        return Ok(None);
-    };
-    let Some(grants) = parse_grants(alloc, grants)? else {
-        return Ok(None);
-    };
-    Ok(Some(ChainRow { script, grants }))
 }
 
 /// Reads the rows of a body of `chain`, in order.

@@ -13,7 +13,6 @@ use crate::rows::ChainRow;
 use crate::run_fields::RunTexts;
 use resil_decor::{Chain, Job, Listed, Plan, Run};
 use resil_input::csv_table::CsvTable;
-use resil_retry::Script;
 use std::alloc::{AllocError, Global};
 
 /// Runs the job of a row through the layers.
@@ -25,24 +24,16 @@ pub fn run_row(alloc: Global, chain: &Chain, row: ChainRow) -> Result<Run, Alloc
     ensures { IfOk result (λ run. IsRunOf chain.now row run) }
 {
     let ChainRow { script, grants } = row;
-    let job = make_job(alloc, chain, script)?;
+    let Ok(layers) = chain.copy(alloc) else {
+        return Err(AllocError);
+    };
+    let Ok(job) = Job::new(alloc, Plan::new(layers, script)) else {
+        return Err(AllocError);
+    };
     let Ok(mut listed) = Listed::new(alloc, grants) else {
         return Err(AllocError);
     };
     Ok(job.run(&mut listed))
-}
-
-// The job of a script under a copy of the layers. Errors: `AllocError` where memory runs out.
-fn make_job(alloc: Global, chain: &Chain, script: Script) -> Result<Job, AllocError>
-    ensures { IfOk result (λ job. job ≡ record { layers = chain.now; script = script }) }
-{
-    let Ok(layers) = chain.copy(alloc) else {
-        return Err(AllocError);
-    };
-    match Job::new(alloc, Plan::new(layers, script)) {
-        Ok(job) => Ok(job),
-        Err(_) => Err(AllocError),
-    }
 }
 
 /// Runs the job of each row through the layers, in order, and answers the text of the runs. All jobs
