@@ -133,11 +133,8 @@ impl<R: Read> InputReader for FailureTracking<R> {
         for _turn in 0..u64::MAX {
             match self.inner.read(space) {
                 Ok(count) => return Ok(count),
-                Err(error) => {
-                    if error.kind() != ErrorKind::Interrupted {
-                        break;
-                    }
-                }
+                Err(error) if error.kind() == ErrorKind::Interrupted => {}
+                Err(_) => break,
             }
         }
         self.failed = true;
@@ -153,13 +150,9 @@ impl<W: Write> OutputWriter for FailureTracking<W> {
     fn write(&mut self, text: &[u8]) -> Result<usize, WriteError> {
         for _turn in 0..u64::MAX {
             match self.inner.write(text) {
-                Ok(0) => break,
-                Ok(count) => return Ok(count),
-                Err(error) => {
-                    if error.kind() != ErrorKind::Interrupted {
-                        break;
-                    }
-                }
+                Ok(count) if count > 0 => return Ok(count),
+                Err(error) if error.kind() == ErrorKind::Interrupted => {}
+                _ => break,
             }
         }
         self.failed = true;
@@ -170,11 +163,8 @@ impl<W: Write> OutputWriter for FailureTracking<W> {
         for _turn in 0..u64::MAX {
             match self.inner.flush() {
                 Ok(()) => return Ok(()),
-                Err(error) => {
-                    if error.kind() != ErrorKind::Interrupted {
-                        break;
-                    }
-                }
+                Err(error) if error.kind() == ErrorKind::Interrupted => {}
+                Err(_) => break,
             }
         }
         self.failed = true;

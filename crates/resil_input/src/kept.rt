@@ -31,11 +31,7 @@ impl<R> KeptInput<R> {
 
     /// What was read, or `None` where there was no memory to keep it.
     pub fn input(&self) -> Option<&[u8]> {
-        if self.is_whole {
-            Some(self.kept.as_slice())
-        } else {
-            None
-        }
+        self.is_whole.then_some(self.kept.as_slice())
     }
 
     // Keeps what was read, where there is memory for it.

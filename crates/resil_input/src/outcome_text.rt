@@ -7,7 +7,7 @@
 ghost use Rattle.std.specs.Prelude.{String, ◌≡◌, ◌<◌, ◌++◌, IfOk, OnOk};
 ghost use Rattle.std.specs.Fmt.{signed_decimal};
 ghost use Rattle.std.specs.String.{string_bytes};
-ghost use Rattle.resil_input.specs.OutcomeText.{RoundTrips, FitsValue, FitsKind, FitsOutcome, negative, code_in_range, parse_code_kind, parse_kind, kind_text, parse_outcome, outcome_text, parse_signed};
+ghost use Rattle.resil_input.specs.OutcomeText.{RoundTrips, FitsValue, FitsKind, FitsOutcome, negative, parse_kind, kind_text, parse_outcome, outcome_text, parse_signed};
 
 use crate::number::parse_number;
 use itoa::Buffer;
@@ -48,24 +48,10 @@ pub fn parse_kind(text: &[u8]) -> Option<Kind>
     if text == b"EXCEEDED".as_slice() {
         return Some(Kind::Exceeded);
     }
-    parse_code_kind(text)
-}
-
-// Reads `E` and a code from 0 to 65,535.
-fn parse_code_kind(text: &[u8]) -> Option<Kind>
-    ensures { result ≡ parse_code_kind text.now }
-{
     match text {
-        [b'E', digits @ ..] => code_in_range(parse_signed(digits)?).map(Kind::Code),
+        [b'E', digits @ ..] => u16::try_from(parse_signed(digits)?).ok().map(Kind::Code),
         _ => None,
     }
-}
-
-// The integer as the code of an error, if it is one.
-fn code_in_range(integer: i64) -> Option<u16>
-    ensures { result ≡ code_in_range integer }
-{
-    u16::try_from(integer).ok()
 }
 
 /// Reads an outcome: `V` and a signed integer, or a kind of error. `None` for any other text.
@@ -75,22 +61,6 @@ pub fn parse_outcome(text: &[u8]) -> Option<Outcome>
     match text {
         [b'V', digits @ ..] => parse_signed(digits).map(Outcome::Value),
         _ => parse_kind(text).map(Outcome::Error),
-    }
-}
-
-// Adds the text of a kind of error: `E` and its code, `FULL` or `EXCEEDED`. Errors: `AllocError`
-// where memory runs out.
-fn push_kind(text: &mut String, kind: Kind) -> Result<(), AllocError>
-    ensures { OnOk result (string_bytes text.new ≡ string_bytes text.old ++ kind_text kind) }
-{
-    match kind {
-        Kind::Code(code) => {
-            let mut digits = Buffer::new();
-            text.push('E')?;
-            text.push_str(digits.format(code))
-        }
-        Kind::Full => text.push_str("FULL"),
-        Kind::Exceeded => text.push_str("EXCEEDED"),
     }
 }
 
@@ -108,7 +78,13 @@ pub fn push_outcome(text: &mut String, outcome: Outcome) -> Result<(), AllocErro
             text.push('V')?;
             text.push_str(digits.format(value))
         }
-        Outcome::Error(kind) => push_kind(text, kind),
+        Outcome::Error(Kind::Code(code)) => {
+            let mut digits = Buffer::new();
+            text.push('E')?;
+            text.push_str(digits.format(code))
+        }
+        Outcome::Error(Kind::Full) => text.push_str("FULL"),
+        Outcome::Error(Kind::Exceeded) => text.push_str("EXCEEDED"),
     }
 }
 

@@ -57,29 +57,17 @@ pub enum Output {
 }
 
 impl Output {
-    // The status that goes with the output.
-    fn status(&self) -> Status
-        ensures { result ≡ status_of self.now }
+    // The status that goes with the output, and its bytes.
+    fn parts(&self) -> (Status, &[u8])
+        ensures status { result.0 ≡ status_of self.now }
+        ensures bytes { result.1.now ≡ bytes_of self.now }
     {
         match self {
-            Output::Text(_) => Status::Done,
-            Output::Line(_) => Status::Refused,
-            Output::Usage => Status::Usage,
-            Output::NoMemory => Status::NoMemory,
-            Output::NoThread => Status::NoThread,
-        }
-    }
-
-    // The bytes of the output.
-    fn bytes(&self) -> &[u8]
-        ensures { result.now ≡ bytes_of self.now }
-    {
-        match self {
-            Output::Text(text) => text.as_slice(),
-            Output::Line(line) => line.as_bytes(),
-            Output::Usage => b"refused usage\n",
-            Output::NoMemory => b"refused memory\n",
-            Output::NoThread => b"refused threads\n",
+            Output::Text(text) => (Status::Done, text.as_slice()),
+            Output::Line(line) => (Status::Refused, line.as_bytes()),
+            Output::Usage => (Status::Usage, b"refused usage\n"),
+            Output::NoMemory => (Status::NoMemory, b"refused memory\n"),
+            Output::NoThread => (Status::NoThread, b"refused threads\n"),
         }
     }
 }
@@ -88,8 +76,9 @@ impl Output {
 pub fn write_output<W: OutputWriter>(writer: &mut W, output: &Output) -> Status
     ensures { IsWritten (W.contents writer.old) (W.contents writer.new) (W.has_failed writer.old) (W.has_failed writer.new) output.now result }
 {
-    match write_text(writer, output.bytes()) {
-        Ok(()) => output.status(),
+    let (status, bytes) = output.parts();
+    match write_text(writer, bytes) {
+        Ok(()) => status,
         Err(_) => Status::Failed,
     }
 }
