@@ -7,16 +7,10 @@ use Rattle.resil_pool.specs.declared.draining.report.Report.{Report}
 use Rattle.resil_driver.specs.Run.Head.{RunHeadView, run_head_of}
 use Rattle.resil_input.specs.declared.csv_rows.BodyError.{BodyError}
 use Rattle.resil_input.specs.declared.csv_rows.BodyError.TheVariants as body_error
-use Rattle.resil_driver.specs.Run.Rows.{IsRunBody, IsRunBodyError}
-use Rattle.resil_driver.specs.declared.run.rows.ScriptedJob.{ScriptedJob}
+use Rattle.resil_driver.specs.Run.Rows.{IsRunBodyError}
 use Rattle.resil_heads.specs.CommandError.{from_body_error}
 use Rattle.resil_heads.specs.Parts.{SplitsInto}
 use Rattle.resil_words.specs.declared.command_line.RunOptions.{RunOptions}
-use Rattle.resil_heads.specs.declared.command_error.CommandError.{CommandError}
-use Rattle.resil_heads.specs.declared.command_error.CommandError.TheVariants as error
-use Rattle.resil_heads.specs.declared.refusal.Refusal.TheVariants as refusal
-use Rattle.resil_heads.specs.declared.refusal.RunRefusal.TheVariants as run
-use Rattle.resil_driver.specs.Run.Play.{HasPlayed, IsPlayError}
 use Rattle.resil_driver.specs.Run.{IsErrorFor}
 use Rattle.resil_driver.specs.declared.run.runner.RunSettings.{RunSettings}
 
@@ -26,12 +20,3 @@ module _ (MayAnswer : RunSettings → List BulkheadView → List JobRow → Resu
       → IsRunBodyError words.callers body e → IsErrorFor MayAnswer words input (from_body_error e)
   run-body-refused words input said body body_error.Memory parts bad = tt
   run-body-refused words input said body why parts bad = (said, body, parts, bad)
-
-  -- what the carrying out of a run may end with
-  pub run-refused : (words : RunOptions) (input : List ℕ) (said : RunHeadView) (body : List ℕ) (jobs : List ScriptedJob) (e : CommandError) → SplitsInto run_head_of input said body
-      → IsRunBody words.callers body jobs → IsPlayError (HasPlayed MayAnswer said words jobs) e → IsErrorFor MayAnswer words input e
-  run-refused words input said body jobs error.Memory parts is_body is = tt
-  run-refused words input said body jobs error.NoThread parts is_body is = (said, body, jobs, parts, is_body, is)
-  run-refused words input said body jobs (error.Refused (refusal.Run run.Stranger)) parts is_body is = (said, body, jobs, parts, is_body, is)
-  run-refused words input said body jobs (error.Refused (refusal.Run run.ReceiptsDiffer)) parts is_body is = (said, body, jobs, parts, is_body, is)
-  run-refused words input said body jobs e parts is_body is = absurd is

@@ -2,7 +2,7 @@
 use Rattle.std.proofs.Common.{◌≡◌, ◌≤◌, ◌<◌, ◌==◌, ◌∙◌, ℕ, suc, List, [], Option, Some, None, Bool, true, false, All, option_and_then, option_map, length, get_or, refl, sym, ap, arith}
 use Rattle.std.proofs.lemmas.List.{get_or-map}
 use Rattle.resil_retry.specs.declared.outcome.Outcome.{Outcome}
-use Rattle.resil_driver.specs.Run.Rows.{IsRunBody, parse_caller_up_to, parse_job_fields, parse_job, run_rows_header}
+use Rattle.resil_driver.specs.Run.Rows.{IsRunBody, parse_caller_up_to, parse_job, run_rows_header}
 use Rattle.resil_input.specs.CsvRows.{row_under}
 use Rattle.resil_driver.specs.Run.Play.{IsOfCaller}
 use Rattle.resil_input.specs.Script.{parse_script}
@@ -19,13 +19,14 @@ parts_of_job (Some c) (Some outcomes) job e =
 parts_of_job caller script job e = cc e
 
 module _ (callers : ℕ) (few : callers ≤ 64) where
-  of_fields : (caller script : List ℕ) (job : ScriptedJob) → parse_job_fields callers caller script ≡ Some job → IsOfCaller callers job
-  of_fields caller script job e =
-      let number = below-are_decimal (suc callers) caller job.caller (omega arith) (parts_of_job (parse_caller_up_to callers caller) (parse_script script) job e) in
+  of_fields : (fields : List (List ℕ)) (job : ScriptedJob) → parse_job callers fields ≡ Some job → IsOfCaller callers job
+  of_fields fields job e =
+      let caller = get_or fields 0 [] in
+      let number = below-are_decimal (suc callers) caller job.caller (omega arith) (parts_of_job (parse_caller_up_to callers caller) (parse_script (get_or fields 1 [])) job e) in
       (number.1, omega (arith, number.2))
 
   of_record : (fields : List (List ℕ)) (job : ScriptedJob) (b : Bool) → (length fields == 2) ≡ b → row_under run_rows_header (parse_job callers) fields ≡ Some job → IsOfCaller callers job
-  of_record fields job true wide e = of_fields (get_or fields 0 []) (get_or fields 1 []) job (rw wide at e)
+  of_record fields job true wide e = of_fields fields job (rw wide at e)
   of_record fields job false wide e = cc (rw wide at e)
 
   -- the jobs of a body name callers from 1 to their number

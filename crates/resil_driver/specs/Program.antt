@@ -1,10 +1,9 @@
 -- What a call of the program does to its reader and its writer.
-use Rattle.std.specs.Prelude.{ℕ, ◌≡◌, ◌≤◌, ◌⊎◌, List, Option, Some, None, IfSome}
+use Rattle.std.specs.Prelude.{ℕ, ◌≡◌, ◌⊎◌, List, Option, Some, None, IfSome}
 use Rattle.std.specs.Io.KnownBytes.{Appends, Keeps}
 use Rattle.resil_input.specs.Io.{AppendsPrefix}
 use Rattle.resil_input.specs.Output.{bytes_of, code_of, memory_line, status_of, threads_line, usage_line}
 use Rattle.resil_input.specs.declared.output.Output.{Output}
-use Rattle.resil_input.specs.declared.output.Output.TheVariants as output
 use Rattle.resil_input.specs.declared.output.Status.{Status}
 use Rattle.resil_input.specs.declared.output.Status.TheVariants as status
 use Rattle.resil_heads.specs.Refusal.{refusal_line}
@@ -13,8 +12,6 @@ use Rattle.resil_words.specs.declared.command_line.Request.TheVariants as reques
 use Rattle.resil_words.specs.declared.command_line.RunOptions.{RunOptions}
 use Rattle.resil_heads.specs.declared.refusal.Refusal.{Refusal}
 use Rattle.resil_driver.specs.Answer.{IsAnswerOf, IsRefusedFor, LacksThread}
-use Rattle.resil_driver.specs.declared.program.Made.{Made}
-use Rattle.resil_driver.specs.declared.program.Made.TheVariants as made
 
 -- A status and a text that the program may give for what the words request and an input: the text
 -- of the requested command, the line of the first step that refuses the input, of refused words, of
@@ -52,14 +49,3 @@ DrivesTo requested input before after code = (s : Status) × (code ≡ code_of s
 -- the line that memory ran out was written, or a write failed behind a prefix of it
 abbrev pub WritesNoMemory : Option (List ℕ) → Option (List ℕ) → ℕ → Type 0
 WritesNoMemory before after code = ((code ≡ 3) × Appends before after memory_line) ⊎ ((code ≡ 4) × AppendsPrefix before after memory_line)
-
--- what one thread makes of the words and an input: an output that the program may give, or the
--- options of `run`
-abbrev pub IsMade : Option Request → Option (List ℕ) → Made → Type 0
-IsMade requested input (made.Output out) = IsAnswerTo requested input out
-IsMade requested input (made.Run words) = (requested ≡ Some (request.Run words)) × (words.callers ≤ 64)
-
--- for words that name `run`: its options, or the line that memory ran out
-abbrev pub IsRunOrMemory : Made → Type 0
-IsRunOrMemory (made.Output out) = out ≡ output.NoMemory
-IsRunOrMemory (made.Run words) = Unit {0}

@@ -1,11 +1,9 @@
 -- Which texts `run` may write for an input, and which errors an input may have.
 pub mod Bulkheads
-pub mod Grants
 pub mod Head
 pub mod Play
 pub mod Report
 pub mod Rows
-pub mod Settings
 pub mod WorkedHeads
 use Rattle.std.specs.Prelude.{ℕ, ◌≡◌, List, Result, Ok, Err}
 use Rattle.resil_bulkhead.specs.Bulkhead.{BulkheadView}

@@ -1,14 +1,12 @@
 //! The program but for its `main`: what the words request, and what is written for an input.
 //!
-//! `command` picks the text of a command of one thread by its name, `answer` gives the answer of
-//! each command to an input of any length, and `program` reads the words and the input, and writes
-//! the answer with its status.
+//! `command` picks the text of a command of one thread by its name, and `program` reads the words and
+//! the input, refuses an input that is too long, and writes the answer with its status.
 //!
 //! `run` is the command of that name, which alone starts threads and may wait. So there are two
 //! entries: `drive_single` for the other commands, which has no runtime, and `drive` for all.
 #![tactic(auto)]
 
-mod answer;
 mod command;
 mod program;
 pub mod run;

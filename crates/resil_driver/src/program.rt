@@ -1,18 +1,19 @@
 //! The program over any reader and writer.
 //!
 //! All input is read before anything is answered, and an answer is made whole before its first byte
-//! is written. The reader and the writer say themselves whether a call to them has failed, so that
+//! is written. An input that is too long is refused here, before any command sees it, so the commands
+//! are defined on inputs of the limit at most. The reader and the writer say themselves whether a call to them has failed, so that
 //! is known apart from every other end.
 
 ghost use Rattle.std.specs.Prelude.{◌≡◌, ◌≤◌, ◌⊎◌, ◌||◌, ◌+◌, ℕ, List, Option, true, false, Some, None, map, is_err, IfErr, IfOk, IfSome};
 ghost use Rattle.resil_input.specs.Io.{ConsumesAtMost, input_limit};
-ghost use Rattle.resil_input.specs.Output.{IsWritten};
 ghost use Rattle.resil_words.specs.CommandLine.{IsRun, request_of, single_of};
-ghost use Rattle.resil_driver.specs.Program.{Drives, DrivesTo, IsAnswerTo, IsMade, IsRunOrMemory, WritesNoMemory};
+ghost use Rattle.resil_driver.specs.Program.{DrivesTo, IsAnswerTo, WritesNoMemory};
 
-use crate::answer::{answer, run_answer};
-use resil_heads::error_output;
-use resil_input::io::{InputReader, OutputWriter, ReadError, read_input};
+use crate::command::command_text;
+use crate::run::{self, ThreadRunner};
+use resil_heads::{CommandError, Refusal, error_output};
+use resil_input::io::{Input, InputReader, OutputWriter, ReadError, read_input};
 use resil_input::output::{Output, Status, write_output};
 use resil_words::{Request, RunOptions, Single, UsageError, parse_args};
 use std::alloc::Global;
@@ -30,14 +31,14 @@ fn single_output<R: InputReader>(
     ensures taken { ConsumesAtMost (input_limit + 1) (R.remaining reader.old) (R.remaining reader.new) }
     ensures failed { R.has_failed reader.new ≡ (R.has_failed reader.old || is_err result) }
 {
-    let input = match read_input(alloc, reader) {
-        Ok(input) => input,
-        Err(ReadError::Memory) => return Ok(Output::NoMemory),
-        Err(ReadError::Reader) => return Err(ReadError::Reader),
-    };
-    match answer(alloc, single, &input) {
-        Ok(text) => Ok(Output::Text(text)),
-        Err(error) => Ok(error_output(alloc, error)),
+    match read_input(alloc, reader) {
+        Ok(Input::Whole(bytes)) => match command_text(alloc, single, &bytes) {
+            Ok(text) => Ok(Output::Text(text)),
+            Err(error) => Ok(error_output(alloc, error)),
+        },
+        Ok(Input::TooLong) => Ok(error_output(alloc, CommandError::Refused(Refusal::TooLong))),
+        Err(ReadError::Memory) => Ok(Output::NoMemory),
+        Err(ReadError::Reader) => Err(ReadError::Reader),
     }
 }
 
@@ -53,76 +54,28 @@ fn run_output<R: Threads + Wait + Sync, S: InputReader>(
     ensures taken { ConsumesAtMost (input_limit + 1) (S.remaining reader.old) (S.remaining reader.new) }
     ensures failed { S.has_failed reader.new ≡ (S.has_failed reader.old || is_err result) }
 {
-    let input = match read_input(alloc, reader) {
-        Ok(input) => input,
-        Err(ReadError::Memory) => return Ok(Output::NoMemory),
-        Err(ReadError::Reader) => return Err(ReadError::Reader),
-    };
-    match run_answer(rt, alloc, words, &input) {
-        Ok(text) => Ok(Output::Text(text)),
-        Err(error) => Ok(error_output(alloc, error)),
+    match read_input(alloc, reader) {
+        Ok(Input::Whole(bytes)) => match run::text(&ThreadRunner, rt, alloc, words, &bytes) {
+            Ok(text) => Ok(Output::Text(text)),
+            Err(error) => Ok(error_output(alloc, error)),
+        },
+        Ok(Input::TooLong) => Ok(error_output(alloc, CommandError::Refused(Refusal::TooLong))),
+        Err(ReadError::Memory) => Ok(Output::NoMemory),
+        Err(ReadError::Reader) => Err(ReadError::Reader),
     }
 }
 
-// What one thread makes of the words and of what a reader gives.
-#[derive(Drop)]
-enum Made {
-    // The output of a command of one thread, or the line of refused words.
-    Output(Output),
-    // The words name `run`, of which nothing was read or done yet.
-    Run(RunOptions),
-}
-
-// What one thread makes of the words and of what a reader gives. Errors: a read failed.
-fn make_output<R: InputReader>(
-    alloc: Global,
-    words: &[&str],
-    reader: &mut R,
-) -> Result<Made, ReadError>
-    ensures made { IfOk result (IsMade (request_of (map (λ word. word.now) words.now)) (R.remaining reader.old)) }
-    ensures memory { IsRun (request_of (map (λ word. word.now) words.now)) → IfOk result IsRunOrMemory }
-    ensures taken { ConsumesAtMost (input_limit + 1) (R.remaining reader.old) (R.remaining reader.new) }
-    ensures failed { R.has_failed reader.new ≡ (R.has_failed reader.old || is_err result) }
-    ensures unread { single_of (request_of (map (λ word. word.now) words.now)) ≡ None → reader.new ≡ reader.old }
-{
-    match parse_args(alloc, words) {
-        Ok(Request::Single(single)) => single_output(alloc, single, reader).map(Made::Output),
-        Ok(Request::Run(run)) => Ok(Made::Run(run)),
-        Err(UsageError::Usage) => Ok(Made::Output(Output::Usage)),
-        Err(UsageError::Memory) => Ok(Made::Output(Output::NoMemory)),
-    }
-}
-
-// The output for the words and for what a reader gives. Errors: a read failed.
-fn output_for<R: Threads + Wait + Sync, S: InputReader>(
-    rt: &R,
-    alloc: Global,
-    words: &[&str],
-    reader: &mut S,
-) -> Result<Output, ReadError>
-    ensures output { IfOk result (IsAnswerTo (request_of (map (λ word. word.now) words.now)) (S.remaining reader.old)) }
-    ensures taken { ConsumesAtMost (input_limit + 1) (S.remaining reader.old) (S.remaining reader.new) }
-    ensures failed { S.has_failed reader.new ≡ (S.has_failed reader.old || is_err result) }
-    ensures unread { request_of (map (λ word. word.now) words.now) ≡ None → reader.new ≡ reader.old }
-{
-    match make_output(alloc, words, reader) {
-        Ok(Made::Output(output)) => Ok(output),
-        Ok(Made::Run(run)) => run_output(rt, alloc, run, reader),
-        Err(error) => Err(error),
-    }
-}
-
-// Writes the output, where no read failed, and gives its status.
-fn write_answer<W: OutputWriter>(writer: &mut W, output: Result<Output, ReadError>) -> Status
-    ensures drives { (requested : Option Request) (input : Option (List ℕ)) → IfOk output (IsAnswerTo requested input) → Drives requested input (W.contents writer.old) (W.contents writer.new) result }
-    ensures written { IfOk output (λ out. IsWritten (W.contents writer.old) (W.contents writer.new) (W.has_failed writer.old) (W.has_failed writer.new) out result) }
-    ensures unwritten { IfErr output (λ _. (result ≡ Status.Failed) × (writer.new ≡ writer.old)) }
-    ensures failed { result ≡ Status.Failed → (is_err output ≡ true) ⊎ (W.has_failed writer.new ≡ true) }
-    ensures no_fault { W.has_failed writer.old ≡ false → W.has_failed writer.new ≡ true → result ≡ Status.Failed }
+// Writes the output, where no read failed, and gives the number of its status.
+fn write_answer<W: OutputWriter>(writer: &mut W, output: Result<Output, ReadError>) -> u8
+    ensures drives { (requested : Option Request) (input : Option (List ℕ)) → IfOk output (IsAnswerTo requested input) → DrivesTo requested input (W.contents writer.old) (W.contents writer.new) result }
+    ensures memory { IfOk output (λ out. out ≡ Output.NoMemory → WritesNoMemory (W.contents writer.old) (W.contents writer.new) result) }
+    ensures unwritten { IfErr output (λ _. (result ≡ 4) × (writer.new ≡ writer.old)) }
+    ensures failed { result ≡ 4 → (is_err output ≡ true) ⊎ (W.has_failed writer.new ≡ true) }
+    ensures no_fault { W.has_failed writer.old ≡ false → W.has_failed writer.new ≡ true → result ≡ 4 }
 {
     match output {
-        Ok(output) => write_output(writer, &output),
-        Err(_) => Status::Failed,
+        Ok(output) => write_output(writer, &output).code(),
+        Err(_) => Status::Failed.code(),
     }
 }
 
@@ -147,10 +100,14 @@ pub fn drive_single<R: InputReader, W: OutputWriter>(
     ensures taken { ConsumesAtMost (input_limit + 1) (R.remaining reader.old) (R.remaining reader.new) }
     ensures unread { single_of (request_of (map (λ word. word.now) words.now)) ≡ None → reader.new ≡ reader.old }
 {
-    match make_output(alloc, words, reader) {
-        Ok(Made::Output(output)) => Some(write_answer(writer, Ok(output)).code()),
-        Ok(Made::Run(_)) => None,
-        Err(error) => Some(write_answer(writer, Err(error)).code()),
+    match parse_args(alloc, words) {
+        Ok(Request::Single(single)) => {
+            let output = single_output(alloc, single, reader);
+            Some(write_answer(writer, output))
+        }
+        Ok(Request::Run(_)) => None,
+        Err(UsageError::Usage) => Some(write_answer(writer, Ok(Output::Usage))),
+        Err(UsageError::Memory) => Some(write_answer(writer, Ok(Output::NoMemory))),
     }
 }
 
@@ -173,6 +130,17 @@ pub fn drive<R: Threads + Wait + Sync + AllocGlobal, S: InputReader, W: OutputWr
     ensures taken { ConsumesAtMost (input_limit + 1) (S.remaining reader.old) (S.remaining reader.new) }
     ensures unread { request_of (map (λ word. word.now) words.now) ≡ None → reader.new ≡ reader.old }
 {
-    let output = output_for(rt, rt.alloc(), words, reader);
-    write_answer(writer, output).code()
+    let alloc = rt.alloc();
+    match parse_args(alloc, words) {
+        Ok(Request::Single(single)) => {
+            let output = single_output(alloc, single, reader);
+            write_answer(writer, output)
+        }
+        Ok(Request::Run(run)) => {
+            let output = run_output(rt, alloc, run, reader);
+            write_answer(writer, output)
+        }
+        Err(UsageError::Usage) => write_answer(writer, Ok(Output::Usage)),
+        Err(UsageError::Memory) => write_answer(writer, Ok(Output::NoMemory)),
+    }
 }

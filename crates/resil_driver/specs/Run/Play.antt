@@ -4,6 +4,7 @@ use Rattle.resil_rule.specs.Admission.{IsLegal}
 use Rattle.resil_rule.specs.declared.event.Event.{Event}
 use Rattle.resil_admission.specs.declared.row.Row.{Row}
 use Rattle.resil_bulkhead.specs.Bulkhead.{BulkheadView}
+use Rattle.resil_decor.specs.Grants.{IsWithin}
 use Rattle.resil_decor.specs.declared.layer.Layer.{Layer}
 use Rattle.resil_driver.specs.Run.Head.{RunHeadView}
 use Rattle.resil_pool.specs.Draining.Report.{AreCollected, AreSubmissions}
@@ -18,14 +19,20 @@ use Rattle.resil_workers.specs.declared.batch.run.RunError.TheVariants as run_er
 use Rattle.resil_pool.specs.declared.draining.report.Report.{Report}
 use Rattle.resil_driver.specs.declared.run.rows.ScriptedJob.{ScriptedJob}
 use Rattle.resil_driver.specs.Run.Bulkheads.{AreMadeFrom}
-use Rattle.resil_driver.specs.Run.Grants.{AreWithin}
-use Rattle.resil_driver.specs.Run.Settings.{run_settings}
 use Rattle.resil_words.specs.declared.command_line.RunOptions.{RunOptions}
 use Rattle.resil_heads.specs.declared.command_error.CommandError.{CommandError}
 use Rattle.resil_heads.specs.declared.command_error.CommandError.TheVariants as error
 use Rattle.resil_heads.specs.declared.refusal.Refusal.TheVariants as refusal
 use Rattle.resil_heads.specs.declared.refusal.RunRefusal.TheVariants as run
 use Rattle.resil_driver.specs.declared.run.runner.RunSettings.{RunSettings}
+
+-- the settings that a head and the words say: the sizes and the keep-alive are those of the head,
+-- and the number of callers and the flag are those of the words
+abbrev pub run_settings : RunHeadView → RunOptions → RunSettings
+run_settings said words = record {
+  config = record { limits = said.limits; keep_alive = said.keep_alive; callers = words.callers };
+  hold = words.hold;
+}
 
 -- a job of one of these callers, numbered from 1
 abbrev pub IsOfCaller : ℕ → ScriptedJob → Type 0
@@ -49,6 +56,10 @@ pub record IsPoolReport (settings : RunSettings) (rows : List JobRow) (history :
   pub collected_exactly_once : AreCollected history receipts results
   pub plans : ArePlansOf rows receipts
   pub held : IsTrue settings.hold → BeginsWithRows rows history
+
+-- no job was ever granted more permits of one of these bulkheads at once than that has
+pub record AreWithin (bulkheads : List BulkheadView) (results : List Row) : Type 0 where
+  pub each : All (λ row. IsWithin bulkheads row.run) results
 
 -- A report of these rows by these settings: that of their pool, in which no job was ever granted more permits
 -- of a bulkhead of the run at once than that has.

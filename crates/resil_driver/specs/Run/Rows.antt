@@ -14,14 +14,10 @@ run_rows_header = codes "caller" ∷ codes "script" ∷ []
 abbrev pub parse_caller_up_to : ℕ → List ℕ → Option ℕ
 parse_caller_up_to callers field = parse_number_below (suc callers) field
 
--- the job that two fields are read as
-abbrev pub parse_job_fields : ℕ → List ℕ → List ℕ → Option ScriptedJob
-parse_job_fields callers caller script =
-    option_and_then (λ c. option_map (λ outcomes. record { caller = c; script = outcomes }) (parse_script script)) (parse_caller_up_to callers caller)
-
 -- the job that a record is read as
 abbrev pub parse_job : ℕ → List (List ℕ) → Option ScriptedJob
-parse_job callers fields = parse_job_fields callers (get_or fields 0 []) (get_or fields 1 [])
+parse_job callers fields =
+    option_and_then (λ c. option_map (λ outcomes. record { caller = c; script = outcomes }) (parse_script (get_or fields 1 []))) (parse_caller_up_to callers (get_or fields 0 []))
 
 -- a body of these jobs, for a pool of this number of callers
 abbrev pub IsRunBody : ℕ → List ℕ → List ScriptedJob → Type 0

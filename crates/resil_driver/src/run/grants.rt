@@ -4,7 +4,7 @@
 //! compared with the bulkheads once the report is there.
 
 ghost use Rattle.std.specs.Prelude.{◌↔◌, All, IsTrue};
-ghost use Rattle.resil_driver.specs.Run.Grants.{AreWithin};
+ghost use Rattle.resil_driver.specs.Run.Play.{AreWithin};
 
 use resil_admission::Row;
 use resil_bulkhead::Bulkhead;

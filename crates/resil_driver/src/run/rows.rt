@@ -4,8 +4,8 @@
 //! submission. All rows are read before the first job is submitted, so a row that can't be read
 //! keeps every job from running.
 
-ghost use Rattle.std.specs.Prelude.{◌≡◌, MatchResult, IfOk};
-ghost use Rattle.resil_driver.specs.Run.Rows.{parse_caller_up_to, parse_job_fields, IsRunBody, IsRunBodyError};
+ghost use Rattle.std.specs.Prelude.{◌≡◌, MatchResult};
+ghost use Rattle.resil_driver.specs.Run.Rows.{parse_caller_up_to, IsRunBody, IsRunBodyError};
 
 use csv::ByteRecord;
 use resil_heads::run::RUN_HEADER;
@@ -51,12 +51,13 @@ impl RowFormat for Rows {
         alloc: Global,
         fields: &ByteRecord,
     ) -> Result<Option<ScriptedJob>, AllocError> {
-        parse_job_fields(
-            alloc,
-            self.callers,
-            field_at(fields, 0),
-            field_at(fields, 1),
-        )
+        let Some(caller) = parse_caller_up_to(self.callers, field_at(fields, 0)) else {
+            return Ok(None);
+        };
+        let Some(script) = parse_script(alloc, field_at(fields, 1))? else {
+            return Ok(None);
+        };
+        Ok(Some(ScriptedJob { caller, script }))
     }
 }
 
@@ -69,24 +70,6 @@ fn parse_caller_up_to(callers: u16, field: &[u8]) -> Option<u16>
         return None;
     }
     Some(caller)
-}
-
-// Reads a job from two fields. Errors: `AllocError` where memory runs out.
-fn parse_job_fields(
-    alloc: Global,
-    callers: u16,
-    caller: &[u8],
-    script: &[u8],
-) -> Result<Option<ScriptedJob>, AllocError>
-    ensures { IfOk result (λ job. job ≡ parse_job_fields callers caller.now script.now) }
-{
-    let Some(caller) = parse_caller_up_to(callers, caller) else {
-        return Ok(None);
-    };
-    let Some(script) = parse_script(alloc, script)? else {
-        return Ok(None);
-    };
-    Ok(Some(ScriptedJob { caller, script }))
 }
 
 /// Reads the jobs of a body of `run`, in order. Each names a caller from 1 to `callers`.

@@ -11,7 +11,7 @@ ghost use Rattle.std.specs.Thread.{IsSync};
 ghost use Rattle.resil_rule.specs.Limits.{AreLimits};
 ghost use Rattle.resil_decor.specs.Passes.{sources_of};
 ghost use Rattle.resil_workers.specs.Batch.Submit.{IsFrom};
-ghost use Rattle.resil_driver.specs.Run.Settings.{run_settings};
+ghost use Rattle.resil_driver.specs.Run.Play.{run_settings};
 
 use crate::run::grants::may_have_answered;
 use crate::run::head::RunHead;

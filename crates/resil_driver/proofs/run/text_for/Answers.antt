@@ -1,6 +1,6 @@
 use Rattle.resil_driver.specs.Run.{IsErrorFor}
 use Rattle.resil_input.proofs.RowLaws.{handed-on}
-use Rattle.resil_driver.proofs.ErrorLaws.{run-body-refused, run-refused}
+use Rattle.resil_driver.proofs.ErrorLaws.{run-body-refused}
 use Rattle.resil_driver.proofs.JobLaws.{jobs-of_callers}
 use Rattle.resil_driver.proofs.run.text_for.Goals as goal
 
@@ -12,12 +12,6 @@ returns-in_err-jobs g c = λ input parts.
     let May = g.J.JobRunner.MayAnswer in
     handed-on c.from_residual.result _ (IsErrorFor May c.args.request.words input) _ c.from_residual.ensures.1
     (run-body-refused May c.args.request.words input c.args.request.head.now c.args.body.now c.in_err-jobs.field-0.0 parts c.in_err-jobs.ensures)
-
-pub returns-in_err-report : goal.returns-in_err-report
-returns-in_err-report g c = λ input parts.
-    let May = g.J.JobRunner.MayAnswer in
-    handed-on c.from_residual-in_err-report.result _ (IsErrorFor May c.args.request.words input) _ c.from_residual-in_err-report.ensures.1
-    (run-refused May c.args.request.words input c.args.request.head.now c.args.body.now c.in_ok-jobs.jobs.items c.in_err-report.field-0.0 parts c.in_ok-jobs.ensures c.in_err-report.ensures.error)
 
 pub returns : goal.returns
 returns g c = λ input parts.

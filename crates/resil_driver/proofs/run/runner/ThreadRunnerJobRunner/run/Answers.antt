@@ -2,7 +2,7 @@
 use Rattle.std.proofs.Common.{◌≡◌, ◌≤◌, List, true, false, inr, sym, ◌∙◌, subst, arith}
 use Rattle.std.proofs.lemmas.List.{length-map}
 use Rattle.resil_admission.specs.declared.row.Row.{Row}
-use Rattle.resil_driver.specs.Run.Grants.{AreWithin}
+use Rattle.resil_driver.specs.Run.Play.{AreWithin}
 use Rattle.resil_driver.proofs.run.runner.ThreadRunnerJobRunner.run.Goals as goal
 
 pub returns-in-Ok-clause-answer : goal.returns-in-Ok-clause-answer
