@@ -7,7 +7,6 @@
 ghost use Rattle.std.specs.Prelude.{String, ◌≡◌, ◌++◌, map, OnOk};
 ghost use Rattle.std.specs.Fmt.{decimal};
 ghost use Rattle.std.specs.String.{string_bytes};
-ghost use Rattle.resil_input.specs.OutcomeText.{outcome_text};
 ghost use Rattle.resil_chain.specs.RunFields.{asked_item, items_text, run_fields};
 
 use itoa::Buffer;

@@ -4,7 +4,7 @@
 //! Each row is a job of its own, and its bulkheads answer by the row's grants alone: nothing is
 //! kept from one row for the next. So the run of a row doesn't depend on the other rows.
 
-ghost use Rattle.std.specs.Prelude.{◌≡◌, ◌++◌, ◌∷◌, [], List, IfOk, OnOk};
+ghost use Rattle.std.specs.Prelude.{◌++◌, ◌∷◌, [], List, IfOk, OnOk};
 ghost use Rattle.resil_input.specs.CsvTable.{HasColumns, text_so_far};
 ghost use Rattle.resil_chain.specs.Rows.{ChainRowView};
 ghost use Rattle.resil_chain.specs.Runs.{IsRunOf, IsTextOfRuns};
