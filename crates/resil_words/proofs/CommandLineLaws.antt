@@ -1,5 +1,6 @@
 -- Which words `clap` accepts of a command without arguments.
 use Rattle.std.proofs.Common.{◌≡◌, ◌<◌, ◌^◌, ◌∙◌, ◌&&◌, ◌∷◌, unwrap_or, ℕ, zero, suc, Bool, true, false, List, [], Option, Some, None, length, slice_get, refl, sym, ap, subst, codes, if◌then◌else◌, option_map, option_and_then, nat_le, nat_lt, is_some, find, fold, ◌==◌, arith, inl, inr}
+use Rattle.std.proofs.Math.Bool.{and-true}
 use Rattle.std.proofs.lemmas.Bool.{eqb-true}
 use Rattle.std.proofs.lemmas.Bool.Decides.{nat_tests}
 use Rattle.std.proofs.lemmas.Grind.{common_steps}
@@ -11,7 +12,7 @@ use Rattle.std.specs.Option.{option_map_or}
 use Rattle.std.specs.Str.{bytes_eq, chars}
 use Rattle.std.proofs.lemmas.Slice.Eq.{bytes_eq-Decides}
 use Rattle.clap.proofs.FaultLemmas.{leaf_fault, stopped_fault}
-use Rattle.clap.proofs.WalkLemmas.{both, walk_stopped}
+use Rattle.clap.proofs.WalkLemmas.{both, one_text-rows, walk_stopped}
 use Rattle.clap.specs.Faults.{bundle_fault, bundle_step_fault, check_fault, defaults_fault, entered_fault, fault_of, flag_word_fault, flags_fault, is_simple_and_free, level_fault, other_fault, settle_fault, step_fault, stray_fault, turn_fault, walk_fault}
 use Rattle.clap.specs.Kinds.{HasKind, IsAmong, Kinds, or_else}
 use Rattle.clap.specs.Lexer.{long_of, short_of, without_minus}
@@ -21,14 +22,15 @@ use Rattle.clap.specs.Values.{IsSignedIn, IsUnsignedIn, kind_of}
 use Rattle.clap.specs.declared.error.Error.{Error}
 use Rattle.clap.specs.declared.error.kind.ErrorKind.{ErrorKind}
 use Rattle.clap.specs.declared.error.kind.ErrorKind.TheVariants.{OutOfMemory}
-use Rattle.clap.specs.Words.{ReadsOne, Row, subcommand_name_of, subcommand_of, subcommand_rows_of}
+use Rattle.clap.specs.Words.{ReadsOne, Row, one_of, one_text, rows_of, subcommand_name_of, subcommand_of, subcommand_rows_of}
 use Rattle.clap.specs.declared.parser.matches.ArgMatches.{ArgMatches}
+use Rattle.clap.specs.declared.parser.matches.Found.{Found}
 use Rattle.clap.specs.ValueTests.{is_numeral, is_signed_in, is_unsigned_in}
 use Rattle.clap.proofs.ValueTestLemmas.{Accepts-accepts, accepts-Accepts}
 use Rattle.clap.specs.declared.builder.value_parser.ValueParser.TheVariants as parser
 use Rattle.std.specs.Str.Parse.{AllDigits, ExplainsUnsignedError, HasUnsignedDigitsIfOk, IsNumeral, starts_with_minus, ParsesBool, ParsesUnsigned, digits_value, false_text, true_text, without_leading_plus}
 use Rattle.resil_input.specs.TextEquality.{is_same}
-use Rattle.resil_words.specs.CommandLine.{FewCallers, is_end, number_read, program, request_of_match, request_of, run_command, run_options, single_from_name}
+use Rattle.resil_words.specs.CommandLine.{FewCallers, callers_of, hold_of, is_end, number_read, program, request_of_match, request_of, run_command, run_options}
 use Rattle.resil_words.specs.declared.command_line.Request.{Request}
 use Rattle.resil_words.specs.declared.command_line.Request.TheVariants as request
 use Rattle.resil_words.specs.declared.command_line.RunOptions.{RunOptions}
@@ -36,10 +38,6 @@ use Rattle.resil_words.specs.declared.command_line.RunOptions.{RunOptions}
 is_empty-or_else : (a b : Kinds) → is_empty (or_else a b) ≡ (is_empty a && is_empty b)
 is_empty-or_else [] b = refl
 is_empty-or_else (k ∷ ks) b = let some : (suc (length ks) == 0) ≡ false = grind (arith, common_steps) in rw some refl
-
-and-true : (b : Bool) → (b && true) ≡ b
-and-true true = refl
-and-true false = refl
 
 by_test : {P : Type 0} (b : Bool) → (b ≡ true → P) → (b ≡ false → P) → P
 by_test true met unmet = met refl
@@ -271,7 +269,7 @@ request_of-refused command words e is told other =
 -- ---- what is read of the flag and the option of `run`
 
 -- the flag, where `get_one` reads a `bool` of its text
-pub hold-read : (E : Type 0) (text : Option Text) (read : Option Bool) → (text ≡ None → read ≡ None) → ((t : Text) → text ≡ Some t → ReadsOne {E = E} ParsesBool t read)
+hold-read : (E : Type 0) (text : Option Text) (read : Option Bool) → (text ≡ None → read ≡ None) → ((t : Text) → text ≡ Some t → ReadsOne {E = E} ParsesBool t read)
     → unwrap_or read false ≡ option_map_or (is_same (codes "true")) text false
 hold-read E None read none some = rw (none refl) refl
 hold-read E (Some t) (Some true) none some = let is : t ≡ true_text = some t refl in rw is refl
@@ -285,7 +283,7 @@ abbrev Reads : Option Text → Option ℕ → Type 0
 Reads text read = (text ≡ None → read ≡ None)
     × ((t : Text) → text ≡ Some t → ReadsOne (λ bs r. ParsesUnsigned 16 10 bs r × ExplainsUnsignedError 10 bs r × HasUnsignedDigitsIfOk bs r) t read)
 
-pub callers-read : (text : Option Text) (read : Option ℕ) → Reads text read
+callers-read : (text : Option Text) (read : Option ℕ) → Reads text read
     → option_and_then (λ n. if nat_le 1 n && nat_le n 64 then Some n else None) read ≡ option_and_then number_read text
 callers-read None read reads = rw (reads.0 refl) refl
 callers-read (Some t) None reads = by_test (is_unsigned_in 1 64 t)
@@ -299,6 +297,18 @@ callers-read (Some t) (Some n) reads =
     let parts : (is_numeral (without_leading_plus t) ≡ true) × ((nat_lt value (2 ^ 64) && (nat_le 0 value && nat_le value 65535)) ≡ true) = both (is_numeral (without_leading_plus t)) (nat_lt value (2 ^ 64) && (nat_le 0 value && nat_le value 65535)) accepted in
     let small : nat_lt value (2 ^ 64) ≡ true = grind (arith, nat_tests, parsed.0.1) in
     rw (parsed.1, parts.0, small) refl
+
+-- both, by what was found for them
+module _ (found : Found) where
+  pub hold-found : (E : Type 0) (read : Option Bool) → (one_text found (codes "hold") ≡ None → read ≡ None)
+      → ((t : Text) → one_text found (codes "hold") ≡ Some t → ReadsOne {E = E} ParsesBool t read) → unwrap_or read false ≡ hold_of (rows_of found)
+  hold-found E read none some =
+      let same = one_text-rows found (codes "hold") in
+      hold-read E (one_of (codes "hold") (rows_of found)) read (λ is. none (same ∙ is)) (λ t is. some t (same ∙ is))
+
+  pub callers-found : (read : Option ℕ) → Reads (one_text found (codes "callers")) read
+      → option_and_then (λ n. if nat_le 1 n && nat_le n 64 then Some n else None) read ≡ callers_of (rows_of found)
+  callers-found read reads = callers-read (one_of (codes "callers") (rows_of found)) read (rw (one_text-rows found (codes "callers")) at reads)
 
 -- ---- the number of callers
 
@@ -353,12 +363,6 @@ unfolding clap_on_literals
 few_callers text = by_test (is_unsigned_in 1 64 text)
     (λ few. rw (few, signed-unsigned text ∙ few, number_read-callers text few) refl)
     (λ other. rw (other, signed-unsigned text ∙ other) refl)
-
--- a command other than `run`, as it was met
-pub other_request : (name : Text) (rows : List Row) → (name ≡ codes "run" → ⊥) → request_of_match (name, rows) ≡ option_map request.Single (single_from_name name)
-other_request name rows other = by_test (bytes_eq (codes "run") name)
-    (λ same. absurd (other (sym ((bytes_eq-Decides (codes "run") name).0 same))))
-    (λ apart. rw apart refl)
 
 -- what was met, by its name and its rows
 pub met_both : {A B : Type 0} (met : Option (A × B)) (a : A) (b : B) → Some a ≡ option_map (λ p. p.0) met → Some b ≡ option_map (λ p. p.1) met → met ≡ Some (a, b)

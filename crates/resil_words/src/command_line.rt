@@ -5,10 +5,10 @@
 //! own is refused, a call for help like any other, and so are no words at all. Only `run` has
 //! options: a flag and a number of callers.
 
-ghost use Rattle.std.specs.Prelude.{◌≡◌, ◌≤◌, Some, None, map, false, IfOk, IfSome, option_and_then};
-ghost use Rattle.clap.specs.Words.{app_of, found_of, rows_of, rule_of, subcommand_rows_of};
+ghost use Rattle.std.specs.Prelude.{◌≡◌, Some, None, map, false, IfOk, IfSome, option_and_then};
+ghost use Rattle.clap.specs.Words.{app_of, found_of, rows_of, subcommand_rows_of};
 ghost use Rattle.clap.specs.declared.builder.command.Command.TheViews.{out-Command as fields_of};
-ghost use Rattle.resil_words.specs.CommandLine.{FewCallers, HasFewCallers, RunExamples, callers_of, callers_option, hold_flag, hold_of, program, request_of_match, request_of, run_command, run_options, single_commands, single_from_name};
+ghost use Rattle.resil_words.specs.CommandLine.{FewCallers, HasFewCallers, RunExamples, program, request_of_match, request_of, run_command, run_options};
 
 use clap::error::ErrorKind;
 use clap::{Arg, ArgAction, ArgMatches, Command, value_parser};
@@ -94,14 +94,6 @@ fn program<'a>(alloc: Global) -> Result<Command<'a>, AllocError>
     ensures { IfOk result (λ command. app_of command ≡ program) }
 {
     let run = run_command(alloc)?;
-    single_commands(alloc)?.subcommand(run)
-}
-
-// The program's command, with one subcommand for each command that one thread carries out. Errors:
-// memory runs out.
-fn single_commands<'a>(alloc: Global) -> Result<Command<'a>, AllocError>
-    ensures { IfOk result (λ command. app_of command ≡ single_commands) }
-{
     Command::new(alloc, "resil")
         .subcommand_required(true)
         .disable_help_flag(true)
@@ -109,7 +101,8 @@ fn single_commands<'a>(alloc: Global) -> Result<Command<'a>, AllocError>
         .subcommand(Command::new(alloc, "replay"))?
         .subcommand(Command::new(alloc, "audit"))?
         .subcommand(Command::new(alloc, "chain"))?
-        .subcommand(Command::new(alloc, "weave"))
+        .subcommand(Command::new(alloc, "weave"))?
+        .subcommand(run)
 }
 
 // The command `run`, with its flag and its option. Errors: memory runs out.
@@ -117,32 +110,18 @@ fn run_command<'a>(alloc: Global) -> Result<Command<'a>, AllocError>
     ensures app { IfOk result (λ command. app_of command ≡ run_command) }
     ensures globals { IfOk result (λ command. (fields_of command).has_globals ≡ false) }
 {
-    Command::new(alloc, "run")
-        .disable_help_flag(true)
-        .arg(hold_flag(alloc))?
-        .arg(callers_option(alloc))
-}
-
-// The flag `--hold`.
-fn hold_flag<'a>(alloc: Global) -> Arg<'a>
-    ensures flag { rule_of result ≡ hold_flag }
-    ensures local { result.global ≡ false }
-{
-    Arg::new(alloc, "hold")
+    let hold = Arg::new(alloc, "hold")
         .long("hold")
-        .action(ArgAction::SetTrue)
-}
-
-// The option `--callers`.
-fn callers_option<'a>(alloc: Global) -> Arg<'a>
-    ensures option { rule_of result ≡ callers_option }
-    ensures local { result.global ≡ false }
-{
-    Arg::new(alloc, "callers")
+        .action(ArgAction::SetTrue);
+    let callers = Arg::new(alloc, "callers")
         .long("callers")
         .action(ArgAction::Set)
         .value_parser(value_parser!(u16).range(1..=64))
-        .default_value("1")
+        .default_value("1");
+    Command::new(alloc, "run")
+        .disable_help_flag(true)
+        .arg(hold)?
+        .arg(callers)
 }
 
 // The request of the subcommand that the words named.
@@ -150,23 +129,15 @@ fn request_of_matches(matches: &ArgMatches<'_>) -> Option<Request>
     ensures request { result ≡ option_and_then request_of_match (subcommand_rows_of matches.now) }
     ensures callers { IfSome result HasFewCallers }
 {
-    match matches.subcommand()? {
-        ("run", run) => run_options(run).map(Request::Run),
-        (command, _) => single_from_name(command).map(Request::Single),
-    }
-}
-
-// The command that one thread carries out, by its name.
-fn single_from_name(command: &str) -> Option<Single>
-    ensures { result ≡ single_from_name command.now }
-{
-    match command {
-        "replay" => Some(Single::Replay),
-        "audit" => Some(Single::Audit),
-        "chain" => Some(Single::Chain),
-        "weave" => Some(Single::Weave),
-        _ => None,
-    }
+    let (command, options) = matches.subcommand()?;
+    Some(match command {
+        "replay" => Request::Single(Single::Replay),
+        "audit" => Request::Single(Single::Audit),
+        "chain" => Request::Single(Single::Chain),
+        "weave" => Request::Single(Single::Weave),
+        "run" => Request::Run(run_options(options)?),
+        _ => return None,
+    })
 }
 
 // The options of `run`, by what was found for its flag and its option.
@@ -174,30 +145,12 @@ fn run_options(matches: &ArgMatches<'_>) -> Option<RunOptions>
     ensures options { result ≡ run_options (rows_of (found_of matches.now)) }
     ensures callers { IfSome result (λ options. HasFewCallers (Request.Run options)) }
 {
-    let callers = callers_of(matches)?;
-    Some(RunOptions {
-        hold: hold_of(matches),
-        callers,
-    })
-}
-
-// Whether the flag `--hold` was given.
-fn hold_of(matches: &ArgMatches<'_>) -> bool
-    ensures { result ≡ hold_of (rows_of (found_of matches.now)) }
-{
-    matches.get_one::<bool>("hold").unwrap_or(false)
-}
-
-// The number of callers, from 1 to 64.
-fn callers_of(matches: &ArgMatches<'_>) -> Option<u16>
-    ensures callers { result ≡ callers_of (rows_of (found_of matches.now)) }
-    ensures few { IfSome result (λ callers. (1 ≤ callers) × (callers ≤ 64)) }
-{
     let callers = matches.get_one::<u16>("callers")?;
     if callers == 0 || callers > MAX_CALLERS {
         return None;
     }
-    Some(callers)
+    let hold = matches.get_one::<bool>("hold").unwrap_or(false);
+    Some(RunOptions { hold, callers })
 }
 
 /// Two facts of the definition of the words: the options of `run` in words that are written out,

@@ -1,7 +1,0 @@
-use Rattle.std.proofs.Common.{take}
-use Rattle.resil_replay.specs.State.{HasReplayed}
-use Rattle.resil_replay.proofs.play.apply_rows.Given as goal
-
--- the rows so far were carried out
-abbrev pub invariant-loop-index : goal.invariant-loop-index
-invariant-loop-index l = HasReplayed l.fn.pool.limits (take l.index l.rows) l.pool
