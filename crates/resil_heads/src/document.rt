@@ -8,7 +8,7 @@
 ghost use Rattle.std.specs.Prelude.{◌≡◌, map};
 ghost use Rattle.toml.specs.View.{table_view};
 ghost use Rattle.toml.specs.Errors.{IsBlank};
-ghost use Rattle.resil_heads.specs.Document.{name_of, keys_of, required_of, document_of, is_known, has_only, has_needed, has_all, check_known, check_required, check_keys};
+ghost use Rattle.resil_heads.specs.Document.{name_of, keys_of, required_of, document_of, is_known, has_needed, check_known, check_required, check_keys};
 ghost use Rattle.resil_heads.specs.Checks.{GivesBy};
 
 use crate::error::HeadError;
@@ -56,40 +56,20 @@ fn has_needed(key: Key, table: &Table) -> bool
     }
 }
 
-// Whether each key of a table is one of those listed.
-fn has_only(keys: &[Key], table: &Table) -> bool
-    ensures { result ≡ has_only (map name_of keys.now) (table_view table.now) }
-{
-    table.keys().all(|name| is_known(keys, name.as_str()))
-}
-
-// Whether a table has each of the keys that are required.
-fn has_all(keys: &[Key], table: &Table) -> bool
-    ensures { result ≡ has_all (required_of keys.now) (table_view table.now) }
-{
-    keys.iter().all(|key| has_needed(*key, table))
-}
-
 /// Checks that each key of a table is one of these. Errors: `UnknownKey`.
 pub(crate) fn check_known(keys: &[Key], table: &Table) -> Result<(), HeadError>
     ensures { result ≡ check_known (keys_of keys.now) (table_view table.now) }
 {
-    if has_only(keys, table) {
-        Ok(())
-    } else {
-        Err(HeadError::UnknownKey)
-    }
+    let all = table.keys().all(|name| is_known(keys, name.as_str()));
+    all.then_some(()).ok_or(HeadError::UnknownKey)
 }
 
 /// Checks that a table has those of the keys that are required. Errors: `MissingKey`.
 pub(crate) fn check_required(keys: &[Key], table: &Table) -> Result<(), HeadError>
     ensures { result ≡ check_required (keys_of keys.now) (table_view table.now) }
 {
-    if has_all(keys, table) {
-        Ok(())
-    } else {
-        Err(HeadError::MissingKey)
-    }
+    let all = keys.iter().all(|key| has_needed(*key, table));
+    all.then_some(()).ok_or(HeadError::MissingKey)
 }
 
 /// Checks that a table has no other keys than these, and those of them that are required.

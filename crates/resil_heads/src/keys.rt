@@ -10,7 +10,7 @@ ghost use Rattle.toml.specs.View.{view, table_view};
 ghost use Rattle.resil_retry.specs.declared.result_test.ResultTest.TheVariants.{Never};
 ghost use Rattle.resil_heads.specs.Checks.{GivesBy};
 ghost use Rattle.resil_input.specs.OutcomeText.{parse_kind};
-ghost use Rattle.resil_heads.specs.Keys.{parse_at, parse_named, parse_text, parse_count, parse_integer, parse_wait, parse_flag, parse_fraction, parse_kinds, parse_table, parse_tables, comparison_from_text, result_test_from_name};
+ghost use Rattle.resil_heads.specs.Keys.{parse_at, parse_named, parse_text, parse_count, parse_integer, parse_wait, parse_flag, parse_fraction, parse_kinds, parse_table, parse_tables, result_test_from_name};
 
 use crate::error::HeadError;
 use resil_input::outcome_text::{parse_kind, parse_signed};
@@ -186,26 +186,17 @@ pub(crate) fn kinds_at(alloc: Global, key: &str, table: &Table) -> Result<Vec<Ki
     }
 }
 
-// The comparison that a text names: `=`, `<` or `>=`, and an integer.
-fn comparison_from_text(text: &[u8]) -> Option<ResultTest>
-    ensures { result ≡ comparison_from_text text.now }
+// The test of values that a text names: `never`, or `=`, `<` or `>=` and an integer.
+fn result_test_from_name(text: &[u8]) -> Option<ResultTest>
+    ensures { result ≡ result_test_from_name text.now }
 {
     match text {
+        b"never" => Some(ResultTest::Never),
         [b'=', digits @ ..] => parse_signed(digits).map(ResultTest::Equal),
         [b'<', digits @ ..] => parse_signed(digits).map(ResultTest::Below),
         [b'>', b'=', digits @ ..] => parse_signed(digits).map(ResultTest::AtLeast),
         _ => None,
     }
-}
-
-// The test of values that a text names: `never`, or a comparison.
-fn result_test_from_name(text: &[u8]) -> Option<ResultTest>
-    ensures { result ≡ result_test_from_name text.now }
-{
-    if text == b"never".as_slice() {
-        return Some(ResultTest::Never);
-    }
-    comparison_from_text(text)
 }
 
 /// A test of values, by its text.

@@ -8,7 +8,7 @@
 ghost use Rattle.toml.specs.View.{table_view};
 ghost use Rattle.resil_heads.specs.Checks.{Gives};
 ghost use Rattle.resil_heads.specs.Document.{keys_of};
-ghost use Rattle.resil_heads.specs.LayerBuild.{build_layers, chain_from_layers};
+ghost use Rattle.resil_heads.specs.LayerBuild.{build_layers};
 ghost use Rattle.resil_heads.specs.Layers.{parse_chain, build_chain};
 
 mod build;
@@ -17,7 +17,7 @@ mod values;
 
 use crate::error::HeadError;
 use crate::forms::{Form, Key};
-use crate::layers::build::{build_layers, chain_from_layers};
+use crate::layers::build::build_layers;
 pub use crate::layers::bulkheads::{DEFAULT_PERMITS, byte_order_is_of_members};
 use crate::layers::bulkheads::{ConfigSpec, configured, parse_configs, permits_in};
 pub use crate::layers::values::{
@@ -105,6 +105,6 @@ pub fn build_chain(alloc: Global, said: ChainSpec) -> Result<BuiltChain, HeadErr
 {
     let mut bulkheads = configured(alloc, said.configurations)?;
     let layers = build_layers(alloc, &mut bulkheads, said.layers)?;
-    let chain = chain_from_layers(layers)?;
+    let chain = Chain::new(layers).map_err(|(why, _)| HeadError::Chain(why))?;
     Ok(BuiltChain { chain, bulkheads })
 }

@@ -6,12 +6,12 @@
 
 ghost use Rattle.std.specs.Prelude.{◌≡◌};
 ghost use Rattle.resil_heads.specs.Checks.{GivesBy};
-ghost use Rattle.resil_heads.specs.LayerBuild.{build_interval, build_retry, build_layer, build_layers, chain_from_layers};
+ghost use Rattle.resil_heads.specs.LayerBuild.{build_interval, build_retry, build_layer, build_layers};
 
 use crate::error::HeadError;
-use crate::layers::bulkheads::{layer_id, obtained};
+use crate::layers::bulkheads::obtained;
 use crate::layers::values::{IntervalSpec, LayerSpec, RetrySpec};
-use resil_decor::{Chain, Layer};
+use resil_decor::Layer;
 use resil_registry::Registry;
 use resil_retry::{Interval, RetryConfig};
 use std::alloc::Global;
@@ -59,7 +59,8 @@ fn build_layer(registry: &mut Registry<u16>, said: LayerSpec) -> Result<Layer, H
         LayerSpec::Retry(retry) => Ok(Layer::Retry(build_retry(retry)?)),
         LayerSpec::Bulkhead { name, config } => {
             let id = obtained(registry, name, config)?;
-            Ok(Layer::Bulkhead(layer_id(id)))
+            // No chain has so many layers that an id doesn't fit.
+            Ok(Layer::Bulkhead(u16::try_from(id).unwrap_or(u16::MAX)))
         }
         LayerSpec::Fallback { catch, value } => Ok(Layer::Fallback { catch, value }),
     }
@@ -78,11 +79,4 @@ pub(super) fn build_layers(
         layers.push(build_layer(registry, said)?)?;
     }
     Ok(layers)
-}
-
-/// The chain of these layers. Errors: `TooManyLayers`, `TooManyCalls`, in this order.
-pub(super) fn chain_from_layers(layers: Vec<Layer>) -> Result<Chain, HeadError>
-    ensures { result ≡ chain_from_layers layers.items }
-{
-    Chain::new(layers).map_err(|(why, _)| HeadError::Chain(why))
 }

@@ -12,7 +12,7 @@ ghost use Rattle.toml.specs.View.{view, table_view};
 ghost use Rattle.resil_heads.specs.Checks.{GivesBy, Gives};
 ghost use Rattle.resil_heads.specs.ByteOrder.{IsByteOrder, in_byte_order};
 ghost use Rattle.resil_heads.specs.Keys.{each};
-ghost use Rattle.resil_heads.specs.LayerBulkheads.{permits_in, parse_permits, parse_config, registry_error, unconfigured, with_configuration, configured, obtained, layer_id};
+ghost use Rattle.resil_heads.specs.LayerBulkheads.{permits_in, parse_permits, parse_config, registry_error, unconfigured, with_configuration, configured, obtained};
 
 use crate::error::HeadError;
 use crate::keys::{HeadText, parse_integer, parse_table, value_at};
@@ -125,13 +125,6 @@ pub(crate) fn obtained(
         Ok(id) => Ok(id),
         Err(why) => Err(registry_error(why)),
     }
-}
-
-/// The id as a layer has it. An id above 65,535 becomes 65,535, but no chain has that many layers.
-pub(crate) fn layer_id(id: usize) -> u16
-    ensures { result ≡ layer_id id }
-{
-    u16::try_from(id).unwrap_or(u16::MAX)
 }
 
 /// The law of byte order: what the definition calls the members of a table in byte order are in

@@ -10,7 +10,7 @@ ghost use Rattle.toml.specs.View.{table_view};
 ghost use Rattle.resil_heads.specs.Checks.{Gives, GivesBy};
 ghost use Rattle.resil_heads.specs.Document.{keys_of};
 ghost use Rattle.resil_heads.specs.Keys.{each};
-ghost use Rattle.resil_heads.specs.LayerValues.{layer_kind_from_name, kind_in, backoff_from_name, backoff_in, keys_in, check_layer, check_layers, waits_from, parse_interval, parse_error_test, parse_retry, parse_bulkhead, parse_fallback, parse_layer, requested_layers};
+ghost use Rattle.resil_heads.specs.LayerValues.{kind_in, backoff_in, keys_in, check_layer, check_layers, parse_interval, parse_error_test, parse_retry, parse_bulkhead, parse_fallback, parse_layer, requested_layers};
 
 use crate::document::{check_known, check_required};
 use crate::error::HeadError;
@@ -177,35 +177,15 @@ pub(crate) enum Stage {
     Required,
 }
 
-// The kind that a text names.
-fn layer_kind_from_name(text: &str) -> Option<LayerKind>
-    ensures { result ≡ layer_kind_from_name text.now }
-{
-    match text {
-        "retry" => Some(LayerKind::Retry),
-        "bulkhead" => Some(LayerKind::Bulkhead),
-        "fallback" => Some(LayerKind::Fallback),
-        _ => None,
-    }
-}
-
 // The kind of a layer. Errors: `MissingKey` where it has none, `BadValue` where it is unknown.
 fn kind_in(layer: &Table) -> Result<LayerKind, HeadError>
     ensures { result ≡ kind_in (table_view layer.now) }
 {
-    let kind = required("kind", layer)?.as_str();
-    kind.and_then(layer_kind_from_name)
-        .ok_or(HeadError::BadValue)
-}
-
-// The backoff that a text names.
-fn backoff_from_name(text: &str) -> Option<BackoffKind>
-    ensures { result ≡ backoff_from_name text.now }
-{
-    match text {
-        "fixed" => Some(BackoffKind::Fixed),
-        "exponential" => Some(BackoffKind::Exponential),
-        _ => None,
+    match required("kind", layer)?.as_str() {
+        Some("retry") => Ok(LayerKind::Retry),
+        Some("bulkhead") => Ok(LayerKind::Bulkhead),
+        Some("fallback") => Ok(LayerKind::Fallback),
+        _ => Err(HeadError::BadValue),
     }
 }
 
@@ -213,12 +193,13 @@ fn backoff_from_name(text: &str) -> Option<BackoffKind>
 fn backoff_in(layer: &Table) -> Result<BackoffKind, HeadError>
     ensures { result ≡ backoff_in (table_view layer.now) }
 {
-    match value_at("backoff", layer) {
-        Some(value) => value
-            .as_str()
-            .and_then(backoff_from_name)
-            .ok_or(HeadError::BadValue),
-        None => Ok(BackoffKind::Fixed),
+    let Some(value) = value_at("backoff", layer) else {
+        return Ok(BackoffKind::Fixed);
+    };
+    match value.as_str() {
+        Some("fixed") => Ok(BackoffKind::Fixed),
+        Some("exponential") => Ok(BackoffKind::Exponential),
+        _ => Err(HeadError::BadValue),
     }
 }
 
@@ -258,11 +239,12 @@ fn check_layers(stage: Stage, layers: &[&Table]) -> Result<(), HeadError>
     Ok(())
 }
 
-// The waits from the first one on. Errors: `BadValue`.
+// The waits of a retry of this backoff. Errors: `BadValue`.
 #[tactic(auto, unfolding(crate::specs::LayerValues::waits_from))]
-fn waits_from(backoff: BackoffKind, layer: &Table, initial: u64) -> Result<IntervalSpec, HeadError>
-    ensures { result ≡ waits_from backoff (table_view layer.now) initial }
+fn parse_interval(backoff: BackoffKind, layer: &Table) -> Result<IntervalSpec, HeadError>
+    ensures { result ≡ parse_interval backoff (table_view layer.now) }
 {
+    let initial = wait_at("interval", DEFAULT_INTERVAL, layer)?;
     match backoff {
         BackoffKind::Fixed => Ok(IntervalSpec::Fixed(initial)),
         BackoffKind::Exponential => {
@@ -276,17 +258,6 @@ fn waits_from(backoff: BackoffKind, layer: &Table, initial: u64) -> Result<Inter
             })
         }
     }
-}
-
-// The waits of a retry of this backoff. Errors: `BadValue`.
-fn parse_interval(backoff: BackoffKind, layer: &Table) -> Result<IntervalSpec, HeadError>
-    ensures { result ≡ parse_interval backoff (table_view layer.now) }
-{
-    waits_from(
-        backoff,
-        layer,
-        wait_at("interval", DEFAULT_INTERVAL, layer)?,
-    )
 }
 
 // The kinds of error that a layer acts on: those at the key that lists them, but none that is
