@@ -5,7 +5,7 @@
 //! A text is read in steps, in this order: `read_text`, `read_configurations`, `read_tables`, and
 //! `parse_bulkhead` for each table. Who takes them makes the bulkheads.
 
-ghost use Rattle.std.specs.Prelude.{◌≡◌, true, Ok, Some, map, IfOk};
+ghost use Rattle.std.specs.Prelude.{◌≡◌, Ok, Some, map, IfOk};
 ghost use Rattle.toml.specs.Parse.{parse_document};
 ghost use Rattle.toml.specs.View.{table_view};
 ghost use Rattle.resil_heads.specs.Bulkheads.{parse_configurations, bulkhead_tables, parse_bulkhead};

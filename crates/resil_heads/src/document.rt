@@ -8,7 +8,7 @@
 ghost use Rattle.std.specs.Prelude.{◌≡◌, map};
 ghost use Rattle.toml.specs.View.{table_view};
 ghost use Rattle.toml.specs.Errors.{IsBlank};
-ghost use Rattle.resil_heads.specs.Document.{name_of, keys_of, required_of, document_of, is_known, has_needed, check_known, check_required, check_keys};
+ghost use Rattle.resil_heads.specs.Document.{name_of, keys_of, document_of, is_known, has_needed, check_known, check_required, check_keys};
 ghost use Rattle.resil_heads.specs.Checks.{GivesBy};
 
 use crate::error::HeadError;

@@ -4,19 +4,17 @@ use Rattle.std.specs.List.{All}
 use Rattle.std.specs.Fmt.{decimal}
 use Rattle.csv.specs.Reading.{strip_bom}
 use Rattle.resil_rule.specs.declared.event.Id.{Id}
-use Rattle.resil_rule.specs.declared.event.Reply.{Reply}
-use Rattle.resil_rule.specs.declared.event.Reply.TheVariants.{Core}
 use Rattle.resil_rule.specs.declared.event.Event.{Event}
 use Rattle.resil_rule.specs.declared.event.Event.TheVariants.{Resized}
 use Rattle.resil_replay.specs.Id.{parse_id}
 use Rattle.resil_replay.specs.Sizes.{parse_sizes}
-use Rattle.resil_replay.specs.Events.{parse_event, parse_reply, HistoriesRoundTrip}
+use Rattle.resil_replay.specs.Events.{parse_event, HistoriesRoundTrip}
 use Rattle.resil_replay.specs.declared.history.Version.{Version}
 use Rattle.resil_replay.specs.declared.history.Version.TheVariants.{One, Two}
-use Rattle.resil_replay.specs.History.{FitsEvent, FitsId, record_fields, reply_name, history_header, history_text}
+use Rattle.resil_replay.specs.History.{FitsEvent, FitsId, record_fields, history_header, history_text}
 use Rattle.resil_input.specs.CsvRows.{IsBody, ParseAs, records_of, row_under}
 use Rattle.resil_input.proofs.NumberLaws.{below-round_trip, from_zero-round_trip}
-use Rattle.resil_replay.proofs.HistoryLaws.{text-records}
+use Rattle.resil_replay.proofs.HistoryLaws.{reply-read, text-records}
 use Rattle.resil_replay.proofs.VersionLaws.{versions-unique}
 
 id-read : (id : Id) → FitsId 1 id → parse_id (decimal id.caller) (decimal id.number) ≡ Some id
@@ -27,10 +25,6 @@ id-read id fits =
 
 sizes-read : (core max : ℕ) → core < 2 ^ 32 → max < 2 ^ 32 → parse_sizes (decimal core) (decimal max) ≡ Some (core, max)
 sizes-read core max low low' = rw (from_zero-round_trip (2 ^ 32) core (omega arith) low, from_zero-round_trip (2 ^ 32) max (omega arith) low') refl
-
-reply-read : (reply : Reply) → parse_reply (reply_name reply) ≡ Some reply
-reply-read Core = refl
-reply-read reply = refl
 
 event-read : (version : Version) (event : Event) → FitsEvent 1 version event → row_under (history_header version) parse_event (record_fields version event) ≡ Some event
 event-read One (Resized core max) named = absurd named

@@ -1,5 +1,5 @@
 -- No two histories have the same text.
-use Rattle.std.proofs.Common.{codes, get_or, sum, zero, suc, map, take, ◌≡◌, ◌<◌, ◌∷◌, ◌++◌, ◌∙◌, [], ℕ, List, length, refl, sym, ap, arith}
+use Rattle.std.proofs.Common.{Some, codes, get_or, zero, suc, map, take, ◌≡◌, ◌<◌, ◌∷◌, ◌++◌, ◌∙◌, [], ℕ, List, length, refl, sym, ap, arith}
 use Rattle.std.specs.List.{All, flat_map}
 use Rattle.std.specs.Fmt.{decimal}
 use Rattle.std.proofs.lemmas.Fmt.{decimal_injective}
@@ -8,10 +8,11 @@ use Rattle.csv.specs.Reading.{default_config, records_from}
 use Rattle.csv.specs.declared.parser.State.TheVariants as st
 use Rattle.resil_rule.specs.declared.event.Id.{Id}
 use Rattle.resil_rule.specs.declared.event.Reply.{Reply}
-use Rattle.resil_rule.specs.declared.event.Reply.TheVariants.{Core, Queued, Extra, Full, Closed}
+use Rattle.resil_rule.specs.declared.event.Reply.TheVariants.{Core}
 use Rattle.resil_rule.specs.declared.event.Event.{Event}
 use Rattle.resil_rule.specs.declared.event.Event.TheVariants.{Submit, Take, Finish, IdleEnd, Close, Resized}
 use Rattle.resil_input.specs.CsvTable.{ArePlain, IsPlain, record_text}
+use Rattle.resil_replay.specs.Events.{parse_reply}
 use Rattle.resil_replay.specs.declared.history.Version.{Version}
 use Rattle.resil_replay.specs.declared.history.Version.TheVariants.{One, Two}
 use Rattle.resil_replay.specs.History.{FitsEvent, FitsId, HistoryTextInjective, history_text, columns_of, event_fields, history_header, job_fields, record_fields, reply_name}
@@ -19,15 +20,15 @@ use Rattle.resil_input.proofs.PlainLaws.{IsPlain_number}
 use Rattle.resil_input.proofs.RecordLaws.{records_from-end, records_from-next}
 use Rattle.resil_input.proofs.TableLaws.{ArePlain-take, record-read}
 
-IsPlain-reply_name : (reply : Reply) → IsPlain (reply_name reply)
-IsPlain-reply_name Core = refl
-IsPlain-reply_name reply = refl
+pub IsPlain_reply_name : (reply : Reply) → IsPlain (reply_name reply)
+IsPlain_reply_name Core = refl
+IsPlain_reply_name reply = refl
 
 ArePlain-job_fields : (name : List ℕ) (id : Id) (reply : List ℕ) → IsPlain name → IsPlain reply → ArePlain (job_fields name id reply)
 ArePlain-job_fields name id reply plain plain' = rw (plain, IsPlain_number id.caller, IsPlain_number id.number, plain') refl
 
 ArePlain-event_fields : (event : Event) → ArePlain (event_fields event)
-ArePlain-event_fields (Submit id reply) = ArePlain-job_fields (codes "submit") id (reply_name reply) refl (IsPlain-reply_name reply)
+ArePlain-event_fields (Submit id reply) = ArePlain-job_fields (codes "submit") id (reply_name reply) refl (IsPlain_reply_name reply)
 ArePlain-event_fields (Take id) = ArePlain-job_fields (codes "take") id [] refl refl
 ArePlain-event_fields (Finish id) = ArePlain-job_fields (codes "finish") id [] refl refl
 ArePlain-event_fields IdleEnd = refl
@@ -43,13 +44,13 @@ several-record_fields One (Submit id reply) = omega arith
 several-record_fields Two (Submit id reply) = omega arith
 several-record_fields version event = omega arith
 
+-- a reply is read from its name
+pub reply-read : (reply : Reply) → parse_reply (reply_name reply) ≡ Some reply
+reply-read Core = refl
+reply-read reply = refl
+
 same-reply : (one other : Reply) → reply_name one ≡ reply_name other → one ≡ other
-same-reply Core Core e = refl
-same-reply Queued Queued e = refl
-same-reply Extra Extra e = refl
-same-reply Full Full e = refl
-same-reply Closed Closed e = refl
-same-reply one other e = absurd (omega (arith, ap sum e))
+same-reply one other e = let same : Some one ≡ Some other = sym (reply-read one) ∙ ap parse_reply e ∙ reply-read other in cc
 
 same-id : (one other : Id) → FitsId 0 one → FitsId 0 other → decimal one.caller ≡ decimal other.caller → decimal one.number ≡ decimal other.number → one ≡ other
 same-id one other fits fits' callers numbers =

@@ -1,5 +1,5 @@
 -- Rows and the events that they write, one after the other.
-use Rattle.std.proofs.Common.{◌≡◌, ◌<◌, ◌≤◌, ◌+◌, ◌∷◌, [], ◌++◌, ◌∙◌, ℕ, suc, Bool, true, false, ◌||◌, List, length, map, refl, sym, ap, subst, arith, take, drop, drop-cons, get_or, append-nil, IsTrue, inl, inr}
+use Rattle.std.proofs.Common.{◌≡◌, ◌<◌, ◌≤◌, ◌+◌, ◌∷◌, [], ◌++◌, ◌∙◌, ℕ, suc, Bool, true, false, ◌||◌, List, length, map, refl, sym, ap, arith, take, drop, drop-cons, get_or, append-nil, IsTrue, inl, inr}
 use Rattle.std.specs.Bool.{OnTrue, OnFalse}
 use Rattle.std.specs.List.{list_any}
 use Rattle.std.proofs.lemmas.Bool.{true_from_ne_false}
@@ -57,10 +57,6 @@ module _ (limits : Sizes) (rows : List ReplayRow) (m n : MachineView) (played : 
         history = (played.history.0, played.history.1 ∙ rw (drop_repeated_closings-push false rows row.Close, any, append-nil) refl);
         closed = closed ∙ sym (list_any-append is_closing rows (row.Close ∷ []) ∙ rw any refl);
       })
-
--- a pool on which rows were carried out, by its own limits
-pub replayed-own : (limits : Sizes) (rows : List ReplayRow) (m : MachineView) → HasReplayed limits rows m → HasReplayed m.limits rows m
-replayed-own limits rows m played = subst (λ (l : Sizes). HasReplayed l rows m) (sym played.same_limits) played
 
 -- a closing
 pub closing-played : (m n : MachineView) (closes : Bool) → (IsTrue closes → is_closed m.history ≡ false) → (is_closed m.history ≡ false → IsTrue closes)

@@ -1,15 +1,10 @@
 -- The jobs that are out in the pool of a replay: those that were picked and haven't finished.
-use Rattle.std.specs.Prelude.{◌≡◌, ◌++◌, ◌∷◌, [], pos, true, List, length, map}
-use Rattle.resil_retry.specs.declared.outcome.Outcome.TheVariants.{Value}
+use Rattle.std.specs.Prelude.{◌≡◌, ◌++◌, ◌∷◌, true, List, length, map}
 use Rattle.resil_decor.specs.Plan.{PlanView}
 use Rattle.resil_rule.specs.History.{started, running, is_among}
 use Rattle.resil_admission.specs.MachineInvariant.{HavePlans}
 use Rattle.resil_admission.specs.MachineView.{MachineView}
 use Rattle.resil_rule.specs.declared.event.Id.{Id}
-
--- the plan of each job of a replay: no layers, and a function that gives the value 0
-abbrev pub plain_plan : PlanView
-plain_plan = record { layers = []; script = Value (pos 0) ∷ [] }
 
 -- the ids of the jobs that are out
 abbrev pub ids_in_flight : List (Id × PlanView) → List Id

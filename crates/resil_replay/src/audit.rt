@@ -3,8 +3,6 @@
 //! An illegal history is no refusal: the verdict names its first illegal event.
 
 ghost use Rattle.std.specs.Prelude.{◌≡◌, IfOk, MatchResult};
-ghost use Rattle.resil_rule.specs.Verdict.{IsVerdict};
-ghost use Rattle.resil_rule.specs.declared.verdict.Verdict.{Verdict};
 ghost use Rattle.resil_replay.specs.Audit.{IsAuditText, IsAuditRefusal, verdict_text};
 ghost use Rattle.resil_heads.specs.CommandError.{IsError};
 
@@ -27,15 +25,10 @@ pub fn text(alloc: Global, input: &[u8]) -> Result<Vec<u8>, CommandError>
     let (head, body) = split_input(input).ok_or(Refusal::NoBody)?;
     let limits = read_head(alloc, head)?;
     let history = read_rows(alloc, body)?;
-    text_of(alloc, &limits, &history)
-}
-
-// The text of the verdict on a history. Errors: `Memory`.
-fn text_of(alloc: Global, limits: &Limits, history: &[Event]) -> Result<Vec<u8>, CommandError>
-    ensures { MatchResult result (λ text. (verdict : Verdict) × IsVerdict limits.now history.now verdict × (text.items ≡ verdict_text verdict)) (λ error. error ≡ CommandError.Memory) }
-{
     // The only error of an audit is that memory runs out.
-    let verdict = resil_rule::audit(alloc, limits, history).map_err(|_| CommandError::Memory)?;
+    let Ok(verdict) = resil_rule::audit(alloc, &limits, &history) else {
+        return Err(CommandError::Memory);
+    };
     Ok(verdict_text(alloc, verdict)?)
 }
 

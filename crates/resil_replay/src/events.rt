@@ -7,7 +7,7 @@
 
 ghost use Rattle.std.specs.Prelude.{◌≡◌, MatchResult};
 ghost use Rattle.csv.specs.Records.{fields_of};
-ghost use Rattle.resil_replay.specs.Events.{parse_reply, parse_unanswered_event, parse_unsized_event, parse_event, IsAuditBody, IsAuditBodyError, HistoriesRoundTrip};
+ghost use Rattle.resil_replay.specs.Events.{parse_reply, parse_event, IsAuditBody, IsAuditBodyError, HistoriesRoundTrip};
 ghost use Rattle.resil_replay.specs.Versions.{VersionsUnique, VersionsExcludeErrors, VersionErrorsUnique};
 ghost use Rattle.resil_replay.specs.History.{history_header};
 
@@ -102,33 +102,15 @@ fn parse_event(fields: &ByteRecord) -> Option<Event>
     if is_text(event, "resize") && caller.is_empty() && number.is_empty() && reply.is_empty() {
         let (core, max) = parse_sizes(core, max)?;
         Some(Event::Resized { core, max })
-    } else if core.is_empty() && max.is_empty() {
-        parse_unsized_event(event, caller, number, reply)
-    } else {
+    } else if !core.is_empty() || !max.is_empty() {
         None
-    }
-}
-
-// Reads an event without sizes from four fields. Those that it doesn't use must be empty.
-fn parse_unsized_event(event: &[u8], caller: &[u8], number: &[u8], reply: &[u8]) -> Option<Event>
-    ensures { result ≡ parse_unsized_event event.now caller.now number.now reply.now }
-{
-    if is_text(event, "submit") {
+    } else if is_text(event, "submit") {
         let id = parse_id(caller, number)?;
         let reply = parse_reply(reply)?;
         Some(Event::Submit { id, reply })
-    } else if reply.is_empty() {
-        parse_unanswered_event(event, caller, number)
-    } else {
+    } else if !reply.is_empty() {
         None
-    }
-}
-
-// Reads an event without a reply from three fields. One that names no job has empty fields in its place.
-fn parse_unanswered_event(event: &[u8], caller: &[u8], number: &[u8]) -> Option<Event>
-    ensures { result ≡ parse_unanswered_event event.now caller.now number.now }
-{
-    if is_text(event, "take") {
+    } else if is_text(event, "take") {
         parse_id(caller, number).map(Event::Take)
     } else if is_text(event, "finish") {
         parse_id(caller, number).map(Event::Finish)

@@ -4,13 +4,11 @@
 //! `specs/Head.antt` defines the stages as one chain of cases.
 
 ghost use Rattle.std.specs.Prelude.{◌≡◌, IfOk, IsOkAnd};
-ghost use Rattle.toml.specs.View.{table_view};
 ghost use Rattle.toml.specs.Errors.{IsBlank};
 ghost use Rattle.resil_rule.specs.Limits.{AreLimits, IsSizeRefusal};
 ghost use Rattle.resil_rule.specs.declared.error.AdmitError.{AdmitError};
-ghost use Rattle.resil_heads.specs.Sizes.{build_limits, parse_limits};
-ghost use Rattle.resil_replay.specs.Head.{requested_sizes, requested_sizes_of, pool_head_of};
-ghost use Rattle.resil_heads.specs.Checks.{and_then, Gives};
+ghost use Rattle.resil_replay.specs.Head.{requested_sizes_of, pool_head_of};
+ghost use Rattle.resil_heads.specs.Checks.{Gives};
 
 use resil_admission::Limits;
 use resil_heads::HeadError;
@@ -18,23 +16,9 @@ use resil_heads::document::{check_keys, read_document};
 use resil_heads::forms::Key;
 use resil_heads::sizes::{CORE, MAX, QUEUE, parse_limits};
 use std::alloc::Global;
-use toml::Table;
 
 /// The keys of a pool's head.
 pub const POOL_KEYS: &[Key] = &[CORE, MAX, QUEUE];
-
-// The limits that the table of a pool's head gives. It takes no memory.
-// Errors: `UnknownKey`, `MissingKey`, `BadValue`, `Limits`.
-#[tactic(auto, unfolding(resil_heads::specs::Sizes::parse_limits))]
-fn pool_limits(table: &Table) -> Result<Limits, HeadError>
-    ensures answer { result ≡ and_then (requested_sizes (table_view table.now)) build_limits }
-    ensures in_range { IfOk result AreLimits }
-    ensures refused_sizes { (why : AdmitError) → result ≡ Err (HeadError.Limits why)
-        → IsOkAnd (requested_sizes (table_view table.now)) (λ sizes. IsSizeRefusal sizes why) }
-{
-    check_keys(POOL_KEYS, table)?;
-    parse_limits(table)
-}
 
 /// The limits that a pool's head gives. Its keys are `core` and `max` (workers, both required) and
 /// `queue` (jobs, 100 where it is absent), each an integer from 0 to 4,294,967,295.
@@ -43,6 +27,7 @@ fn pool_limits(table: &Table) -> Result<Limits, HeadError>
 ///
 /// The first in this order: `BadToml`; `UnknownKey`; `MissingKey`; `BadValue`; `Limits` where the
 /// pool refuses the sizes. `Memory` may come at any stage.
+#[tactic(auto, unfolding(resil_heads::specs::Sizes::parse_limits))]
 pub fn read_head(alloc: Global, bytes: &[u8]) -> Result<Limits, HeadError>
     ensures answer { Gives result (pool_head_of bytes.now) }
     ensures in_range { IfOk result AreLimits }
@@ -55,5 +40,6 @@ pub fn read_head(alloc: Global, bytes: &[u8]) -> Result<Limits, HeadError>
     ensures memory { result ≡ Err HeadError.Memory → ¬ IsBlank bytes.now }
 {
     let table = read_document(alloc, bytes)?;
-    pool_limits(&table)
+    check_keys(POOL_KEYS, &table)?;
+    parse_limits(&table)
 }

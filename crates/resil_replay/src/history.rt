@@ -5,8 +5,8 @@
 //! two histories of such events have the same text, and a text that was written can be read back.
 
 ghost use Rattle.std.specs.Prelude.{◌≡◌, ◌++◌, ◌<◌, codes, length, map, take, IfOk, OnOk};
-ghost use Rattle.resil_input.specs.CsvTable.{ArePlain, HasColumns, IsPlain, record_text, text_so_far};
-ghost use Rattle.resil_replay.specs.History.{HistoryTextInjective, columns_of, event_fields, example_history, history_text, job_fields, record_fields, reply_name, resized_history};
+ghost use Rattle.resil_input.specs.CsvTable.{ArePlain, HasColumns, record_text, text_so_far};
+ghost use Rattle.resil_replay.specs.History.{HistoryTextInjective, columns_of, example_history, history_text, record_fields, reply_name, resized_history};
 
 use itoa::Buffer;
 use resil_admission::{Event, Id, Reply};
@@ -58,62 +58,43 @@ fn push_fields(table: &mut CsvTable, version: Version, fields: &[&[u8]]) -> Resu
     table.push(&fields[..version.columns()])
 }
 
-// Writes the record of an event that names a job. Errors: `AllocError` where memory runs out.
-#[tactic(auto, using(resil_input::proofs::PlainLaws::IsPlain_number))]
-fn push_job(
-    table: &mut CsvTable,
-    version: Version,
-    name: &[u8],
-    id: Id,
-    reply: &[u8],
-) -> Result<(), AllocError>
-    requires columns { HasColumns table.old (columns_of version) }
-    requires plain_name { IsPlain name.now }
-    requires plain_reply { IsPlain reply.now }
-    ensures columns { OnOk result (HasColumns table.new (columns_of version)) }
-    ensures text { OnOk result (text_so_far table.new ≡ text_so_far table.old ++ record_text (take (columns_of version) (job_fields name.now id reply.now))) }
-{
-    let mut caller_digits = Buffer::new();
-    let mut number_digits = Buffer::new();
-    let caller = caller_digits.format(id.caller).as_bytes();
-    let number = number_digits.format(id.number).as_bytes();
-    push_fields(table, version, &[name, caller, number, reply, b"", b""])
-}
-
-// Writes the record of a resize. Errors: `AllocError` where memory runs out.
-#[tactic(auto, using(resil_input::proofs::PlainLaws::IsPlain_number))]
-fn push_resize(
-    table: &mut CsvTable,
-    version: Version,
-    core: u32,
-    max: u32,
-) -> Result<(), AllocError>
-    requires { HasColumns table.old (columns_of version) }
-    ensures columns { OnOk result (HasColumns table.new (columns_of version)) }
-    ensures text { OnOk result (text_so_far table.new ≡ text_so_far table.old ++ record_text (record_fields version (Event.Resized core max))) }
-{
-    let mut core_digits = Buffer::new();
-    let mut max_digits = Buffer::new();
-    let core = core_digits.format(core).as_bytes();
-    let max = max_digits.format(max).as_bytes();
-    push_fields(table, version, &[b"resize", b"", b"", b"", core, max])
-}
-
 // Writes the record of an event. Errors: `AllocError` where memory runs out.
+#[tactic(auto, using(resil_input::proofs::PlainLaws::IsPlain_number, crate::proofs::HistoryLaws::IsPlain_reply_name))]
 fn push_event(table: &mut CsvTable, version: Version, event: Event) -> Result<(), AllocError>
     requires { HasColumns table.old (columns_of version) }
     ensures columns { OnOk result (HasColumns table.new (columns_of version)) }
     ensures text { OnOk result (text_so_far table.new ≡ text_so_far table.old ++ record_text (record_fields version event)) }
 {
+    let mut one = Buffer::new();
+    let mut other = Buffer::new();
     match event {
         Event::Submit { id, reply } => {
-            push_job(table, version, b"submit", id, reply_name(reply))
+            let caller = one.format(id.caller).as_bytes();
+            let number = other.format(id.number).as_bytes();
+            let reply = reply_name(reply);
+            push_fields(
+                table,
+                version,
+                &[b"submit", caller, number, reply, b"", b""],
+            )
         }
-        Event::Take(id) => push_job(table, version, b"take", id, b""),
-        Event::Finish(id) => push_job(table, version, b"finish", id, b""),
+        Event::Take(id) => {
+            let caller = one.format(id.caller).as_bytes();
+            let number = other.format(id.number).as_bytes();
+            push_fields(table, version, &[b"take", caller, number, b"", b"", b""])
+        }
+        Event::Finish(id) => {
+            let caller = one.format(id.caller).as_bytes();
+            let number = other.format(id.number).as_bytes();
+            push_fields(table, version, &[b"finish", caller, number, b"", b"", b""])
+        }
         Event::IdleEnd => push_fields(table, version, &[b"idle", b"", b"", b"", b"", b""]),
         Event::Close => push_fields(table, version, &[b"close", b"", b"", b"", b"", b""]),
-        Event::Resized { core, max } => push_resize(table, version, core, max),
+        Event::Resized { core, max } => {
+            let core = one.format(core).as_bytes();
+            let max = other.format(max).as_bytes();
+            push_fields(table, version, &[b"resize", b"", b"", b"", core, max])
+        }
     }
 }
 

@@ -10,7 +10,6 @@ pub mod events;
 pub mod head;
 pub mod history;
 mod id;
-mod plain_jobs;
 pub mod play;
 mod pool;
 pub mod replay;

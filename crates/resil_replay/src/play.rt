@@ -3,10 +3,10 @@
 //! After each row the pool has the history of the rows so far: the legal one with their events. The
 //! first row that the pool refuses ends the replay.
 
-ghost use Rattle.std.specs.Prelude.{◌≡◌, [], List, MatchResult, IfErr, OnOk};
+ghost use Rattle.std.specs.Prelude.{◌≡◌, List, MatchResult, IfErr, OnOk};
 ghost use Rattle.resil_rule.specs.Limits.{Sizes};
 ghost use Rattle.resil_replay.specs.Play.{IsHistoryOf, IsReplayError, IsRowError, error_at_row};
-ghost use Rattle.resil_replay.specs.State.{HasReplayed, IsCarriedOut};
+ghost use Rattle.resil_replay.specs.State.{IsCarriedOut};
 ghost use Rattle.resil_replay.specs.declared.rows.ReplayRow.{ReplayRow};
 ghost use Rattle.resil_rule.specs.declared.event.Event.{Event};
 
@@ -57,19 +57,6 @@ fn error_at_row(position: usize, why: RowError) -> ReplayError
     }
 }
 
-// Carries out all rows on a pool on which none was carried out yet. Errors: as for `play`.
-fn apply_rows(alloc: Global, pool: &mut ReplayPool, rows: &[ReplayRow]) -> Result<(), ReplayError>
-    requires { HasReplayed pool.old.limits [] pool.old }
-    ensures { MatchResult result (λ _. HasReplayed pool.old.limits rows.now pool.new) (IsReplayError pool.old.limits rows.now) }
-{
-    for (index, row) in rows.iter().enumerate() {
-        if let Err(why) = apply_row(alloc, pool, *row) {
-            return Err(error_at_row(index + 1, why));
-        }
-    }
-    Ok(())
-}
-
 /// Carries out all rows on a new pool of these limits, and answers its machine.
 ///
 /// # Errors
@@ -79,24 +66,15 @@ fn apply_rows(alloc: Global, pool: &mut ReplayPool, rows: &[ReplayRow]) -> Resul
 pub fn play(alloc: Global, limits: Limits, rows: &[ReplayRow]) -> Result<Machine, ReplayError>
     ensures { MatchResult result (λ m. (m.limits ≡ limits) × IsHistoryOf limits rows.now m.history) (IsReplayError limits rows.now) }
 {
-    match ReplayPool::new(alloc, limits) {
-        Ok(pool) => play_on(alloc, pool, rows),
-        Err(_) => Err(ReplayError::Memory),
+    let Ok(mut pool) = ReplayPool::new(alloc, limits) else {
+        return Err(ReplayError::Memory);
+    };
+    for (index, row) in rows.iter().enumerate() {
+        if let Err(why) = apply_row(alloc, &mut pool, *row) {
+            return Err(error_at_row(index + 1, why));
+        }
     }
-}
-
-// The machine of a pool on which no row was carried out yet, once all are. Errors: as for `play`.
-fn play_on(alloc: Global, mut pool: ReplayPool, rows: &[ReplayRow]) -> Result<Machine, ReplayError>
-    requires { HasReplayed pool.limits [] pool }
-    ensures { MatchResult result (λ m. (m.limits ≡ pool.limits) × IsHistoryOf pool.limits rows.now m.history) (IsReplayError pool.limits rows.now) }
-{
-    let played = apply_rows(alloc, &mut pool, rows);
-    // The pool is taken apart in any case, so that it isn't dropped on one way out alone.
-    let machine = pool.into_machine();
-    match played {
-        Ok(()) => Ok(machine),
-        Err(why) => Err(why),
-    }
+    Ok(pool.into_machine())
 }
 
 /// The law of replays: rows determine their history.

@@ -6,20 +6,18 @@
 //! under its id. Room for a job is reserved before the machine is asked, so a refused row leaves
 //! all as it was.
 
-ghost use Rattle.std.specs.Prelude.{◌≡◌, ◌∷◌, [], false, IfOk, IfErr, IfSome, OnOk, IfNone, position, if◌then◌else◌};
-ghost use Rattle.resil_rule.specs.History.{started, is_among, is_same_id};
-ghost use Rattle.resil_rule.specs.declared.event.Event.{Event};
-ghost use Rattle.resil_rule.specs.declared.event.Id.{Id};
+ghost use Rattle.std.specs.Prelude.{◌≡◌, [], false, IfOk, IfErr, IfSome, OnOk, IfNone, position};
+ghost use Rattle.resil_rule.specs.History.{is_among, is_same_id};
 ghost use Rattle.resil_replay.specs.Play.{IsRowError};
 ghost use Rattle.resil_replay.specs.State.{HasReplayed, IsCarriedOut};
 ghost use Rattle.resil_replay.specs.Pool.{ids_in_flight, IsRemoved};
 ghost use Rattle.resil_replay.specs.declared.rows.ReplayRow.{ReplayRow};
 
-use crate::plain_jobs::PlainJobs;
 use crate::rows::ReplayRow;
 use resil_admission::{AdmitError, Id, Limits, Machine, Reply};
-use resil_decor::{Job, Listed};
+use resil_decor::{Chain, Job, Listed, Plan};
 use resil_heads::RowRefusal;
+use resil_retry::{Outcome, Script};
 use std::alloc::{AllocError, Global};
 use std::marker::Model;
 
@@ -32,13 +30,13 @@ pub(crate) enum RowError {
     Refused(RowRefusal),
 }
 
-/// A machine, the jobs that were picked and haven't finished, what makes the jobs, and a permitter that
-/// grants nothing, for jobs that have no bulkheads.
+/// A machine, the jobs that were picked and haven't finished, the job that all share their plan with, which is never run, and
+/// a permitter that grants nothing, for jobs that have no bulkheads.
 #[derive(Drop)]
 pub(crate) struct ReplayPool {
     machine: Machine,
     out: Vec<(Id, Job)>,
-    jobs: PlainJobs,
+    first: Job,
     no_bulkheads: Listed,
 }
 
@@ -55,7 +53,7 @@ impl Model for ReplayPool {
 }
 
 impl ReplayPool {
-    /// A new pool of these limits.
+    /// A new pool of these limits. Its jobs have no layers, and a function that gives the value 0.
     ///
     /// # Errors
     ///
@@ -63,19 +61,15 @@ impl ReplayPool {
     pub(crate) fn new(alloc: Global, limits: Limits) -> Result<ReplayPool, AllocError>
         ensures { IfOk result (HasReplayed limits []) }
     {
-        let Ok(jobs) = PlainJobs::new(alloc) else {
-            return Err(AllocError);
-        };
-        let Ok(no_bulkheads) = Listed::new(alloc, Vec::new(alloc)) else {
-            return Err(AllocError);
-        };
-        let Ok(machine) = Machine::new(alloc, limits) else {
-            return Err(AllocError);
-        };
+        let chain = Chain::new(Vec::new(alloc)).map_err(|_| AllocError)?;
+        let plan = Plan::new(chain, Script::one(Outcome::Value(0)));
+        let first = Job::new(alloc, plan).map_err(|_| AllocError)?;
+        let no_bulkheads = Listed::new(alloc, Vec::new(alloc)).map_err(|_| AllocError)?;
+        let machine = Machine::new(alloc, limits).map_err(|_| AllocError)?;
         Ok(ReplayPool {
             machine,
             out: Vec::new(alloc),
-            jobs,
+            first,
             no_bulkheads,
         })
     }
@@ -93,17 +87,16 @@ impl ReplayPool {
         if self.out.reserve(1).is_err() {
             return Err(RowError::Memory);
         }
-        let Ok(job) = self.jobs.job(alloc) else {
+        let Ok(job) = self.first.again(alloc) else {
             return Err(RowError::Memory);
         };
         match self.machine.submit(alloc, id, job) {
-            Ok(reply) => {
-                if starts_worker(reply) {
-                    let picked = self.machine.pick().unwrap();
-                    self.out.push_reserved(picked);
-                }
+            Ok(Reply::Core | Reply::Extra) => {
+                let picked = self.machine.pick().unwrap();
+                self.out.push_reserved(picked);
                 Ok(())
             }
+            Ok(Reply::Queued | Reply::Full | Reply::Closed) => Ok(()),
             Err((AdmitError::WrongNumber, _)) => Err(RowError::Refused(RowRefusal::WrongNumber)),
             Err(_) => Err(RowError::Memory),
         }
@@ -197,20 +190,10 @@ impl ReplayPool {
         let ReplayPool {
             machine,
             out: _,
-            jobs: _,
+            first: _,
             no_bulkheads: _,
         } = self;
         machine
-    }
-}
-
-// Whether a worker is started for a job that gets this reply.
-fn starts_worker(reply: Reply) -> bool
-    ensures { (id : Id) → started (Event.Submit id reply ∷ []) ≡ (if result then id ∷ [] else []) }
-{
-    match reply {
-        Reply::Core | Reply::Extra => true,
-        Reply::Queued | Reply::Full | Reply::Closed => false,
     }
 }
 

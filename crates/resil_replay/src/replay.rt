@@ -43,8 +43,5 @@ pub fn text(alloc: Global, input: &[u8]) -> Result<Vec<u8>, CommandError>
     let machine = play(alloc, limits, &rows)?;
     // The history says all that the rows did, so the text may have their room.
     drop(rows);
-    match history_text(alloc, version, machine.history()) {
-        Ok(text) => Ok(text),
-        Err(_) => Err(CommandError::Memory),
-    }
+    Ok(history_text(alloc, version, machine.history())?)
 }

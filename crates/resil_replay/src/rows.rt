@@ -7,7 +7,7 @@
 ghost use Rattle.std.specs.Prelude.{◌≡◌, MatchResult};
 ghost use Rattle.csv.specs.Records.{fields_of};
 ghost use Rattle.resil_replay.specs.Versions.{VersionsUnique, VersionsExcludeErrors, VersionErrorsUnique};
-ghost use Rattle.resil_replay.specs.Rows.{replay_rows_header, parse_unsized_row, parse_replay_row, IsReplayBody, IsReplayBodyError};
+ghost use Rattle.resil_replay.specs.Rows.{replay_rows_header, parse_replay_row, IsReplayBody, IsReplayBodyError};
 
 use crate::history::Version;
 use crate::id::{CALLER, NUMBER, parse_id};
@@ -105,18 +105,9 @@ fn parse_replay_row(fields: &ByteRecord) -> Option<ReplayRow>
     if is_text(event, "resize") && caller.is_empty() && number.is_empty() {
         let (core, max) = parse_sizes(core, max)?;
         Some(ReplayRow::Resize { core, max })
-    } else if core.is_empty() && max.is_empty() {
-        parse_unsized_row(event, caller, number)
-    } else {
+    } else if !core.is_empty() || !max.is_empty() {
         None
-    }
-}
-
-// Reads a row without sizes from three fields. One that names no job has empty fields in its place.
-fn parse_unsized_row(event: &[u8], caller: &[u8], number: &[u8]) -> Option<ReplayRow>
-    ensures { result ≡ parse_unsized_row event.now caller.now number.now }
-{
-    if is_text(event, "submit") {
+    } else if is_text(event, "submit") {
         parse_id(caller, number).map(ReplayRow::Submit)
     } else if is_text(event, "finish") {
         parse_id(caller, number).map(ReplayRow::Finish)

@@ -1,13 +1,13 @@
-use Rattle.std.proofs.Common.{◌≡◌, MatchResult, subst}
-use Rattle.resil_rule.specs.Limits.{Sizes}
-use Rattle.resil_admission.specs.MachineView.{MachineView}
-use Rattle.resil_replay.specs.Play.{IsHistoryOf, IsReplayError}
-use Rattle.resil_replay.proofs.PlayLaws.{replayed-own}
+use Rattle.std.proofs.Common.{take}
+use Rattle.resil_replay.proofs.PlayLaws.{row-done, row-played, row-stopped}
 use Rattle.resil_replay.proofs.play.play.Goals as goal
 
-pub play_on-requires : goal.play_on-requires
-play_on-requires c = replayed-own c.args.limits _ c.in-Ok.pool c.in-Ok.ensures
+pub returns-in-Err : goal.returns-in-Err
+returns-in-Err c =
+    rw c.error_at_row.ensures
+    (row-stopped c.args.limits c.args.rows.now c.loop-index.index _ c.loop-index.pool c.loop-index-test.true c.loop-index.invariant c.in-Err.why c.in-Err.ensures.refused)
 
-pub returns-in-Ok : goal.returns-in-Ok
-returns-in-Ok c = subst (λ (l : Sizes). MatchResult c.play_on.result (λ (m : MachineView). (m.limits ≡ l) × IsHistoryOf l c.args.rows.now m.history) (IsReplayError l c.args.rows.now))
-    c.in-Ok.ensures.same_limits c.play_on.ensures
+pub loop-index-preserved : goal.loop-index-preserved
+loop-index-preserved c =
+    row-done c.args.limits c.args.rows.now c.loop-index.index _ c.apply_row.new.pool c.loop-index-test.true
+    (row-played c.args.limits (take c.loop-index.index c.args.rows.now) c.loop-index.pool c.apply_row.new.pool c.loop-index.invariant _ c.in_default-apply_row.ensures.played)
