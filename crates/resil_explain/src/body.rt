@@ -67,18 +67,13 @@ pub(crate) fn read_record(
 
 /// The line of a record that was read in the body of an input: behind the line ends before it.
 pub(crate) fn line_of<'a>(input: &'a [u8], body: &[u8], record: &ByteRecord) -> Line<'a> {
-    let mut start = match record.position() {
-        Some(position) => usize::try_from(position.byte()).unwrap_or(0),
-        None => 0,
-    };
-    for byte in body.iter().skip(start) {
-        if *byte != b'\n' && *byte != b'\r' {
-            break;
-        }
-        start = start.saturating_add(1);
-    }
+    let position = record.position().map_or(0, |position| position.byte());
+    let start = usize::try_from(position).unwrap_or(0);
+    let rest = body.iter().skip(start);
+    let ends = rest.take_while(|byte| matches!(**byte, b'\n' | b'\r'));
     let before = input.len().saturating_sub(body.len());
-    Line::from(input, before.saturating_add(start))
+    let place = before.saturating_add(start);
+    Line::from(input, place.saturating_add(ends.count()))
 }
 
 // The fields that a record uses, by its first field; none where that is no row.

@@ -153,11 +153,6 @@ fn is_bad(form: Form, value: Option<&Value>) -> bool {
     value.is_some_and(|value| !form.has(value))
 }
 
-// Whether a required key isn't in a table.
-fn is_missing(key: Key, table: &Table) -> bool {
-    matches!(key, Key::Required(..)) && table.get(key.name()).is_none()
-}
-
 // The first key of a table that is none of these.
 fn unknown_key<'a>(keys: &'static [Key], table: &'a Table) -> Option<Fault<'a>> {
     let is_known = |name: &str| keys.iter().any(|key| key.name() == name);
@@ -170,7 +165,8 @@ fn fault_in<'a>(keys: &'static [Key], table: &'a Table, name: &str) -> Option<Fa
     match name {
         "UnknownKey" => unknown_key(keys, table),
         "MissingKey" => {
-            let key = keys.iter().find(|key| is_missing(**key, table))?;
+            let mut needed = keys.iter().filter(|key| matches!(**key, Key::Required(..)));
+            let key = needed.find(|key| table.get(key.name()).is_none())?;
             Some(Fault::Missing(*key))
         }
         "BadValue" => {

@@ -55,10 +55,8 @@ impl<'a> Line<'a> {
         ensures number { result.number ≡ count_by (λ byte. byte == 10) (take place input.entry.now) + 1 }
     {
         let before = input.get(..place).unwrap_or(input);
-        let start = match before.iter().rposition(|byte| *byte == b'\n') {
-            Some(end) => end.saturating_add(1),
-            None => 0,
-        };
+        let end = before.iter().rposition(|byte| *byte == b'\n');
+        let start = end.map_or(0, |end| end.saturating_add(1));
         Line {
             number: number_at(input, place),
             text: text_from(input, start),
@@ -76,10 +74,8 @@ impl<'a> fmt::Display for Line<'a> {
 
 // Whether a line gives a value to a key.
 fn gives(line: &[u8], key: &str) -> bool {
-    match line.trim_ascii_start().strip_prefix(key.as_bytes()) {
-        Some(rest) => rest.trim_ascii_start().starts_with(b"="),
-        None => false,
-    }
+    let rest = line.trim_ascii_start().strip_prefix(key.as_bytes());
+    rest.is_some_and(|rest| rest.trim_ascii_start().starts_with(b"="))
 }
 
 /// Where the line of a key begins, of those of a part that begins at this place.

@@ -8,10 +8,8 @@ use toml::Table;
 
 // The text at a key, empty where there is none.
 fn text_at<'a>(layer: &'a Table, key: &str) -> &'a str {
-    match layer.get(key) {
-        Some(value) => value.as_str().unwrap_or(""),
-        None => "",
-    }
+    let text = layer.get(key).and_then(|value| value.as_str());
+    text.unwrap_or("")
 }
 
 /// What a layer is called, with its article, or nothing where its kind isn't known; and which keys it has.
