@@ -82,8 +82,25 @@ impl Job {
         ensures made { IfOk result (λ job. job ≡ self.now) }
         ensures refused { IfErr result (λ error. error ≡ DecorError.Memory) }
     {
-        let log = log_for(alloc, self.plan.plan())?;
-        let plan = self.plan.share()?;
+        Job::sharing(alloc, &self.plan)
+    }
+
+    /// A job of a plan that it shares with its other owners. It takes memory for nothing but what its run writes.
+    ///
+    /// # Errors
+    ///
+    /// `Memory` where memory runs out.
+    ///
+    /// ```
+    /// let plan = job.shared_plan()?;
+    /// let further = Job::sharing(alloc, &plan)?;
+    /// ```
+    pub fn sharing(alloc: Global, plan: &SharedPlan) -> Result<Job, DecorError>
+        ensures made { IfOk result (λ job. job ≡ plan.now) }
+        ensures refused { IfErr result (λ error. error ≡ DecorError.Memory) }
+    {
+        let log = log_for(alloc, plan.plan())?;
+        let plan = plan.share()?;
         Ok(Job { plan, log })
     }
 

@@ -3,7 +3,7 @@
 //! A plan says all that a run depends on but for the answers of bulkheads. It is data that is
 //! copied and compared, so a result can be checked against the plan that was submitted.
 
-ghost use Rattle.std.specs.Prelude.{◌≡◌, ◌↔◌, IsTrue, IfOk, IfErr};
+ghost use Rattle.std.specs.Prelude.{◌≡◌, ◌↔◌, [], IsTrue, IfOk, IfErr};
 ghost use Rattle.resil_decor.specs.ChainLimits.{IsChain, max_calls};
 
 use crate::chain::Chain;
@@ -62,6 +62,18 @@ impl Plan {
         ensures { IsTrue result ↔ (self.now ≡ other.now) }
     {
         self.chain.same(&other.chain) && self.script.same(&other.script)
+    }
+
+    /// Whether both plans have no layers and equal scripts: for a caller that would see at little cost that two plans are the same,
+    /// since layers may name any number of errors.
+    ///
+    /// ```
+    /// let further = first.plan().same_without_layers(&second);
+    /// ```
+    pub fn same_without_layers(&self, other: &Plan) -> bool
+        ensures { IsTrue result ↔ ((self.now.layers ≡ []) × (self.now ≡ other.now)) }
+    {
+        self.layers().is_empty() && other.layers().is_empty() && self.script.same(&other.script)
     }
 
     // The layers, innermost first.
