@@ -6,11 +6,13 @@
 //! workers run side by side. Every thread that is started is joined, and where memory or a thread is refused the
 //! pool is closed first, so that the workers leave.
 //!
-//! `submit` submits the rows, `worker_threads` and `caller_threads` start and join threads, `shared` is what all these threads
-//! share, `run` puts all together, and `error` says why the threads of a batch may not come to their end.
+//! `row_jobs` makes the jobs of the rows, `submit` submits them, `worker_threads` and `caller_threads` start and join threads,
+//! `shared` is what all these threads share, `run` puts all together, and `error` says why the threads of a batch may not come
+//! to their end.
 
 mod caller_threads;
 mod error;
+mod row_jobs;
 mod run;
 mod shared;
 mod submit;

@@ -4,7 +4,8 @@ ghost use Rattle.std.specs.Prelude.{◌≡◌, ◌++◌, ◌∷◌, ◌↔◌, [
 ghost use Rattle.resil_pool.specs.Parts.{IsSameCaller};
 ghost use Rattle.resil_workers.specs.Batch.Submit.{AreCallers, ReceiptsMatchRows, IsFrom, plans_of, plans_on_receipts};
 
-use resil_decor::{Job, Plan};
+use crate::batch::row_jobs::RowJobs;
+use resil_decor::Plan;
 use resil_pool::{Caller, JobRow, Pool, SubmitError};
 use std::alloc::Global;
 use std::sync::Wait;
@@ -24,22 +25,20 @@ pub(crate) fn all_from(rows: &[JobRow], callers: u16) -> bool
         .all(|row| 1 <= row.caller && row.caller <= callers)
 }
 
-// Submits a job with a copy of this plan.
-fn submit_copy<R: Wait>(
+// Submits the job of the next row, which has this plan.
+fn submit_next<R: Wait>(
     rt: &R,
     alloc: Global,
     pool: &Pool,
     caller: &mut Caller,
+    jobs: &mut RowJobs,
     plan: &Plan,
 ) -> Result<(), SubmitError>
     requires { caller.old.source ≡ pool.now.source }
     ensures same { IsSameCaller caller.old caller.new }
     ensures told { OnOk result (plans_on_receipts caller.new ≡ plans_on_receipts caller.old ++ plan.now ∷ []) }
 {
-    let Ok(plan) = plan.copy(alloc) else {
-        return Err(SubmitError::Memory);
-    };
-    let Ok(job) = Job::new(alloc, plan) else {
+    let Ok(job) = jobs.next(alloc, plan) else {
         return Err(SubmitError::Memory);
     };
     match pool.submit(rt, alloc, caller, job) {
@@ -60,11 +59,12 @@ pub(crate) fn submit_own<R: Wait>(
     ensures same { IsSameCaller caller.old caller.new }
     ensures told { OnOk result (plans_on_receipts caller.new ≡ plans_on_receipts caller.old ++ plans_of rows.now caller.old.number) }
 {
+    let mut jobs = RowJobs::new();
     for row in rows {
         if row.caller != caller.number() {
             continue;
         }
-        submit_copy(rt, alloc, pool, caller, &row.plan)?;
+        submit_next(rt, alloc, pool, caller, &mut jobs, &row.plan)?;
     }
     Ok(())
 }
@@ -84,9 +84,10 @@ pub(crate) fn submit_in_order<R: Wait>(
     ensures callers { AreCallers pool.now.source callers.new.items }
     ensures told { OnOk result (ReceiptsMatchRows rows.now callers.new.items) }
 {
+    let mut jobs = RowJobs::new();
     for row in rows {
         let caller = &mut callers[usize::from(row.caller) - 1];
-        submit_copy(rt, alloc, pool, caller, &row.plan)?;
+        submit_next(rt, alloc, pool, caller, &mut jobs, &row.plan)?;
     }
     Ok(())
 }
