@@ -1,53 +1,19 @@
 -- How many jobs of a legal history run, and how many were never started.
-use Rattle.std.proofs.Common.{◌≡◌, ◌≤◌, ◌<◌, ◌+◌, ◌-◌, ◌^◌, ◌∷◌, [], ◌++◌, ◌∙◌, ℕ, zero, suc, true, false, not, cond, List, length, filter, take, append-nil, append_assoc, refl, ap, arith, length-append, length-drop}
+use Rattle.std.proofs.Common.{◌≡◌, ◌≤◌, ◌<◌, ◌+◌, ◌-◌, ◌^◌, ◌∷◌, [], ◌++◌, ◌∙◌, ℕ, zero, suc, Bool, true, false, not, cond, List, length, filter, take, refl, ap, arith, length-append, length-drop}
 use Rattle.resil_rule.specs.Limits.{Sizes}
 use Rattle.resil_rule.specs.Admission.{AreAllowedAfter, IsLegal}
-use Rattle.resil_rule.specs.History.{accepted, accepted_id, finished, is_among, queued, running, started, taken, times}
+use Rattle.resil_rule.specs.History.{accepted, accepted_id, is_among, queued, started, taken, times}
 use Rattle.resil_rule.specs.declared.event.Id.{Id}
 use Rattle.resil_rule.specs.declared.event.Reply.TheVariants.{Core}
 use Rattle.resil_rule.specs.declared.event.Event.{Event}
 use Rattle.resil_rule.specs.declared.event.Event.TheVariants.{Submit}
-use Rattle.resil_rule.proofs.ConservationLaws.{accepted-parts, times-cons, tracked}
-use Rattle.resil_rule.proofs.IdLaws.{same_id-self}
+use Rattle.resil_rule.proofs.ConservationLaws.{accepted-parts, as-many, tracked}
 use Rattle.resil_rule.proofs.RunningLaws.{numbers-legal}
-use Rattle.resil_rule.proofs.TimesLaws.{among-times, is_positive, left-fewer, times-append, times-filter, times-one}
+use Rattle.resil_rule.proofs.TimesLaws.{nowhere, same-length, somewhere, times-append, times-filter}
 use Rattle.resil_stats.specs.Stats.{AreCountsOf, AreLegalCounts, IsLoadAfter, is_core_reply, is_extra_reply, never_started}
 use Rattle.resil_stats.specs.declared.stats.Counts.{Counts}
 use Rattle.resil_stats.specs.declared.stats.Load.{Load}
 use Rattle.resil_stats.proofs.CountLaws.{made_few}
-
--- ---- Ids, and how often they stand among ids.
-
-none-out : {A : Type 0} (xs : List A) → filter (λ x. true) xs ≡ xs
-none-out [] = refl
-none-out (x ∷ xs) = ap (λ l. x ∷ l) (none-out xs)
-
--- the ids that aren't among others
-abbrev outside : List Id → List Id → List Id
-outside done ids = filter (λ x. not (is_among x done)) ids
-
--- of ids that stand once each, each one more that is done is one less outside
-outside-more : (done next ids : List Id) → ((id : Id) → times id ids ≤ 1) → ((id : Id) → times id (done ++ next) ≤ times id ids) → length (outside (done ++ next) ids) + length next ≡ length (outside done ids)
-outside-more done [] ids once within = rw append-nil (omega arith)
-outside-more done (d ∷ next) ids once within =
-    let own : times d (d ∷ []) ≡ 1 = times-one d d ∙ ap (λ b. cond b 1 0) (same_id-self d) in
-    let parts = times-append d done (d ∷ next) in
-    let more = times-cons d d next in
-    let upper = within d in
-    let only = once d in
-    let none : times d done ≡ 0 = omega (arith, own, parts, more, upper, only) in
-    let all : times d ids ≡ 1 = omega (arith, own, parts, more, upper, only) in
-    let absent : is_among d done ≡ false = among-times d done ∙ ap is_positive none in
-    let left : times d (outside done ids) ≡ 1 = times-filter (λ x. not (is_among x done)) d ids ∙ ap (λ b. cond (not b) (times d ids) 0) absent ∙ all in
-    let fewer = left-fewer done d ids in
-    let same : (done ++ d ∷ []) ++ next ≡ done ++ d ∷ next = append_assoc done (d ∷ []) next in
-    let rest = outside-more (done ++ d ∷ []) next ids once (λ id. rw same (within id)) in
-    let rest = rw same at rest in
-    omega (arith, left, fewer, rest)
-
--- of ids that stand once each, those outside of some of them are the others
-outside-count : (done ids : List Id) → ((id : Id) → times id ids ≤ 1) → ((id : Id) → times id done ≤ times id ids) → length (outside done ids) + length done ≡ length ids
-outside-count done ids once within = outside-more [] done ids once within ∙ ap length (none-out ids)
 
 -- ---- The lists of any history.
 
@@ -65,28 +31,26 @@ started-replies (e ∷ h) = grind (arith, started-replies h)
 
 module _ (limits : Sizes) where
   module _ (h : List Event) (legal : IsLegal limits h) where
-    begun-once : (id : Id) → (times id (accepted h) ≤ 1) × (times id (started h ++ taken h) ≤ times id (accepted h))
-    begun-once id =
-        let kept = tracked limits h legal id in
-        let both = times-append id (started h) (taken h) in
-        let parts = accepted-parts h id in
-        (kept.once, omega (arith, both, parts, kept.lined))
-
-    -- the jobs that run are those started and taken, less those finished
-    pub running-count : length (running h) + length (finished h) ≡ length (started h) + length (taken h)
-    running-count =
-        outside-count (finished h) (started h ++ taken h)
-        (λ id. let few = begun-once id in let one = few.0 in let le = few.1 in omega (arith, le, one))
-        (λ id. let kept = tracked limits h legal id in let both = times-append id (started h) (taken h) in omega (arith, kept.ran, both))
-        ∙ length-append (started h) (taken h)
+    -- each accepted job was started, was taken or was never started
+    balance : (x : Id) → times x (never_started h) + times x (started h ++ taken h) ≡ times x (accepted h)
+    balance x = go (is_among x (started h ++ taken h)) refl
+      where
+        go : (b : Bool) → is_among x (started h ++ taken h) ≡ b → times x (never_started h) + times x (started h ++ taken h) ≡ times x (accepted h)
+        go true is =
+            let none : times x (never_started h) ≡ 0 = times-filter _ x (accepted h) ∙ ap (λ b. cond (not b) (times x (accepted h)) 0) is in
+            let some = somewhere x (started h ++ taken h) is in
+            let kept = tracked limits h legal x in
+            omega (arith, none, some, kept.once, kept.lined, accepted-parts h x, times-append x (started h) (taken h))
+        go false is =
+            let all : times x (never_started h) ≡ times x (accepted h) = times-filter _ x (accepted h) ∙ ap (λ b. cond (not b) (times x (accepted h)) 0) is in
+            omega (arith, all, nowhere x (started h ++ taken h) is)
 
     -- the jobs that were never started are those queued, less those taken
     pub never-count : length (never_started h) + length (taken h) ≡ length (queued h)
     never-count =
-        let left = outside-count (started h ++ taken h) (accepted h) (λ id. (begun-once id).0) (λ id. (begun-once id).1) in
-        let both = length-append (started h) (taken h) in
-        let all = parts-length h in
-        omega (arith, left, both, all)
+        let all = same-length (never_started h ++ (started h ++ taken h)) (accepted h) (λ x. times-append x (never_started h) (started h ++ taken h) ∙ balance x) in
+        let parts = length-append (never_started h) (started h ++ taken h) in
+        omega (arith, all, parts, length-append (started h) (taken h), parts-length h)
 
 -- ---- The counts of a legal history.
 
@@ -103,7 +67,7 @@ are_possible counts (limits, h, legal, are, short) =
     let numbers = numbers-legal limits h legal in
     let all = parts-length h in
     let few = made_few accepted_id h in
-    let runs = running-count limits h legal in
+    let runs = as-many limits h legal in
     omega arith
 
 -- the load that is computed from the counts of a legal history
@@ -112,7 +76,7 @@ pub load-after : (counts : Counts) (load : Load) → load.waiting ≡ counts.que
 load-after counts load waits runs works limits h legal are =
     let starts = started-replies h in
     let line = length-drop (length (taken h)) (queued h) in
-    let count = running-count limits h legal in
+    let count = as-many limits h legal in
     omega arith
 
 -- ---- The first events of a legal history.
