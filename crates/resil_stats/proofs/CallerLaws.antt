@@ -17,26 +17,23 @@ use Rattle.resil_stats.proofs.CountLaws.{filter_few, filter_more}
 abbrev pub three : ℕ → ℕ → ℕ → CallerStats
 three s a r = record { submissions = s; accepted = a; refused = r }
 
-same-three : (s a r s' a' r' : ℕ) → s ≡ s' → a ≡ a' → r ≡ r' → three s a r ≡ three s' a' r'
-same-three s a r s' a' r' e f g = ap (λ n. three n a r) e ∙ ap (λ n. three s' n r) f ∙ ap (λ n. three s' a' n) g
-
 -- the numbers of a caller, which are 0 where it didn't submit
 abbrev pub numbers_of : List Event → ℕ → CallerStats
 numbers_of h c = three (length (submissions h c)) (length (accepted_of h c)) (length (refused_of h c))
 
--- what one event adds to each number of a caller
-numbers-more : (h : List Event) (e : Event) (c : ℕ)
-    → numbers_of (h ++ e ∷ []) c ≡ three (length (submissions h c) + length (submissions (e ∷ []) c)) (length (accepted_of h c) + length (accepted_of (e ∷ []) c)) (length (refused_of h c) + length (refused_of (e ∷ []) c))
-numbers-more h e c = same-three _ _ _ _ _ _ (filter_more (is_submit_of c) h e) (rw (filter_map-append, filter-append, length-append) refl) (filter_more (is_refused_of c) h e)
+-- how many accepted jobs of a caller there are, with one more event
+accepted-more : (h : List Event) (e : Event) (c : ℕ) → length (accepted_of (h ++ e ∷ []) c) ≡ length (accepted_of h c) + length (accepted_of (e ∷ []) c)
+accepted-more h e c = rw (filter_map-append, filter-append, length-append) refl
 
 -- a submission changes the numbers of its caller alone
 submit-numbers : (h : List Event) (x : Id) (reply : Reply) (c : ℕ) → numbers_of (h ++ Submit x reply ∷ []) c ≡ cond (x.caller == c) (with_reply (numbers_of h c) reply) (numbers_of h c)
-submit-numbers h x reply c = grind (arith, common_steps, numbers-more h (Submit x reply) c)
+submit-numbers h x reply c =
+    grind (arith, common_steps, filter_more (is_submit_of c) h (Submit x reply), accepted-more h (Submit x reply) c, filter_more (is_refused_of c) h (Submit x reply))
 
 -- any other event changes those of none
 pub other-numbers : (h : List Event) (e : Event) (c : ℕ) → ((id : Id) (reply : Reply) → e ≡ Submit id reply → ⊥) → numbers_of (h ++ e ∷ []) c ≡ numbers_of h c
 other-numbers h (Submit x reply) c other = absurd (other x reply refl)
-other-numbers h e c other = numbers-more h e c ∙ same-three _ _ _ _ _ _ (omega arith) (omega arith) (omega arith)
+other-numbers h e c other = grind (arith, common_steps, filter_more (is_submit_of c) h e, accepted-more h e c, filter_more (is_refused_of c) h e)
 
 -- each submission of a caller was accepted or refused
 parts : (h : List Event) (c : ℕ) → length (accepted_of h c) + length (refused_of h c) ≡ length (submissions h c)
