@@ -4,7 +4,7 @@
 //! pixel. `elements` has the elements of bars, refusals and columns, of which clauses say how they begin. What stands
 //! around them is written by templates into a `Draft`: `frame`, `jobs`, `bands` and `over`, by the places of `page`.
 
-ghost use Rattle.std.specs.Prelude.{IfOk, OnOk, string_bytes};
+ghost use Rattle.std.specs.Prelude.{ℕ, ◌≡◌, ◌++◌, IfOk, List, OnOk, string_bytes};
 ghost use Rattle.resil_stats.specs.Svg.{IsAddition, IsEachDrawn, IsGatheredDrawn, IsRestDrawn, IsSvgOf};
 
 // Adds a template with its values to a draft.
@@ -31,13 +31,20 @@ use crate::Picture;
 use crate::outcomes::Outcomes;
 use bands::write_bands;
 use draft::Draft;
-use elements::{push_elements, push_part};
+use elements::push_elements;
 use frame::{ending_text, opening_text, write_frame};
 use jobs::{write_labels, write_rows, write_running};
 use over::write_over;
 use page::Page;
 use sheet::{Sheet, points_of};
 use std::alloc::{AllocError, Global};
+
+// Adds a part to a text, where it could be made. Errors: `AllocError` where memory runs out, or ran out for the part.
+fn push_part(text: &mut String, part: Result<String, AllocError>) -> Result<(), AllocError>
+    ensures { OnOk result ((part : List ℕ) × (string_bytes text.new ≡ string_bytes text.old ++ part)) }
+{
+    text.push_str(part?.as_str())
+}
 
 // What is written before the bars, or the columns, and so lies below them. Errors: `AllocError` where memory runs out.
 fn front_text(sheet: &Sheet, picture: &Picture) -> Result<String, AllocError> {
@@ -87,25 +94,13 @@ fn push_gathered(text: &mut String, sheet: &Sheet, picture: &Picture) -> Result<
 }
 
 // Adds all of a picture but its beginning. Errors: `AllocError` where memory runs out.
-fn push_rest(
-    alloc: Global,
-    text: &mut String,
-    picture: &Picture,
-    outcomes: &Outcomes,
-) -> Result<(), AllocError>
+fn push_rest(text: &mut String, sheet: &Sheet, picture: &Picture) -> Result<(), AllocError>
     ensures { OnOk result (IsAddition (IsRestDrawn picture.now) (string_bytes text.old) (string_bytes text.new)) }
 {
-    let points = points_of(alloc, picture)?;
-    let sheet = Sheet {
-        alloc,
-        page: Page::of(picture),
-        points: &points,
-        outcomes,
-    };
     if picture.columns.is_empty() {
-        push_each(text, &sheet, picture)
+        push_each(text, sheet, picture)
     } else {
-        push_gathered(text, &sheet, picture)
+        push_gathered(text, sheet, picture)
     }
 }
 
@@ -122,8 +117,15 @@ pub fn svg_text(
 ) -> Result<Vec<u8>, AllocError>
     ensures { IfOk result (λ text. IsSvgOf picture.now text.items) }
 {
+    let points = points_of(alloc, picture)?;
+    let sheet = Sheet {
+        alloc,
+        page: Page::of(picture),
+        points: &points,
+        outcomes,
+    };
     let mut text = opening_text(alloc, picture.levels.len())?;
-    match push_rest(alloc, &mut text, picture, outcomes) {
+    match push_rest(&mut text, &sheet, picture) {
         Ok(()) => Ok(text.into_bytes()),
         Err(error) => Err(error),
     }

@@ -6,6 +6,7 @@ ghost use Rattle.resil_stats.specs.Svg.{IsAddition, IsMadeOf, refusal_opening};
 use super::draft::Draft;
 use super::jobs::{JobName, Style, style_of, write_result};
 use super::page::{GREY, PAPER, Pixels, REFUSED, RIGHT};
+use super::push_part;
 use super::sheet::Sheet;
 use crate::{Bar, Column, Mark, Sign};
 use resil_rule::Id;
@@ -57,7 +58,7 @@ impl Element for Bar {
         } else {
             put!(draft; " to event {to}");
         }
-        write_result(draft, sheet, self, "; result ", usize::MAX);
+        write_result(draft, sheet, self.id, "; result ", usize::MAX);
         line!(draft; "</title></rect>");
         if to > page.events {
             let half = Pixels(height.0 / 2);
@@ -134,17 +135,6 @@ fn refusal_opening(alloc: Global, reason: &str, id: Id, at: usize) -> Result<Str
     format!(in alloc;
         "<path class=\"refused {reason}\" data-job=\"{caller}.{number}\" data-at=\"{at}\" "
     )
-}
-
-/// Adds a part to a text, where it could be made.
-/// Errors: `AllocError` where memory runs out, or ran out for the part.
-pub(crate) fn push_part(
-    text: &mut String,
-    part: Result<String, AllocError>,
-) -> Result<(), AllocError>
-    ensures { OnOk result ((part : List ℕ) × (string_bytes text.new ≡ string_bytes text.old ++ part)) }
-{
-    text.push_str(part?.as_str())
 }
 
 // The rest of an element. Errors: `AllocError` where memory runs out.

@@ -71,14 +71,8 @@ pub(crate) fn write_running(draft: &mut Draft, sheet: &Sheet, picture: &Picture)
 }
 
 /// Writes what came of a job, behind these words, where it is known and there is room for this many letters.
-pub(crate) fn write_result(
-    draft: &mut Draft,
-    sheet: &Sheet,
-    bar: Bar,
-    before: &str,
-    letters: usize,
-) {
-    let Some(outcome) = sheet.outcomes.get(bar.id) else {
+pub(crate) fn write_result(draft: &mut Draft, sheet: &Sheet, id: Id, before: &str, letters: usize) {
+    let Some(outcome) = sheet.outcomes.get(id) else {
         return;
     };
     if let Some(told) = draft.made(outcome_text(sheet.alloc, outcome)) {
@@ -105,7 +99,7 @@ fn write_label(draft: &mut Draft, sheet: &Sheet, bar: Bar, has_one_caller: bool,
         let y = sheet.page.row_top(bar.row).and(16);
         let fill = if bar.start == Start::Core { PAPER } else { INK };
         put!(draft; r#"<text x="{x}" y="{y}" fill="{fill}">{label}"#);
-        write_result(draft, sheet, bar, " ", letters - label.len());
+        write_result(draft, sheet, bar.id, " ", letters - label.len());
         line!(draft; "</text>");
     }
 }
