@@ -71,20 +71,14 @@ fn count_replies(events: &[Event], reply: Reply) -> usize
 fn most_waiting(levels: &[Level]) -> usize
     ensures { result ≡ greatest (map (λ level. level.waiting) levels.now) }
 {
-    levels
-        .iter()
-        .map(|level| level.waiting)
-        .fold(0, |most, waiting| most.max(waiting))
+    levels.iter().fold(0, |most, level| most.max(level.waiting))
 }
 
 // The most workers at some levels.
 fn most_workers(levels: &[Level]) -> usize
     ensures { result ≡ greatest (map (λ level. level.workers) levels.now) }
 {
-    levels
-        .iter()
-        .map(|level| level.workers)
-        .fold(0, |most, workers| most.max(workers))
+    levels.iter().fold(0, |most, level| most.max(level.workers))
 }
 
 // The first level at which most jobs run.

@@ -28,22 +28,13 @@ pub struct Level {
     pub max: u32,
 }
 
-// The sizes of a pool.
-#[derive(Clone, Copy)]
-struct PoolSizes {
-    core: u32,
-    max: u32,
-}
-
-impl PoolSizes {
-    // The sizes after one more event.
-    fn after(self, event: Event) -> PoolSizes
-        ensures { (limits : Sizes) (history : List Event) → AreSizesOf limits history self.core self.max → AreSizesOf limits (history ++ event ∷ []) result.core result.max }
-    {
-        match event {
-            Event::Resized { core, max } => PoolSizes { core, max },
-            _ => self,
-        }
+// The core size and the greatest size after one more event.
+fn sizes_after(sizes: (u32, u32), event: Event) -> (u32, u32)
+    ensures { (limits : Sizes) (history : List Event) → AreSizesOf limits history sizes.0 sizes.1 → AreSizesOf limits (history ++ event ∷ []) result.0 result.1 }
+{
+    match event {
+        Event::Resized { core, max } => (core, max),
+        _ => sizes,
     }
 }
 
@@ -58,22 +49,19 @@ pub(crate) fn levels_of(
     ensures { IfOk result (λ levels. AreLevelsOf limits.now events.now levels.items) }
 {
     let mut counts = Counts::default();
-    let mut sizes = PoolSizes {
-        core: limits.core(),
-        max: limits.max(),
-    };
+    let mut sizes = (limits.core(), limits.max());
     let mut levels = Vec::new(alloc);
     for (index, event) in events.iter().enumerate() {
         counts.record(*event);
-        sizes = sizes.after(*event);
+        sizes = sizes_after(sizes, *event);
         let load = counts.load();
         levels.push(Level {
             at: index + 1,
             waiting: load.waiting,
             running: load.running,
             workers: load.workers,
-            core: sizes.core,
-            max: sizes.max,
+            core: sizes.0,
+            max: sizes.1,
         })?;
     }
     Ok(levels)

@@ -9,7 +9,7 @@ use Rattle.resil_stats.proofs.depth.levels_of.Given as goal
 abbrev pub invariant-loop-index : goal.invariant-loop-index
 invariant-loop-index l = record {
   counts : AreCountsOf (take l.index l.events) l.counts;
-  sizes : AreSizesOf l.limits (take l.index l.events) l.sizes.core l.sizes.max;
+  sizes : AreSizesOf l.limits (take l.index l.events) l.sizes.0 l.sizes.1;
   each : length l.levels.items ≡ l.index;
   after : (k : ℕ) (level : Level) → slice_get l.levels.items k ≡ Some level → IsLevelAfter l.limits (take (k + 1) l.events) level;
 }

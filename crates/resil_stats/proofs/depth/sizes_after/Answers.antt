@@ -4,7 +4,7 @@ use Rattle.resil_rule.specs.Numbers.{AreSizesOf}
 use Rattle.resil_rule.specs.declared.event.Event.{Event}
 use Rattle.resil_rule.specs.declared.event.Event.TheVariants.{Resized}
 use Rattle.resil_rule.proofs.SizeLaws.{sizes-quiet, sizes-resized}
-use Rattle.resil_stats.proofs.depth.PoolSizes.after.Goals as goal
+use Rattle.resil_stats.proofs.depth.sizes_after.Goals as goal
 
 -- an event that is no resize leaves the sizes
 sizes-other : (limits : Sizes) (h : List Event) (e : Event) (core max : ℕ) → ((c m : ℕ) → e ≡ Resized c m → ⊥) → AreSizesOf limits h core max → AreSizesOf limits (h ++ e ∷ []) core max
