@@ -64,12 +64,8 @@ impl Plan {
         self.chain.same(&other.chain) && self.script.same(&other.script)
     }
 
-    /// Whether both plans have no layers and equal scripts: for a caller that would see at little cost that two plans are the same,
-    /// since layers may name any number of errors.
-    ///
-    /// ```
-    /// let further = first.plan().same_without_layers(&second);
-    /// ```
+    /// Whether both plans have no layers and equal scripts: for who would see at little cost that two plans are the same, since
+    /// layers may name any number of errors.
     pub fn same_without_layers(&self, other: &Plan) -> bool
         ensures { IsTrue result ↔ ((self.now.layers ≡ []) × (self.now ≡ other.now)) }
     {
