@@ -1,5 +1,5 @@
 -- What the table of submissions says of a job: a row for each caller, and in it the submission of number n at n - 1.
-use Rattle.std.specs.Prelude.{ℕ, ◌≡◌, ◌∷◌, [], List, Option, None, slice_index_or}
+use Rattle.std.specs.Prelude.{ℕ, ◌∷◌, [], List, Option, None, slice_index_or}
 use Rattle.resil_rule.specs.declared.event.Id.{Id}
 
 -- a caller's submissions; a caller without a row has none there
