@@ -1,11 +1,13 @@
 -- The accepted jobs: plans by id, runs by id, and the results in order.
-use Rattle.std.proofs.Common.{◌≡◌, ◌<◌, ◌≤◌, slice_get, ◌∷◌, [], ◌++◌, ◌∙◌, ℕ, zero, suc, Bool, true, false, cond, List, Option, Some, None, option_map, length, drop, not, get_or, set, map, nat_lt, ◌-◌, refl, sym, ap, arith}
+use Rattle.std.proofs.Common.{◌≡◌, ◌<◌, ◌≤◌, slice_get, ◌∷◌, [], ◌++◌, ◌∙◌, ℕ, zero, suc, Bool, true, false, cond, List, Option, Some, None, option_map, length, length-append, drop, not, get_or, set, map, nat_lt, ◌-◌, refl, sym, ap, subst, arith}
 use Rattle.std.specs.List.{position, position_or_len, flat_map, list_all}
 use Rattle.std.specs.Option.{is_some}
+use Rattle.std.specs.Prelude.{IsTrue}
 use Rattle.std.proofs.lemmas.List.{append_assoc, get_or_append_left, get_or-append_right, get_or-map, length-map, map-set, set-append_left, set-append_right}
 use Rattle.std.proofs.lemmas.Grind.{common_steps}
 use Rattle.std.proofs.lemmas.List.Folds.{find_at, position_or_len_push}
 use Rattle.std.proofs.lemmas.List.Quantifiers.{position-Some}
+use Rattle.std.proofs.lemmas.List.Recursion.{found_set_other}
 use Rattle.std.proofs.lemmas.List.Sums.{prefix_len-le-length}
 use Rattle.resil_decor.specs.Plan.{PlanView}
 use Rattle.resil_decor.specs.Run.{RunView, IsValue}
@@ -13,8 +15,8 @@ use Rattle.resil_rule.proofs.IdLaws.{both, same_id-self, same_id-equal}
 use Rattle.resil_rule.proofs.TimesLaws.{same_id-sym}
 use Rattle.resil_rule.specs.History.{is_among, is_same_id}
 use Rattle.resil_admission.specs.MachineView.{plan_of, ids_of, with_run, AllDone, AreResultsOf}
-use Rattle.resil_admission.specs.JobsInvariant.{HaveOwnRuns, result_row_with, result_row, job_of_row, jobs_kept}
-use Rattle.resil_admission.specs.MachineInvariant.{HavePlans}
+use Rattle.resil_admission.specs.JobsInvariant.{HaveOwnRuns, result_row_with, result_row, job_of_row, jobs_of, jobs_kept, unpicked_in, kept_row, all_kept}
+use Rattle.resil_admission.specs.KeptJob.{KeptView}
 use Rattle.resil_rule.specs.declared.event.Id.{Id}
 use Rattle.resil_admission.specs.declared.jobs.Accepted.{Accepted}
 use Rattle.resil_admission.specs.declared.row.Row.{Row}
@@ -23,11 +25,6 @@ use Rattle.resil_admission.specs.declared.row.Row.{Row}
 pub plan_of-grows : (jobs more : List Accepted) (id : Id) (plan : PlanView) → plan_of jobs id ≡ Some plan → plan_of (jobs ++ more) id ≡ Some plan
 plan_of-grows [] more id plan h = absurd (cc h)
 plan_of-grows (job ∷ jobs) more id plan h = grind (arith, plan_of-grows jobs more id plan, h)
-
--- the plan of a new id is that of the job that comes with it
-pub plan_of-new : (jobs more : List Accepted) (id : Id) → is_among id (ids_of jobs) ≡ false → plan_of (jobs ++ more) id ≡ plan_of more id
-plan_of-new [] more id fresh = refl
-plan_of-new (job ∷ jobs) more id fresh = grind (arith, plan_of-new jobs more id, fresh)
 
 -- an id of jobs has a plan
 pub plan_of-known : (jobs : List Accepted) (id : Id) → is_among id (ids_of jobs) ≡ true → (plan : PlanView) × (plan_of jobs id ≡ Some plan)
@@ -49,29 +46,67 @@ pub plan_of-with_run : (jobs : List Accepted) (id : Id) (run : RunView) (other :
 plan_of-with_run [] id run other = refl
 plan_of-with_run (job ∷ jobs) id run other = grind (arith, plan_of-with_run jobs id run other)
 
--- jobs that aren't picked yet keep their plans, with more jobs and with runs
-pub plans-grow : (jobs more : List Accepted) (line : List (Id × PlanView)) → HavePlans jobs line → HavePlans (jobs ++ more) line
-plans-grow jobs more [] have = tt
-plans-grow jobs more (job ∷ line) have = (plan_of-grows jobs more job.0 job.1 have.0, plans-grow jobs more line have.1)
+-- the jobs of those that are kept, whose rows are made or not
+pub jobs-kept : (rows : List Row) (later : List KeptView) → jobs_of (map kept_row rows ++ later) ≡ jobs_kept rows (jobs_of later)
+jobs-kept [] later = refl
+jobs-kept (row ∷ rows) later = ap (λ (jobs : List Accepted). job_of_row row ∷ jobs) (jobs-kept rows later)
 
-pub plans-with_run : (jobs : List Accepted) (id : Id) (run : RunView) (line : List (Id × PlanView)) → HavePlans jobs line → HavePlans (with_run jobs id run) line
-plans-with_run jobs id run [] have = tt
-plans-with_run jobs id run (job ∷ line) have = (plan_of-with_run jobs id run job.0 ∙ have.0, plans-with_run jobs id run line have.1)
+-- which jobs weren't picked yet: with more behind them, with others behind the same, and with one of an id in the place of another of that id
+pub unpicked-push : (kept more : List KeptView) (x : Id) → unpicked_in kept x ≡ true → unpicked_in (kept ++ more) x ≡ true
+unpicked-push [] more x is = absurd (cc is)
+unpicked-push (k ∷ kept) more x is = grind (arith, unpicked-push kept more x, is)
 
-pub plans-next : (jobs : List Accepted) (line : List (Id × PlanView)) → HavePlans jobs line → HavePlans jobs (drop 1 line)
-plans-next jobs [] have = tt
-plans-next jobs (job ∷ line) have = have.1
+pub unpicked-new : (kept : List KeptView) (k : KeptView) (x : Id) → is_same_id x k.job.id ≡ true → is_among x (ids_of (jobs_of kept)) ≡ false → unpicked_in (kept ++ k ∷ []) x ≡ k.unpicked
+unpicked-new [] k x same new = rw same refl
+unpicked-new (j ∷ kept) k x same new = grind (arith, unpicked-new kept k x same, new)
 
-pub plans-push : (jobs : List Accepted) (line : List (Id × PlanView)) (id : Id) (plan : PlanView) → HavePlans jobs line → plan_of jobs id ≡ Some plan → HavePlans jobs (line ++ (id, plan) ∷ [])
-plans-push jobs [] id plan have known = (known, tt)
-plans-push jobs (job ∷ line) id plan have known = (have.0, plans-push jobs line id plan have.1 known)
+unpicked-behind : (kept more other : List KeptView) (x : Id) → unpicked_in more x ≡ unpicked_in other x → unpicked_in (kept ++ more) x ≡ unpicked_in (kept ++ other) x
+unpicked-behind [] more other x same = same
+unpicked-behind (k ∷ kept) more other x same = ap (λ b. cond (is_same_id x k.job.id) k.unpicked b) (unpicked-behind kept more other x same)
 
--- a job of a new id, whose plan is kept, may wait
-pub plans-admit : (jobs : List Accepted) (line : List (Id × PlanView)) (job : Accepted) → HavePlans jobs line → is_among job.id (ids_of jobs) ≡ false
-    → HavePlans (jobs ++ job ∷ []) (line ++ (job.id, job.plan) ∷ [])
-plans-admit jobs line job have fresh =
-    let own : plan_of (job ∷ []) job.id ≡ Some job.plan = grind (arith, same_id-self job.id) in
-    plans-push (jobs ++ job ∷ []) line job.id job.plan (plans-grow jobs (job ∷ []) line have) (plan_of-new jobs (job ∷ []) job.id fresh ∙ own)
+unpicked-set : (kept : List KeptView) (i : ℕ) (k d : KeptView) (x : Id) → k.job.id ≡ (get_or kept i d).job.id → is_same_id x k.job.id ≡ false → unpicked_in (set kept i k) x ≡ unpicked_in kept x
+unpicked-set kept i k d x named other =
+    found_set_other (λ ks. unpicked_in ks x) (λ k. is_same_id x k.job.id) (λ k. k.unpicked) false refl (λ k ks. refl) kept i k d (ap (is_same_id x) (sym named) ∙ other) other
+
+-- a row that is made of a finished job
+pub unpicked-made : (rows : List Row) (k : KeptView) (later : List KeptView) (x : Id) → IsTrue (is_some k.job.run) → k.unpicked ≡ false
+    → unpicked_in (map kept_row (rows ++ result_row k.job) ++ later) x ≡ unpicked_in (map kept_row rows ++ k ∷ later) x
+unpicked-made [] k later x some picked = go k.job.run refl some
+  where
+    go : (run : Option RunView) → k.job.run ≡ run → IsTrue (is_some run) → unpicked_in (map kept_row (result_row k.job) ++ later) x ≡ cond (is_same_id x k.job.id) k.unpicked (unpicked_in later x)
+    go None is some = absurd (cc some)
+    go (Some run) is some = rw (is, picked) refl
+unpicked-made (row ∷ rows) k later x some picked = ap (λ b. cond (is_same_id x row.id) false b) (unpicked-made rows k later x some picked)
+
+pub unpicked-nowhere : (kept : List KeptView) (x : Id) → is_among x (ids_of (jobs_of kept)) ≡ false → unpicked_in kept x ≡ false
+unpicked-nowhere [] x none = refl
+unpicked-nowhere (k ∷ kept) x none = grind (arith, unpicked-nowhere kept x, none)
+
+-- a job that has its row was picked, and with another row of its id it still is
+pub unpicked-rows : (rows : List Row) (later : List KeptView) (x : Id) → unpicked_in (all_kept rows later) x ≡ cond (is_among x (map (λ row. row.id) rows)) false (unpicked_in later x)
+unpicked-rows [] later x = refl
+unpicked-rows (row ∷ rows) later x = grind (arith, unpicked-rows rows later x)
+
+unpicked-row : (rows : List Row) (later : List KeptView) (i : ℕ) (d : KeptView) → i < length rows → (get_or (map kept_row rows ++ later) i d).unpicked ≡ false
+unpicked-row [] later i d within = absurd (omega (arith, within))
+unpicked-row (row ∷ rows) later zero d within = refl
+unpicked-row (row ∷ rows) later (suc i) d within = unpicked-row rows later i d (omega (arith, within))
+
+-- the job of an id is the one at its first index
+record IsAt (kept : List KeptView) (id : Id) (i : ℕ) (d : KeptView) : Type 0 where
+  within : i < length kept
+  named : is_same_id id (get_or kept i d).job.id ≡ true
+  unpicked : unpicked_in kept id ≡ (get_or kept i d).unpicked
+  plan : plan_of (jobs_of kept) id ≡ Some (get_or kept i d).job.plan
+
+at-first : (kept : List KeptView) (id : Id) (i : ℕ) (d : KeptView) → i < length kept → is_same_id id (get_or kept i d).job.id ≡ true
+    → ((k : ℕ) → k < i → is_same_id id (get_or kept k d).job.id ≡ false) → IsAt kept id i d
+at-first [] id i d within hit before = absurd (omega (arith, within))
+at-first (k ∷ kept) id zero d within hit before = record { within = within; named = hit; unpicked = rw hit refl; plan = rw hit refl }
+at-first (k ∷ kept) id (suc i) d within hit before =
+    let miss = before 0 (omega arith) in
+    let rest = at-first kept id i d (omega (arith, within)) hit (λ k low. before (suc k) (omega (arith, low))) in
+    record { within = within; named = hit; unpicked = rw miss rest.unpicked; plan = rw miss rest.plan }
 
 -- runs stay values of their jobs' plans
 pub runs-push : (jobs : List Accepted) (job : Accepted) → HaveOwnRuns jobs → job.run ≡ None → HaveOwnRuns (jobs ++ job ∷ [])
@@ -151,12 +186,55 @@ results-of (job ∷ jobs) done own = go job.run refl (λ done. results-of jobs d
         (record { id = refl; run = was; plan = ran.0; value = ran.1 }, rest done.1)
 
 -- the index of a job by its id is that among the ids
-named : (id : Id) (jobs : List Accepted) → position_or_len (is_same_id id) (ids_of jobs) ≡ position_or_len (λ job. is_same_id id job.id) jobs
-named id [] = refl
-named id (job ∷ jobs) = grind (arith, named id jobs)
+named : {A B : Type 0} (p : B → Bool) (f : A → B) (xs : List A) → position_or_len p (map f xs) ≡ position_or_len (λ x. p (f x)) xs
+named p f [] = refl
+named p f (x ∷ xs) = grind (arith, named p f xs)
 
 pub position-named : (id : Id) (jobs : List Accepted) → position (is_same_id id) (ids_of jobs) ≡ position (λ job. is_same_id id job.id) jobs
-position-named id jobs = grind (arith, common_steps, named id jobs)
+position-named id jobs = grind (arith, common_steps, named (is_same_id id) (λ job. job.id) jobs)
+
+is-at : (kept : List KeptView) (id : Id) (i : ℕ) (d : KeptView) → position (is_same_id id) (ids_of (jobs_of kept)) ≡ Some i → IsAt kept id i d
+is-at kept id i d found =
+    let named_ = named (is_same_id id) (λ job. job.id) (jobs_of kept) ∙ named (λ job. is_same_id id job.id) (λ k. k.job) kept in
+    let long = length-map (jobs_of kept) (λ job. job.id) ∙ length-map kept (λ k. k.job) in
+    let here : position (λ k. is_same_id id k.job.id) kept ≡ Some i = grind (arith, common_steps, named_, long, found) in
+    let at = position-Some (λ k. is_same_id id k.job.id) kept i d here in
+    at-first kept id i d at.0 at.1 at.2
+
+-- the job at the first index of an id, with its row or without
+is-here : (rows : List Row) (later : List KeptView) (id : Id) (i : ℕ) (d : KeptView) → position (is_same_id id) (ids_of (jobs_kept rows (jobs_of later))) ≡ Some i → IsAt (all_kept rows later) id i d
+is-here rows later id i d found = is-at (all_kept rows later) id i d (ap (λ jobs. position (is_same_id id) (ids_of jobs)) (jobs-kept rows later) ∙ found)
+
+-- a job that has its row was picked
+pub row-picked : (rows : List Row) (later : List KeptView) (id : Id) (i : ℕ) → position (is_same_id id) (ids_of (jobs_kept rows (jobs_of later))) ≡ Some i → i < length rows → unpicked_in (all_kept rows later) id ≡ false
+row-picked [] later id i found within = absurd (omega (arith, within))
+row-picked (row ∷ rows) later id i found within = (is-here (row ∷ rows) later id i (kept_row row) found).unpicked ∙ unpicked-row (row ∷ rows) later i (kept_row row) within
+
+module _ (rows : List Row) (later : List KeptView) (id : Id) (i n : ℕ) (d : KeptView) (found : position (is_same_id id) (ids_of (jobs_kept rows (jobs_of later))) ≡ Some i) (long : length rows ≡ n) (past : n ≤ i) where
+  abbrev job : KeptView
+  job = get_or later (i - n) d
+
+  here : IsAt (all_kept rows later) id i d
+  here = is-here rows later id i d found
+
+  at : get_or (all_kept rows later) i d ≡ job
+  at = get_or-append_right (map kept_row rows) later n i d (length-map rows kept_row ∙ long) past
+
+  pub later-within : i - n < length later
+  later-within = omega (arith, here.within, length-append (map kept_row rows) later, length-map rows kept_row, long, past)
+
+  pub later-named : id ≡ job.job.id
+  later-named = same_id-equal id job.job.id (ap (λ k. is_same_id id k.job.id) (sym at) ∙ here.named)
+
+  pub later-unpicked : unpicked_in (all_kept rows later) id ≡ job.unpicked
+  later-unpicked = here.unpicked ∙ ap (λ k. k.unpicked) at
+
+  pub later-plan : plan_of (jobs_kept rows (jobs_of later)) id ≡ Some job.job.plan
+  later-plan = ap (λ jobs. plan_of jobs id) (sym (jobs-kept rows later)) ∙ here.plan ∙ ap (λ k. Some k.job.plan) at
+
+  -- with another job of the same id in its place, the others are as they were
+  pub later-others : (k : KeptView) → k.job.id ≡ job.job.id → (x : Id) → is_same_id x id ≡ false → unpicked_in (all_kept rows (set later (i - n) k)) x ≡ unpicked_in (all_kept rows later) x
+  later-others k same x apart = unpicked-behind (map kept_row rows) (set later (i - n) k) later x (unpicked-set later (i - n) k d x same (ap (is_same_id x) (same ∙ sym later-named) ∙ apart))
 
 -- the plan of an id is that of the job at its first index
 pub plan-at : (jobs : List Accepted) (id : Id) (index : ℕ) → position (is_same_id id) (ids_of jobs) ≡ Some index → plan_of jobs id ≡ option_map (λ job. job.plan) (slice_get jobs index)

@@ -1,9 +1,9 @@
 -- A machine after each step of its rule.
 use Rattle.std.specs.Prelude.{IfNone}
-use Rattle.std.proofs.Common.{inl, inr, ◌≡◌, ◌<◌, ◌≤◌, ◌+◌, ◌-◌, ◌∷◌, [], ◌++◌, ◌∙◌, ℕ, suc, true, false, List, Option, Some, None, length, drop, take, slice_get, refl, sym, ap, subst, arith, append-nil, length-append}
+use Rattle.std.proofs.Common.{inl, inr, ◌⊎◌, Bool, cond, ◌≡◌, ◌<◌, ◌≤◌, ◌+◌, ◌-◌, ◌∷◌, [], ◌++◌, ◌∙◌, ℕ, suc, true, false, List, Option, Some, None, length, drop, take, slice_get, refl, sym, ap, subst, arith, append-nil, length-append}
 use Rattle.std.proofs.lemmas.List.{map-append}
 use Rattle.resil_decor.specs.Plan.{PlanView}
-use Rattle.resil_rule.specs.History.{is_among, times, taken, unfinished, started, accepted, waiting, running, workers, started_id, accepted_id}
+use Rattle.resil_rule.specs.History.{is_among, is_same_id, times, taken, unfinished, started, accepted, waiting, running, workers, started_id, accepted_id}
 use Rattle.resil_rule.specs.Admission.{IsAllowed}
 use Rattle.resil_rule.specs.Record.{AllView}
 use Rattle.resil_rule.specs.Slots.{ids_out}
@@ -16,41 +16,83 @@ use Rattle.resil_rule.specs.declared.event.Reply.TheVariants.{Core, Queued, Extr
 use Rattle.resil_rule.specs.declared.event.Event.{Event}
 use Rattle.resil_rule.specs.declared.event.Event.TheVariants.{Submit, Take}
 use Rattle.resil_rule.proofs.EventLaws.{front-is}
-use Rattle.resil_rule.proofs.ConservationLaws.{in_flight-accepted}
+use Rattle.resil_rule.proofs.ConservationLaws.{conserved, in_flight-accepted, times-cons}
 use Rattle.resil_rule.proofs.SlotLaws.{there-out}
-use Rattle.resil_rule.proofs.TimesLaws.{among-times, is_positive}
+use Rattle.resil_rule.proofs.IdLaws.{same_id-equal, same_id-self}
+use Rattle.resil_rule.proofs.TimesLaws.{among-times, is_positive, same_id-sym, times-last, times-one}
 use Rattle.resil_rule.proofs.RefusalLaws.{out-are}
 use Rattle.resil_rule.proofs.RuleLaws.{few-unpicked}
 use Rattle.resil_rule.proofs.UnpickedLaws.{started-same, accepted-same, filtered-more, line-first, line-none}
 use Rattle.resil_admission.specs.MachineView.{MachineView, newly_accepted, with_submission as machine_submission, ids_of, IsPicked, HasOneToPick, HasNoneToPick}
-use Rattle.resil_admission.specs.MachineInvariant.{MachineInvariant, HavePlans}
+use Rattle.resil_admission.specs.JobsInvariant.{unpicked_in}
+use Rattle.resil_admission.specs.MachineInvariant.{MachineInvariant, times_unpicked}
 use Rattle.resil_admission.specs.JobsView.{JobsView}
 use Rattle.resil_admission.specs.declared.jobs.Accepted.{Accepted}
-use Rattle.resil_admission.proofs.JobLaws.{plans-grow, plans-admit}
 
 -- the machine after an event
-pub machine-after : (h : List Event) (e : Event) (rule : RuleView PlanView) (all : AllView) (jobs : JobsView) → IsStateOf (h ++ e ∷ []) rule → all.events ≡ h ++ e ∷ [] → owed rule ≤ all.room
-    → ids_of jobs.jobs ≡ accepted (h ++ e ∷ []) → HavePlans jobs.jobs rule.unpicked → HavePlans jobs.jobs rule.waiting → MachineInvariant (record { rule = rule; history = all; jobs = jobs })
-machine-after h e rule all jobs state events room ids unpicked waits = record {
+pub machine-after : (h : List Event) (e : Event) (rule : RuleView (Unit {0})) (all : AllView) (jobs : JobsView) → IsStateOf (h ++ e ∷ []) rule → all.events ≡ h ++ e ∷ [] → owed rule ≤ all.room
+    → ids_of jobs.jobs ≡ accepted (h ++ e ∷ []) → ((id : Id) → 1 ≤ times_unpicked rule id → unpicked_in jobs.kept id ≡ true) → MachineInvariant (record { rule = rule; history = all; jobs = jobs })
+machine-after h e rule all jobs state events room ids unpicked = record {
   state = subst (λ (history : List Event). IsStateOf history rule) (sym events) state;
   room = room;
   accepted = ids ∙ ap accepted (sym events);
-  unpicked_plans = unpicked;
-  queue_plans = waits;
+  unpicked = unpicked;
 }
 
--- the jobs that aren't picked, after a submission that is accepted
-pub plans-submitted : (v : RuleView PlanView) (jobs : List Accepted) (id : Id) (plan : PlanView) (reply : Reply) → is_acceptance reply ≡ true
-    → HavePlans jobs v.unpicked → HavePlans jobs v.waiting → is_among id (ids_of jobs) ≡ false
-    → HavePlans (jobs ++ record { id = id; plan = plan; run = None } ∷ []) (with_submission v id plan reply).unpicked × HavePlans (jobs ++ record { id = id; plan = plan; run = None } ∷ []) (with_submission v id plan reply).waiting
-plans-submitted v jobs id plan Core accepts unpicked waits new =
-    let job : Accepted = record { id = id; plan = plan; run = None } in (plans-admit jobs v.unpicked job unpicked new, plans-grow jobs (job ∷ []) v.waiting waits)
-plans-submitted v jobs id plan Queued accepts unpicked waits new =
-    let job : Accepted = record { id = id; plan = plan; run = None } in (plans-grow jobs (job ∷ []) v.unpicked unpicked, plans-admit jobs v.waiting job waits new)
-plans-submitted v jobs id plan Extra accepts unpicked waits new =
-    let job : Accepted = record { id = id; plan = plan; run = None } in (plans-admit jobs v.unpicked job unpicked new, plans-grow jobs (job ∷ []) v.waiting waits)
-plans-submitted v jobs id plan Full accepts unpicked waits new = absurd (cc accepts)
-plans-submitted v jobs id plan Closed accepts unpicked waits new = absurd (cc accepts)
+module _ {W : Type 0} where
+  -- after a submission, those that weren't picked are those before and the one that was accepted
+  pub unpicked-submitted : (v : RuleView W) (id : Id) (work : W) (reply : Reply) (x : Id) → 1 ≤ times_unpicked (with_submission v id work reply) x → (is_same_id x id ≡ true) ⊎ (1 ≤ times_unpicked v x)
+  unpicked-submitted v id work reply x some = go reply some
+    where
+      more : (line : List (Id × W)) → times x (ids_waiting (line ++ (id, work) ∷ [])) ≡ times x (ids_waiting line) + cond (is_same_id x id) 1 0
+      more line = ap (times x) (map-append (λ job. job.0) line ((id, work) ∷ [])) ∙ times-last x id (ids_waiting line) ∙ ap (λ b. times x (ids_waiting line) + cond b 1 0) (same_id-sym id x)
+
+      one : (b : Bool) (n : ℕ) → is_same_id x id ≡ b → 1 ≤ n + cond b 1 0 → (is_same_id x id ≡ true) ⊎ (1 ≤ n)
+      one true n same some = inl same
+      one false n same some = inr (omega (arith, some))
+
+      go : (reply : Reply) → 1 ≤ times_unpicked (with_submission v id work reply) x → (is_same_id x id ≡ true) ⊎ (1 ≤ times_unpicked v x)
+      go Core some = one (is_same_id x id) _ refl (omega (arith, more v.unpicked, some))
+      go Queued some = one (is_same_id x id) _ refl (omega (arith, more v.waiting, some))
+      go Extra some = one (is_same_id x id) _ refl (omega (arith, more v.unpicked, some))
+      go Full some = inr some
+      go Closed some = inr some
+
+  -- an id among those of a line and of the line without its first
+  without : (x : Id) (line : List (Id × W)) (job : Id × W) → slice_get line 0 ≡ Some job → times x (ids_waiting line) ≡ cond (is_same_id x job.0) 1 0 + times x (ids_waiting (drop 1 line))
+  without x line job front =
+      ap (λ (line : List (Id × W)). times x (ids_waiting line)) (front-is line job front) ∙ times-cons x job.0 (ids_waiting (drop 1 line)) ∙ ap (λ n. n + times x (ids_waiting (drop 1 line))) (times-one x job.0)
+
+  pub front-there : (line : List (Id × W)) (job : Id × W) → slice_get line 0 ≡ Some job → 1 ≤ times job.0 (ids_waiting line)
+  front-there line job front = let parts = rw (same_id-self job.0) at (without job.0 line job front) in omega (arith, parts)
+
+  module _ (v : RuleView W) (h : List Event) (state : IsStateOf h v) where
+    -- a job is there once at most
+    once : (x : Id) → times_unpicked v x + times x (ids_out v.out) ≤ 1
+    once x = let c = conserved v.limits h state.legal x in omega (arith, c.sum, c.once, state.runs x, ap (times x) state.waiting_is)
+
+    -- without the first of those that weren't picked, the others are still there, and are others
+    left : (id x : Id) (b : Bool) → is_same_id x id ≡ b → (n : ℕ) → times_unpicked v x ≡ cond b 1 0 + n → 1 ≤ n → (is_same_id x id ≡ false) × (1 ≤ times_unpicked v x)
+    left id x true same n is some = let most = once x in absurd (omega (arith, is, most, some))
+    left id x false same n is some = (same, omega (arith, is, some))
+
+    pub left-picked : (slot : Slot) (work : W) → slice_get v.unpicked 0 ≡ Some (slot.id, work) → (x : Id) → 1 ≤ times_unpicked (with_pick v slot) x → (is_same_id x slot.id ≡ false) × (1 ≤ times_unpicked v x)
+    left-picked slot work front x some = left slot.id x _ refl (times_unpicked (with_pick v slot) x) (omega (arith, without x v.unpicked (slot.id, work) front)) some
+
+    pub left-taken : (slot : Slot) (work : W) → slice_get v.waiting 0 ≡ Some (slot.id, work) → (x : Id) → 1 ≤ times_unpicked (with_take v slot) x → (is_same_id x slot.id ≡ false) × (1 ≤ times_unpicked v x)
+    left-taken slot work front x some = left slot.id x _ refl (times_unpicked (with_take v slot) x) (omega (arith, without x v.waiting (slot.id, work) front)) some
+
+    -- one that is out is none of those that weren't picked
+    pub out-picked : (slot : Slot) → slice_get v.out slot.place ≡ Some (Some slot.id) → (x : Id) → 1 ≤ times_unpicked v x → is_same_id x slot.id ≡ false
+    out-picked slot there x some = go (is_same_id x slot.id) refl
+      where
+        go : (b : Bool) → is_same_id x slot.id ≡ b → is_same_id x slot.id ≡ false
+        go true same =
+            let out = there-out slot.id v.out slot.place there in
+            let most = once slot.id in
+            let own : 1 ≤ times_unpicked v slot.id = subst (λ (id : Id). 1 ≤ times_unpicked v id) (same_id-equal x slot.id same) some in
+            absurd (omega (arith, out, most, own))
+        go false other = other
 
 -- the accepted jobs after a submission
 pub accepted-after : (h : List Event) (jobs : List Accepted) (id : Id) (plan : PlanView) (reply : Reply) → is_acceptance reply ≡ true → ids_of jobs ≡ accepted h
@@ -62,28 +104,28 @@ pub refused-after : (h : List Event) (id : Id) (reply : Reply) → is_acceptance
 refused-after h id reply bars = accepted-same h (Submit id reply) (grind (arith, bars))
 
 -- the first job that wasn't picked
-pub next-is : (v : RuleView PlanView) (h : List Event) → IsStateOf h v → (id : Id) (plan : PlanView) → slice_get v.unpicked 0 ≡ Some (id, plan) → slice_get (started h) (length (started h) - length v.unpicked) ≡ Some id
-next-is v h state id plan front = line-first v.unpicked (started h) (length (started h) - length v.unpicked) state.unpicked (id, plan) (drop 1 v.unpicked) (front-is v.unpicked (id, plan) front)
+pub next-is : (v : RuleView (Unit {0})) (h : List Event) → IsStateOf h v → (id : Id) (work : Unit {0}) → slice_get v.unpicked 0 ≡ Some (id, work) → slice_get (started h) (length (started h) - length v.unpicked) ≡ Some id
+next-is v h state id work front = line-first v.unpicked (started h) (length (started h) - length v.unpicked) state.unpicked (id, work) (drop 1 v.unpicked) (front-is v.unpicked (id, work) front)
 
-pub next-none : (v : RuleView PlanView) (h : List Event) → IsStateOf h v → v.unpicked ≡ [] → slice_get (started h) (length (started h) - length v.unpicked) ≡ None
+pub next-none : (v : RuleView (Unit {0})) (h : List Event) → IsStateOf h v → v.unpicked ≡ [] → slice_get (started h) (length (started h) - length v.unpicked) ≡ None
 next-none v h state none = line-none v.unpicked (started h) (length (started h) - length v.unpicked) state.unpicked none
 
 -- a machine, as its contracts see it
-abbrev pub seen : RuleView PlanView → List Event → List Accepted → MachineView
+abbrev pub seen : RuleView (Unit {0}) → List Event → List Accepted → MachineView
 seen v h jobs = record { limits = v.limits; history = h; picked = length (started h) - length v.unpicked; jobs = jobs }
 
 -- an event that starts no worker leaves how many were picked
-pub quiet-picked : (h : List Event) (e : Event) (unpicked : List (Id × PlanView)) → started_id e ≡ None → length (started (h ++ e ∷ [])) - length unpicked ≡ length (started h) - length unpicked
+pub quiet-picked : (h : List Event) (e : Event) (unpicked : List (Id × Unit {0})) → started_id e ≡ None → length (started (h ++ e ∷ [])) - length unpicked ≡ length (started h) - length unpicked
 quiet-picked h e unpicked starts = ap (λ (ids : List Id). length ids - length unpicked) (started-same h e starts)
 
-module _ (v : RuleView PlanView) (h : List Event) (state : IsStateOf h v) (jobs : List Accepted) where
+module _ (v : RuleView (Unit {0})) (h : List Event) (state : IsStateOf h v) (jobs : List Accepted) where
   -- the job that the rule picked
-  pub own-picked : (slot : Slot) (plan : PlanView) → slice_get v.unpicked 0 ≡ Some (slot.id, plan) → IsPicked (seen v h jobs) slot.id (seen (with_pick v slot) h jobs)
-  own-picked slot plan front =
+  pub own-picked : (slot : Slot) (work : Unit {0}) → slice_get v.unpicked 0 ≡ Some (slot.id, work) → IsPicked (seen v h jobs) slot.id (seen (with_pick v slot) h jobs)
+  own-picked slot work front =
       let few = few-unpicked v h state in
-      let fewer : length v.unpicked ≡ length (drop 1 v.unpicked) + 1 = ap length (front-is v.unpicked (slot.id, plan) front) ∙ omega arith in
+      let fewer : length v.unpicked ≡ length (drop 1 v.unpicked) + 1 = ap length (front-is v.unpicked (slot.id, work) front) ∙ omega arith in
       let more : length (started h) - length (drop 1 v.unpicked) ≡ length (started h) - length v.unpicked + 1 = omega (arith, few, fewer) in
-      inl (next-is v h state slot.id plan front, ap (λ (n : ℕ). record (seen v h jobs) { picked = n }) more)
+      inl (next-is v h state slot.id work front, ap (λ (n : ℕ). record (seen v h jobs) { picked = n }) more)
 
   pub queue-picked : (slot : Slot) → v.unpicked ≡ [] → IsAllowed v.limits h (Take slot.id) → IsPicked (seen v h jobs) slot.id (seen (with_take v slot) (h ++ Take slot.id ∷ []) jobs)
   queue-picked slot none allowed =
@@ -93,16 +135,16 @@ module _ (v : RuleView PlanView) (h : List Event) (state : IsStateOf h v) (jobs 
   pub one-own : 0 < length v.unpicked → HasOneToPick (seen v h jobs)
   one-own some = go v.unpicked refl some
     where
-      go : (line : List (Id × PlanView)) → v.unpicked ≡ line → 0 < length line → HasOneToPick (seen v h jobs)
+      go : (line : List (Id × Unit {0})) → v.unpicked ≡ line → 0 < length line → HasOneToPick (seen v h jobs)
       go [] is some = absurd (omega (arith, some))
       go (job ∷ line) is some =
-          let front : slice_get v.unpicked 0 ≡ Some job = ap (λ (jobs : List (Id × PlanView)). slice_get jobs 0) is in
+          let front : slice_get v.unpicked 0 ≡ Some job = ap (λ (jobs : List (Id × Unit {0})). slice_get jobs 0) is in
           (job.0, _, inl (next-is v h state job.0 job.1 front, refl))
 
   pub one-queued : v.unpicked ≡ [] → 0 < length v.waiting → busy v < v.workers → HasOneToPick (seen v h jobs)
   one-queued none some idle = go v.waiting refl some
     where
-      go : (line : List (Id × PlanView)) → v.waiting ≡ line → 0 < length line → HasOneToPick (seen v h jobs)
+      go : (line : List (Id × Unit {0})) → v.waiting ≡ line → 0 < length line → HasOneToPick (seen v h jobs)
       go [] is some = absurd (omega (arith, some))
       go (job ∷ line) is some =
           let front : slice_get (waiting h) 0 ≡ Some job.0 = ap (λ (ids : List Id). slice_get ids 0) (sym state.waiting_is ∙ ap ids_waiting is) in
@@ -122,14 +164,14 @@ is-nothing None never = refl
 is-nothing (Some x) never = absurd (never x refl)
 
 -- a job that is out was picked or taken, and isn't finished; and it was accepted
-pub out-there : (v : RuleView PlanView) (h : List Event) → IsStateOf h v → (slot : Slot) → slice_get v.out slot.place ≡ Some (Some slot.id)
+pub out-there : (v : RuleView (Unit {0})) (h : List Event) → IsStateOf h v → (slot : Slot) → slice_get v.out slot.place ≡ Some (Some slot.id)
     → is_among slot.id (unfinished h (take (length (started h) - length v.unpicked) (started h) ++ taken h)) ≡ true
 out-there v h state slot there =
     let more : times slot.id (ids_out v.out) ≡ suc (times slot.id (ids_out (with_finish v slot).out)) = omega (arith, there-out slot.id v.out slot.place there) in
     sym (out-are v h state slot.id) ∙ among-times slot.id (ids_out v.out) ∙ ap is_positive more
 
 -- a machine after a submission, as its contracts see it
-pub refused-view : (v : RuleView PlanView) (h : List Event) (jobs : List Accepted) (id : Id) (reply : Reply) (plan : PlanView) → is_acceptance reply ≡ false
+pub refused-view : (v : RuleView (Unit {0})) (h : List Event) (jobs : List Accepted) (id : Id) (reply : Reply) (plan : PlanView) → is_acceptance reply ≡ false
     → seen v (h ++ Submit id reply ∷ []) jobs ≡ machine_submission (seen v h jobs) id reply plan
 refused-view v h jobs id reply plan bars =
     let same = quiet-picked h (Submit id reply) v.unpicked (grind (arith, bars)) in
@@ -138,22 +180,22 @@ refused-view v h jobs id reply plan bars =
     ap (λ (n : ℕ). record (seen v (h ++ Submit id reply ∷ []) jobs) { picked = n }) same
     ∙ ap (λ (all : List Accepted). record (seen v h jobs) { history = h ++ Submit id reply ∷ []; jobs = all }) whole
 
-pub accepted-view : (v : RuleView PlanView) (h : List Event) → IsStateOf h v → (jobs : List Accepted) (id : Id) (reply : Reply) (plan : PlanView) → is_acceptance reply ≡ true
-    → seen (with_submission v id plan reply) (h ++ Submit id reply ∷ []) (jobs ++ record { id = id; plan = plan; run = None } ∷ []) ≡ machine_submission (seen v h jobs) id reply plan
+pub accepted-view : (v : RuleView (Unit {0})) (h : List Event) → IsStateOf h v → (jobs : List Accepted) (id : Id) (reply : Reply) (plan : PlanView) → is_acceptance reply ≡ true
+    → seen (with_submission v id tt reply) (h ++ Submit id reply ∷ []) (jobs ++ record { id = id; plan = plan; run = None } ∷ []) ≡ machine_submission (seen v h jobs) id reply plan
 accepted-view v h state jobs id reply plan accepts = go reply accepts
   where
     job : Accepted
     job = record { id = id; plan = plan; run = None }
 
     started-one : (reply : Reply) → started_id (Submit id reply) ≡ Some id
-        → length (started (h ++ Submit id reply ∷ [])) - length (v.unpicked ++ (id, plan) ∷ []) ≡ length (started h) - length v.unpicked
+        → length (started (h ++ Submit id reply ∷ [])) - length (v.unpicked ++ (id, tt) ∷ []) ≡ length (started h) - length v.unpicked
     started-one reply starts =
         let grown : length (started (h ++ Submit id reply ∷ [])) ≡ length (started h) + 1 = ap length (filtered-more started_id h (Submit id reply) id starts) ∙ length-append (started h) (id ∷ []) in
-        let longer : length (v.unpicked ++ (id, plan) ∷ []) ≡ length v.unpicked + 1 = length-append v.unpicked ((id, plan) ∷ []) in
+        let longer : length (v.unpicked ++ (id, tt) ∷ []) ≡ length v.unpicked + 1 = length-append v.unpicked ((id, tt) ∷ []) in
         omega (arith, grown, longer)
 
     go : (reply : Reply) → is_acceptance reply ≡ true
-        → seen (with_submission v id plan reply) (h ++ Submit id reply ∷ []) (jobs ++ job ∷ []) ≡ machine_submission (seen v h jobs) id reply plan
+        → seen (with_submission v id tt reply) (h ++ Submit id reply ∷ []) (jobs ++ job ∷ []) ≡ machine_submission (seen v h jobs) id reply plan
     go Core a = ap (λ (n : ℕ). record (seen v (h ++ Submit id Core ∷ []) (jobs ++ job ∷ [])) { picked = n }) (started-one Core refl)
     go Queued a = ap (λ (n : ℕ). record (seen v (h ++ Submit id Queued ∷ []) (jobs ++ job ∷ [])) { picked = n }) (quiet-picked h (Submit id Queued) v.unpicked refl)
     go Extra a = ap (λ (n : ℕ). record (seen v (h ++ Submit id Extra ∷ []) (jobs ++ job ∷ [])) { picked = n }) (started-one Extra refl)
@@ -161,7 +203,7 @@ accepted-view v h state jobs id reply plan accepts = go reply accepts
     go Closed a = absurd (cc a)
 
 -- a job that the rule finds among those that are out
-module _ (v : RuleView PlanView) (h : List Event) (state : IsStateOf h v) (slot : Slot) (id : Id) (found : (slot.id ≡ id) × (slice_get v.out slot.place ≡ Some (Some id))) where
+module _ (v : RuleView (Unit {0})) (h : List Event) (state : IsStateOf h v) (slot : Slot) (id : Id) (found : (slot.id ≡ id) × (slice_get v.out slot.place ≡ Some (Some id))) where
   pub found-at : slice_get v.out slot.place ≡ Some (Some slot.id)
   found-at = found.1 ∙ ap (λ (id : Id). Some (Some id)) (sym found.0)
 

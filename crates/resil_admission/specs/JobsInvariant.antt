@@ -1,9 +1,10 @@
 -- What is true of the accepted jobs of a pool between any two calls.
-use Rattle.std.specs.Prelude.{◌≡◌, ◌≤◌, ◌+◌, ◌++◌, [], ◌∷◌, List, Option, None, Some, length, map, position, vec_len, vec_capacity}
+use Rattle.std.specs.Prelude.{◌≡◌, ◌≤◌, ◌+◌, ◌++◌, [], ◌∷◌, Bool, false, List, Option, None, Some, length, map, position, vec_len, vec_capacity, if◌then◌else◌}
 use Rattle.resil_decor.specs.Run.{RunView, IsValue}
 use Rattle.resil_rule.specs.History.{is_same_id}
 use Rattle.resil_admission.specs.MachineView.{ids_of}
 use Rattle.resil_admission.specs.SubmissionTable.{place_at}
+use Rattle.resil_admission.specs.KeptJob.{KeptView}
 use Rattle.resil_rule.specs.declared.event.Id.{Id}
 use Rattle.resil_admission.specs.declared.jobs.Accepted.{Accepted}
 use Rattle.resil_admission.specs.declared.row.Row.{Row}
@@ -30,8 +31,23 @@ job_of_row row = record { id = row.id; plan = row.run.plan; run = Some row.run }
 abbrev pub jobs_kept : List Row → List Accepted → List Accepted
 jobs_kept rows later = map job_of_row rows ++ later
 
+abbrev pub jobs_of : List KeptView → List Accepted
+jobs_of later = map (λ kept. kept.job) later
+
+-- whether the job of an id is one that wasn't picked yet: the first of that id
+abbrev pub unpicked_in : List KeptView → Id → Bool
+unpicked_in [] id = false
+unpicked_in (kept ∷ more) id = if is_same_id id kept.job.id then kept.unpicked else unpicked_in more id
+
+-- a job whose row is made was picked
+abbrev pub kept_row : Row → KeptView
+kept_row row = record { job = job_of_row row; unpicked = false }
+
+abbrev pub all_kept : List Row → List KeptView → List KeptView
+all_kept rows later = map kept_row rows ++ later
+
 -- runs are values of their jobs' plans, there is room for a row of each job, and the table has the place of each job, and of no other
 pub record JobsInvariant (j : Inside) : Type 0 where
-  pub own_runs : HaveOwnRuns (jobs_kept j.rows.items j.later.items)
+  pub own_runs : HaveOwnRuns (jobs_kept j.rows.items (jobs_of j.later.items))
   pub room : vec_len j.rows + length j.later.items ≤ vec_capacity j.rows
-  pub places : (id : Id) → place_at j.places id ≡ position (is_same_id id) (ids_of (jobs_kept j.rows.items j.later.items))
+  pub places : (id : Id) → place_at j.places id ≡ position (is_same_id id) (ids_of (jobs_kept j.rows.items (jobs_of j.later.items)))

@@ -1,11 +1,23 @@
 -- What contracts see of a job that is kept until its row is made.
-use Rattle.std.specs.Prelude.{None, Some}
+use Rattle.std.specs.Prelude.{◌≡◌, Bool, false, None, Some}
+use Rattle.std.specs.Option.{is_some}
+use Rattle.resil_decor.specs.Plan.{PlanView}
 use Rattle.resil_rule.specs.declared.event.Id.{Id}
 use Rattle.resil_admission.specs.declared.jobs.Accepted.{Accepted}
 use Rattle.resil_admission.specs.declared.kept_job.Progress.{Progress}
 use Rattle.resil_admission.specs.declared.kept_job.Progress.TheVariants.{Unfinished, Finished}
 
+-- the accepted job, and whether it wasn't picked yet
+pub record KeptView : Type 0 where
+  pub job : Accepted
+  pub unpicked : Bool
+
 -- the job of an id: with its plan, or with its run and the plan of that
-abbrev pub job_at : Id → Progress → Accepted
-job_at id (Unfinished plan) = record { id = id; plan = plan; run = None }
-job_at id (Finished run) = record { id = id; plan = run.plan; run = Some run }
+abbrev pub kept_at : Id → Progress → KeptView
+kept_at id (Unfinished job plan) = record { job = record { id = id; plan = plan; run = None }; unpicked = is_some job }
+kept_at id (Finished run) = record { job = record { id = id; plan = run.plan; run = Some run }; unpicked = false }
+
+-- a job that wasn't picked yet runs the plan that is kept
+abbrev pub HasOwnPlan : Progress → Type 0
+HasOwnPlan (Unfinished job plan) = (own : PlanView) → job ≡ Some own → own ≡ plan
+HasOwnPlan (Finished run) = Unit {0}

@@ -1,11 +1,20 @@
 -- What the table of submissions says of a job: a row for each caller, and in it the submission of number n at n - 1.
-use Rattle.std.specs.Prelude.{ℕ, ◌∷◌, [], List, Option, None, slice_index_or}
+use Rattle.std.specs.Prelude.{ℕ, zero, suc, ◌∷◌, [], List, Option, None, Some, slice_index_or}
 use Rattle.resil_rule.specs.declared.event.Id.{Id}
+use Rattle.resil_admission.specs.declared.submission_table.Place.{Place}
+
+-- the index that a place has, which stands before its number; none before 0
+abbrev pub index_before : ℕ → Option ℕ
+index_before zero = None
+index_before (suc index) = Some index
+
+abbrev pub no_place : Place
+no_place = record { behind = 0 }
 
 -- a caller's submissions; a caller without a row has none there
-abbrev pub row_at : List (List (Option ℕ)) → ℕ → List (Option ℕ)
+abbrev pub row_at : List (List Place) → ℕ → List Place
 row_at rows caller = slice_index_or rows caller []
 
 -- the index of the accepted job of an id; there is none of number 0
-abbrev pub place_at : List (List (Option ℕ)) → Id → Option ℕ
-place_at rows id = slice_index_or (None ∷ row_at rows id.caller) id.number None
+abbrev pub place_at : List (List Place) → Id → Option ℕ
+place_at rows id = index_before (slice_index_or (no_place ∷ row_at rows id.caller) id.number no_place).behind

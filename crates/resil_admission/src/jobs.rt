@@ -1,25 +1,27 @@
 //! The accepted jobs of a pool: each with its plan, and with its run where it has one.
 //!
-//! Jobs stay in order of acceptance, so that a run can be compared with the plan that was submitted,
-//! and the results stand in that order. The results of the oldest jobs, none of them after a job that
+//! A job is here until it is picked, and its plan stays. Jobs stay in order of acceptance, so that a run can
+//! be compared with the plan that was submitted, and the results stand in that order. The results of the oldest jobs, none of them after a job that
 //! isn't finished, are rows, which are handed out as they are. The later jobs wait in a queue for their
 //! rows, and the room that they had there is used again. A table tells by the id of a job where it stands,
 //! so a job is never searched for. So a pool that runs for long has one row a job, one entry a submission
 //! in the table, and little more. The room for the rows is reserved with the jobs, so they are given out
 //! without asking for memory.
 
-ghost use Rattle.std.specs.Prelude.{◌≡◌, ◌↔◌, ◌<◌, ◌≤◌, false, ◌++◌, ◌∷◌, [], None, Some, option_map, slice_get, position, IsTrue, IsOk, IfOk, IfErr, OnOk, OnErr};
+ghost use Rattle.std.specs.Prelude.{◌≡◌, ◌↔◌, ◌⊎◌, ◌<◌, ◌≤◌, true, false, ◌++◌, ◌∷◌, [], None, Some, option_map, slice_get, position, IsTrue, IsSome, IsOk, IfOk, IfErr, IfSome, OnOk, OnErr};
 ghost use Rattle.std.specs.List.{list_all};
 ghost use Rattle.std.specs.Option.{is_some};
 ghost use Rattle.resil_decor.specs.Run.{IsValue};
 ghost use Rattle.resil_rule.specs.History.{is_same_id, is_among};
 ghost use Rattle.resil_admission.specs.MachineView.{plan_of, ids_of, with_run, AllDone, AreResultsOf};
+ghost use Rattle.resil_admission.specs.JobsInvariant.{unpicked_in};
 ghost use Rattle.resil_admission.specs.JobsView.{HasPlace};
+ghost use Rattle.resil_rule.specs.declared.event.Id.{Id as IdOf};
 
-use super::kept_job::{KeptJob, Progress};
+use super::kept_job::KeptJob;
 use super::submission_table::SubmissionTable;
 use super::{Id, Row};
-use resil_decor::{Plan, Run, SharedPlan};
+use resil_decor::{Job, Plan, Run, SharedPlan};
 use std::alloc::{AllocError, Global};
 use std::collections::VecDeque;
 use std::marker::Model;
@@ -48,12 +50,13 @@ impl Model for Jobs {
     ghost use Rattle.std.specs.Prelude.{◌-◌, ◌+◌, vec_len, vec_capacity};
     ghost use Rattle.std.specs.VecDeque.{deque_len, deque_capacity};
     ghost use Rattle.resil_admission.specs.JobsView.{JobsView};
-    ghost use Rattle.resil_admission.specs.JobsInvariant.{JobsInvariant, jobs_kept};
+    ghost use Rattle.resil_admission.specs.JobsInvariant.{JobsInvariant, jobs_of, jobs_kept, all_kept};
 
     ghost Value = { JobsView };
 
     ghost view = { λ j. record {
-      jobs = jobs_kept j.rows.items j.later.items;
+      jobs = jobs_kept j.rows.items (jobs_of j.later.items);
+      kept = all_kept j.rows.items j.later.items;
       places = j.places;
       room = deque_capacity j.later - deque_len j.later;
       result_room = vec_capacity j.rows - (vec_len j.rows + deque_len j.later);
@@ -78,6 +81,7 @@ impl Jobs {
     pub(crate) fn reserve_place(&mut self, id: Id) -> Result<(), AllocError>
         ensures has { OnOk result (HasPlace self.new id) }
         ensures jobs { self.new.jobs ≡ self.old.jobs }
+        ensures kept { self.new.kept ≡ self.old.kept }
     {
         self.places.reserve(id)
     }
@@ -86,26 +90,37 @@ impl Jobs {
     pub(crate) fn reserve(&mut self) -> Result<(), AllocError>
         ensures room { OnOk result ((0 < self.new.room) × (0 < self.new.result_room)) }
         ensures jobs { self.new.jobs ≡ self.old.jobs }
+        ensures kept { self.new.kept ≡ self.old.kept }
         ensures places { self.new.places ≡ self.old.places }
     {
         self.rows.reserve(self.later.len().saturating_add(1))?;
         self.later.reserve(1)
     }
 
-    // Keeps one more job, which has no run yet.
-    pub(crate) fn push(&mut self, id: Id, plan: SharedPlan)
+    // Keeps one more job, of this plan, which wasn't picked yet.
+    pub(crate) fn push(&mut self, id: Id, job: Job, plan: SharedPlan)
+        requires plan { job ≡ plan }
         requires room { (0 < self.old.room) × (0 < self.old.result_room) }
         requires place { HasPlace self.old id }
         requires number { 1 ≤ id.number }
         requires new { is_among id (ids_of self.old.jobs) ≡ false }
-        ensures { self.new.jobs ≡ self.old.jobs ++ record { id = id; plan = plan; run = None } ∷ [] }
+        ensures jobs { self.new.jobs ≡ self.old.jobs ++ record { id = id; plan = plan; run = None } ∷ [] }
+        ensures unpicked { (other : IdOf) → (is_same_id other id ≡ true) ⊎ (unpicked_in self.old.kept other ≡ true) → unpicked_in self.new.kept other ≡ true }
     {
         let index = self.rows.len() + self.later.len();
         self.places.set(id, index);
-        self.later.push_back_reserved(KeptJob {
-            id,
-            progress: Progress::Unfinished(plan),
-        });
+        self.later.push_back_reserved(KeptJob::new(id, job, plan));
+    }
+
+    // Hands out the job of an id that wasn't picked yet.
+    pub(crate) fn pick(&mut self, id: Id) -> Option<Job>
+        ensures some { unpicked_in self.old.kept id ≡ true → IsSome result }
+        ensures plan { IfSome result (λ job. plan_of self.old.jobs id ≡ Some job) }
+        ensures jobs { self.new.jobs ≡ self.old.jobs }
+        ensures others { (other : IdOf) → is_same_id other id ≡ false → unpicked_in self.new.kept other ≡ unpicked_in self.old.kept other }
+    {
+        let index = self.places.get(id)?.checked_sub(self.rows.len())?;
+        self.later[index].pick()
     }
 
     // The index of the job of an id, from 0.
@@ -133,7 +148,8 @@ impl Jobs {
         requires index { position (is_same_id id) (ids_of self.old.jobs) ≡ Some index }
         requires plan { plan_of self.old.jobs id ≡ Some run.plan }
         requires value { IsValue run }
-        ensures { self.new.jobs ≡ with_run self.old.jobs id run }
+        ensures jobs { self.new.jobs ≡ with_run self.old.jobs id run }
+        ensures others { (other : IdOf) → is_same_id other id ≡ false → unpicked_in self.new.kept other ≡ unpicked_in self.old.kept other }
     {
         self.keep_run(index, id, run);
         self.make_row();
@@ -145,7 +161,8 @@ impl Jobs {
         requires index { position (is_same_id id) (ids_of self.old.jobs) ≡ Some index }
         requires plan { plan_of self.old.jobs id ≡ Some run.plan }
         requires value { IsValue run }
-        ensures { self.new.jobs ≡ with_run self.old.jobs id run }
+        ensures jobs { self.new.jobs ≡ with_run self.old.jobs id run }
+        ensures others { (other : IdOf) → is_same_id other id ≡ false → unpicked_in self.new.kept other ≡ unpicked_in self.old.kept other }
     {
         let made = self.rows.len();
         if index < made {
@@ -157,7 +174,8 @@ impl Jobs {
 
     // Makes the row of the oldest job without one, where it is finished.
     fn make_row(&mut self)
-        ensures { self.new.jobs ≡ self.old.jobs }
+        ensures jobs { self.new.jobs ≡ self.old.jobs }
+        ensures unpicked { (other : IdOf) → unpicked_in self.new.kept other ≡ unpicked_in self.old.kept other }
     {
         let finished = match self.later.front() {
             Some(job) => job.is_finished(),
@@ -208,7 +226,7 @@ fn set_run(row: &mut Row, run: Run)
 
 // Whether each of these jobs has its run.
 fn all_finished(jobs: &VecDeque<KeptJob>) -> bool
-    ensures { result ≡ list_all (λ job. is_some job.run) jobs.now.items }
+    ensures { result ≡ list_all (λ kept. is_some kept.job.run) jobs.now.items }
 {
     jobs.iter().all(|job| job.is_finished())
 }

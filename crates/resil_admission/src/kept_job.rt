@@ -1,61 +1,89 @@
 //! An accepted job that is kept until its row is made.
 //!
-//! Until it is finished it has its plan, and then its run, which has that plan too.
+//! Until it is picked the job itself is here. It has its plan until it is finished, and then its run, which
+//! has that plan too.
 
-ghost use Rattle.std.specs.Prelude.{◌≡◌, ◌++◌, None, Some, vec_len, vec_capacity, ◌<◌, ◌≤◌, ◌+◌};
+ghost use Rattle.std.specs.Prelude.{◌≡◌, ◌++◌, None, Some, true, false, vec_len, vec_capacity, ◌<◌, ◌≤◌, ◌+◌, IsTrue, if◌then◌else◌};
 ghost use Rattle.std.specs.Option.{is_some};
 ghost use Rattle.resil_admission.specs.JobsInvariant.{result_row};
 
 use super::{Id, Row};
-use resil_decor::{Plan, Run, SharedPlan};
+use resil_decor::{Job, Plan, Run, SharedPlan};
 use std::marker::Model;
 
 /// How far a job is.
 #[derive(Drop)]
 pub(crate) enum Progress {
-    /// Its run hasn't ended: its plan, which it shares with its job.
-    Unfinished(SharedPlan),
+    /// Its run hasn't ended: the job, where it wasn't picked yet, and its plan, which both share.
+    Unfinished { job: Option<Job>, plan: SharedPlan },
     /// Its run, which has its plan.
     Finished(Run),
 }
 
-/// An accepted job: its submission, and its plan or its run.
+/// An accepted job: its submission, and how far it is.
 #[derive(Drop)]
 pub(crate) struct KeptJob {
-    pub(crate) id: Id,
-    pub(crate) progress: Progress,
+    id: Id,
+    progress: Progress,
 }
 
 impl Model for KeptJob {
-    ghost use Rattle.resil_admission.specs.declared.jobs.Accepted.{Accepted};
-    ghost use Rattle.resil_admission.specs.KeptJob.{job_at};
+    ghost use Rattle.resil_admission.specs.KeptJob.{KeptView, HasOwnPlan, kept_at};
 
-    ghost Value = { Accepted };
+    ghost Value = { KeptView };
 
-    ghost view = { λ k. job_at k.id k.progress };
+    ghost view = { λ k. kept_at k.id k.progress };
+
+    ghost invariant = { λ k. HasOwnPlan k.progress };
 }
 
 impl KeptJob {
+    // A job that wasn't picked yet, of this plan.
+    pub(crate) fn new(id: Id, job: Job, plan: SharedPlan) -> KeptJob
+        requires { job ≡ plan }
+        ensures { result ≡ record { job = record { id = id; plan = plan; run = None }; unpicked = true } }
+    {
+        KeptJob {
+            id,
+            progress: Progress::Unfinished {
+                job: Some(job),
+                plan,
+            },
+        }
+    }
+
+    // Hands the job out, where it wasn't picked yet.
+    pub(crate) fn pick(&mut self) -> Option<Job>
+        ensures job { result ≡ (if self.old.unpicked then Some self.old.job.plan else None) }
+        ensures picked { self.new ≡ record self.old { unpicked = false } }
+    {
+        match &mut self.progress {
+            Progress::Unfinished { job, .. } => job.take(),
+            Progress::Finished(_) => None,
+        }
+    }
+
     // Its plan.
     pub(crate) fn plan(&self) -> &Plan
-        ensures { result.now ≡ self.now.plan }
+        ensures { result.now ≡ self.now.job.plan }
     {
         match &self.progress {
-            Progress::Unfinished(plan) => plan.plan(),
+            Progress::Unfinished { plan, .. } => plan.plan(),
             Progress::Finished(run) => run.plan(),
         }
     }
 
     // Whether it has its run.
     pub(crate) fn is_finished(&self) -> bool
-        ensures { result ≡ is_some self.now.run }
+        ensures run { result ≡ is_some self.now.job.run }
+        ensures picked { IsTrue result → self.now.unpicked ≡ false }
     {
         matches!(self.progress, Progress::Finished(_))
     }
 
     // Gives it its run, and the plan of that.
     pub(crate) fn finish(&mut self, run: Run)
-        ensures { self.new ≡ record self.old { plan = run.plan; run = Some run } }
+        ensures { self.new ≡ record { job = record self.old.job { plan = run.plan; run = Some run }; unpicked = false } }
     {
         self.progress = Progress::Finished(run);
     }
@@ -63,7 +91,7 @@ impl KeptJob {
     // Puts its row at the end, where it has its run.
     pub(crate) fn push_row(self, rows: &mut Vec<Row>)
         requires { vec_len rows.old < vec_capacity rows.old }
-        ensures row { rows.new.items ≡ rows.old.items ++ result_row self }
+        ensures row { rows.new.items ≡ rows.old.items ++ result_row self.job }
         ensures len { vec_len rows.new ≤ vec_len rows.old + 1 }
         ensures capacity { vec_capacity rows.new ≡ vec_capacity rows.old }
     {

@@ -36,12 +36,12 @@ use std::marker::Model;
 /// ```
 #[derive(Drop)]
 pub struct Machine {
-    /// The rule, with the jobs that weren't picked yet: the ring of those that wait has the capacity of
-    /// the queue.
-    rule: Rule<Job>,
+    /// The rule, over ids alone: the ring of those that wait has the capacity of the queue.
+    rule: Rule<()>,
     /// All events so far, with room for those that may follow without another submission or resize.
     history: AllEvents,
-    /// Each accepted job in order of acceptance, with its plan, and its run once it is finished.
+    /// Each accepted job in order of acceptance: itself until it is picked, its plan, and its run once it is
+    /// finished.
     jobs: Jobs,
 }
 
@@ -119,8 +119,8 @@ impl Machine {
         };
         let reply = self.rule.next_reply();
         if !is_acceptance(reply) {
-            // The rule hands the job back with its refusal, and both are dropped.
-            let _refused = self.rule.submit(id, job);
+            // It answers what `next_reply` told.
+            let _refused = self.rule.submit(id, ());
             self.history.write(Event::Submit { id, reply });
             return Ok(reply);
         }
@@ -131,9 +131,9 @@ impl Machine {
             return Err((AdmitError::Memory, job));
         };
         // It answers what `next_reply` told.
-        let _accepted = self.rule.submit(id, job);
+        let _accepted = self.rule.submit(id, ());
         self.history.write(Event::Submit { id, reply });
-        self.jobs.push(id, plan);
+        self.jobs.push(id, job, plan);
         Ok(reply)
     }
 
@@ -146,12 +146,14 @@ impl Machine {
         ensures none { IfNone result (HasNoneToPick self.old) }
         ensures unchanged { IfNone result (self.new ≡ self.old) }
     {
-        let Picked { slot, origin, work } = self.rule.pick()?;
+        let Picked { slot, origin, .. } = self.rule.pick()?;
+        // A job that the rule gives wasn't picked before, and so it is kept.
+        let job = self.jobs.pick(slot.id).unwrap();
         match origin {
-            Origin::OwnStart => Some((slot.id, work)),
+            Origin::OwnStart => Some((slot.id, job)),
             Origin::Queue => {
                 self.history.write(Event::Take(slot.id));
-                Some((slot.id, work))
+                Some((slot.id, job))
             }
         }
     }
@@ -373,7 +375,7 @@ fn is_acceptance(reply: Reply) -> bool
 // Makes room for the event of a submission, for those that may follow because of it, and for the place of
 // its job. Errors: memory. It adds neither a job nor an event.
 fn make_room(
-    rule: &mut Rule<Job>,
+    rule: &mut Rule<()>,
     history: &mut AllEvents,
     jobs: &mut Jobs,
     id: Id,
@@ -387,6 +389,7 @@ fn make_room(
     ensures kept { history.new.events ≡ history.old.events }
     ensures room { history.old.room ≤ history.new.room }
     ensures jobs { jobs.new.jobs ≡ jobs.old.jobs }
+    ensures unpicked { jobs.new.kept ≡ jobs.old.kept }
     ensures memory { IfErr result (λ e. e ≡ AdmitError.Memory) }
 {
     history.reserve(rule.owed() + 3)?;

@@ -4,26 +4,58 @@
 //! in it at n - 1: the index of its job among the accepted ones, or nothing where it was refused. So a job
 //! is found by two indices, and never by a search.
 
-ghost use Rattle.std.specs.Prelude.{◌≡◌, ◌≤◌, [], Some, length, OnOk, if◌then◌else◌};
+ghost use Rattle.std.specs.Prelude.{◌≡◌, ◌≤◌, ◌<◌, ◌+◌, [], Some, length, OnOk, if◌then◌else◌};
 ghost use Rattle.resil_rule.specs.declared.event.Id.{Id as IdOf};
 ghost use Rattle.resil_rule.specs.History.{is_same_id};
-ghost use Rattle.resil_admission.specs.SubmissionTable.{row_at, place_at};
+ghost use Rattle.resil_admission.specs.SubmissionTable.{index_before, no_place, row_at, place_at};
 
 use super::Id;
 use std::alloc::{AllocError, Global};
 use std::marker::Model;
 
+/// The index of a job, or none. It is one word, where an `Option<usize>` is two.
+#[derive(Clone, Copy)]
+pub(crate) struct Place {
+    /// One more than the index, or 0 for none.
+    behind: usize,
+}
+
+impl Place {
+    // No index.
+    fn none() -> Place
+        ensures { result ≡ no_place }
+    {
+        Place { behind: 0 }
+    }
+
+    // An index.
+    fn at(index: usize) -> Place
+        requires { index < 18446744073709551615 }
+        ensures { result.behind ≡ index + 1 }
+    {
+        Place { behind: index + 1 }
+    }
+
+    // The index, if there is one.
+    fn index(self) -> Option<usize>
+        ensures { result ≡ index_before self.behind }
+    {
+        self.behind.checked_sub(1)
+    }
+}
+
 /// The table: a vector for each caller, by its number.
 #[derive(Drop)]
 pub(crate) struct SubmissionTable {
     alloc: Global,
-    rows: Vec<Vec<Option<usize>>>,
+    rows: Vec<Vec<Place>>,
 }
 
 impl Model for SubmissionTable {
-    ghost use Rattle.std.specs.Prelude.{ℕ, List, Option, map};
+    ghost use Rattle.std.specs.Prelude.{List, map};
+    ghost use Rattle.resil_admission.specs.declared.submission_table.Place.{Place as PlaceOf};
 
-    ghost Value = { List (List (Option ℕ)) };
+    ghost Value = { List (List PlaceOf) };
 
     ghost view = { λ p. map (λ row. row.items) p.rows.items };
 }
@@ -45,7 +77,7 @@ impl SubmissionTable {
     {
         let row = self.rows.get(id.caller as usize)?;
         let index = id.number.checked_sub(1)?;
-        *row.get(index as usize)?
+        row.get(index as usize)?.index()
     }
 
     // Makes a place for the job of an id, and those before it. Errors: memory. The index that stands for each id stays.
@@ -59,15 +91,15 @@ impl SubmissionTable {
         }
         let row = &mut self.rows[caller];
         let count = row.len().max(id.number as usize);
-        row.resize(count, None)
+        row.resize(count, Place::none())
     }
 
     // Puts the index of a job at the place that was made for its id.
     pub(crate) fn set(&mut self, id: Id, index: usize)
-        requires { (1 ≤ id.number) × (id.number ≤ length (row_at self.old id.caller)) }
+        requires { (1 ≤ id.number) × (id.number ≤ length (row_at self.old id.caller)) × (index < 18446744073709551615) }
         ensures { (other : IdOf) → place_at self.new other ≡ (if is_same_id id other then Some index else place_at self.old other) }
     {
         let row = &mut self.rows[id.caller as usize];
-        row[(id.number - 1) as usize] = Some(index);
+        row[(id.number - 1) as usize] = Place::at(index);
     }
 }

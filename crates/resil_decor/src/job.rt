@@ -66,25 +66,6 @@ impl Job {
         }
     }
 
-    /// One more job of the same plan, which both share. It takes memory for nothing but what its run
-    /// writes.
-    ///
-    /// # Errors
-    ///
-    /// `Memory` where memory runs out.
-    ///
-    /// ```
-    /// let first = Job::new(alloc, Plan::new(chain, script)).map_err(|refused| refused.0)?;
-    /// let second = first.again(alloc)?;
-    /// assert!(rt; first.plan().same(second.plan()));
-    /// ```
-    pub fn again(&self, alloc: Global) -> Result<Job, DecorError>
-        ensures made { IfOk result (λ job. job ≡ self.now) }
-        ensures refused { IfErr result (λ error. error ≡ DecorError.Memory) }
-    {
-        Job::sharing(alloc, &self.plan)
-    }
-
     /// A job of a plan that it shares with its other owners. It takes memory for nothing but what its run writes.
     ///
     /// # Errors

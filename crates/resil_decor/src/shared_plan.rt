@@ -33,8 +33,12 @@ impl Model for SharedPlan {
 }
 
 impl SharedPlan {
-    // A plan with one owner. Errors: the plan, where memory runs out.
-    pub(crate) fn new(alloc: Global, plan: Plan) -> Result<SharedPlan, Plan>
+    /// A plan with one owner.
+    ///
+    /// # Errors
+    ///
+    /// The plan itself, where memory runs out.
+    pub fn new(alloc: Global, plan: Plan) -> Result<SharedPlan, Plan>
         ensures made { IfOk result (λ shared. shared ≡ plan) }
         ensures plan_back { IfErr result (λ back. back ≡ plan) }
     {

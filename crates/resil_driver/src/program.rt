@@ -32,10 +32,14 @@ fn single_output<R: InputReader>(
     ensures failed { R.has_failed reader.new ≡ (R.has_failed reader.old || is_err result) }
 {
     match read_input(alloc, reader) {
-        Ok(Input::Whole(bytes)) => match command_text(alloc, single, &bytes) {
-            Ok(text) => Ok(Output::Text(text)),
-            Err(error) => Ok(error_output(alloc, error)),
-        },
+        Ok(Input::Whole(bytes)) => {
+            let output = match command_text(alloc, single, &bytes) {
+                Ok(text) => Output::Text(text),
+                Err(error) => error_output(alloc, error),
+            };
+            reader.take_back(bytes);
+            Ok(output)
+        }
         Ok(Input::TooLong) => Ok(error_output(alloc, CommandError::Refused(Refusal::TooLong))),
         Err(ReadError::Memory) => Ok(Output::NoMemory),
         Err(ReadError::Reader) => Err(ReadError::Reader),
@@ -55,10 +59,14 @@ fn run_output<R: Threads + Wait + Sync, S: InputReader>(
     ensures failed { S.has_failed reader.new ≡ (S.has_failed reader.old || is_err result) }
 {
     match read_input(alloc, reader) {
-        Ok(Input::Whole(bytes)) => match run::text(&ThreadRunner, rt, alloc, words, &bytes) {
-            Ok(text) => Ok(Output::Text(text)),
-            Err(error) => Ok(error_output(alloc, error)),
-        },
+        Ok(Input::Whole(bytes)) => {
+            let output = match run::text(&ThreadRunner, rt, alloc, words, &bytes) {
+                Ok(text) => Output::Text(text),
+                Err(error) => error_output(alloc, error),
+            };
+            reader.take_back(bytes);
+            Ok(output)
+        }
         Ok(Input::TooLong) => Ok(error_output(alloc, CommandError::Refused(Refusal::TooLong))),
         Err(ReadError::Memory) => Ok(Output::NoMemory),
         Err(ReadError::Reader) => Err(ReadError::Reader),

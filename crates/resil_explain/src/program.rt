@@ -11,7 +11,7 @@ pub use resil_input::output::{Output, write_output};
 #[macro_export]
 macro_rules! start {
     ($rt:expr, |$words:ident, $reader:ident, $writer:ident| $drive:expr, $say:path) => {{
-        let mut reader = $crate::KeptInput::new($rt.alloc(), $crate::FailureTracking::new($rt.reader()));
+        let mut reader = $crate::KeptInput::new($crate::FailureTracking::new($rt.reader()));
         let mut writer = $crate::KeptFront::new($crate::FailureTracking::new(std::io::writer($rt)));
         match $crate::own_words($rt) {
             Ok(owned) => match $crate::borrowed($rt.alloc(), &owned) {

@@ -49,6 +49,12 @@ pub trait InputReader {
         ensures within { IfOk result (λ count. count ≤ length space.new) }
         ensures bytes { ReadConsumes (remaining self.old) (remaining self.new) result space.new }
         ensures failed { has_failed self.new ≡ (has_failed self.old || is_err result) };
+
+    /// Is handed the whole input back once it is answered, where it was no longer than the limit: one that says
+    /// more of it keeps it, another drops it.
+    fn take_back(&mut self, input: Vec<u8>)
+        ensures bytes { remaining self.new ≡ remaining self.old }
+        ensures failed { has_failed self.new ≡ has_failed self.old };
 }
 
 /// What an output is written to.
@@ -140,6 +146,8 @@ impl<R: Read> InputReader for FailureTracking<R> {
         self.failed = true;
         Err(ReadFailure)
     }
+
+    fn take_back(&mut self, _input: Vec<u8>) {}
 }
 
 impl<W: Write> OutputWriter for FailureTracking<W> {

@@ -1,46 +1,31 @@
-//! A reader and a writer that hand on what another one reads and writes, and keep some of it.
+//! A reader and a writer that hand on what another one reads and writes, and keep the input and the front of the output.
 
 ghost use Rattle.std.specs.Prelude.{◌≡◌};
 ghost use Rattle.resil_input.specs.Kept.{reader_of, writer_of};
 
 use crate::io::{InputReader, OutputWriter, ReadFailure, WriteError};
-use std::alloc::Global;
 
 // How many bytes of an output are kept: more than the line of a refusal has.
 const FRONT_LEN: usize = 64;
 
-/// A reader that keeps what it read, which is a mebibyte and a byte at most where `read_input` reads it.
+/// A reader that keeps the input that it is handed back.
 #[derive(Drop)]
 pub struct KeptInput<R> {
     inner: R,
-    kept: Vec<u8>,
-    is_whole: bool,
+    kept: Option<Vec<u8>>,
 }
 
 impl<R> KeptInput<R> {
     /// Reads from this reader.
-    pub fn new(alloc: Global, inner: R) -> KeptInput<R>
+    pub fn new(inner: R) -> KeptInput<R>
         ensures { reader_of result ≡ inner }
     {
-        KeptInput {
-            inner,
-            kept: Vec::new(alloc),
-            is_whole: true,
-        }
+        KeptInput { inner, kept: None }
     }
 
-    /// What was read, or `None` where there was no memory to keep it.
+    /// The whole input, or `None` where it wasn't handed back: nothing was asked of it, it was too long, or a read failed.
     pub fn input(&self) -> Option<&[u8]> {
-        self.is_whole.then_some(self.kept.as_slice())
-    }
-
-    // Keeps what was read, where there is memory for it.
-    fn keep(&mut self, read: &[u8])
-        ensures { reader_of self.new ≡ reader_of self.old }
-    {
-        if self.is_whole && self.kept.extend_from_slice(read).is_err() {
-            self.is_whole = false;
-        }
+        self.kept.as_ref().map(|input| input.as_slice())
     }
 }
 
@@ -50,11 +35,11 @@ impl<R: InputReader> InputReader for KeptInput<R> {
     ghost has_failed = { λ s. R.has_failed (reader_of s) };
 
     fn read(&mut self, space: &mut [u8]) -> Result<usize, ReadFailure> {
-        let read = self.inner.read(space);
-        if let Ok(count) = read {
-            self.keep(&space[..count]);
-        }
-        read
+        self.inner.read(space)
+    }
+
+    fn take_back(&mut self, input: Vec<u8>) {
+        self.kept = Some(input);
     }
 }
 

@@ -81,7 +81,13 @@ fn output_for<R: InputReader>(
         return Ok(Output::Usage);
     };
     match read_input(alloc, reader) {
-        Ok(input) => Ok(view_output(alloc, view, &input)),
+        Ok(input) => {
+            let output = view_output(alloc, view, &input);
+            if let Input::Whole(bytes) = input {
+                reader.take_back(bytes);
+            }
+            Ok(output)
+        }
         Err(ReadError::Memory) => Ok(Output::NoMemory),
         Err(ReadError::Reader) => Err(ReadError::Reader),
     }

@@ -134,8 +134,9 @@ fn has_plan_and_run(job: Job, same: &Plan, permitter: &mut Listed) -> bool {
 // The same of a second job with its plan, and with a permitter that says no twice and then yes.
 fn is_job(alloc: Global, job: &Job, same: &Plan) -> Result<bool, DecorError> {
     let mut permitter = at_last!(listed(alloc, &[false, false, true]), DecorError::Memory)?;
-    match at_last!(job.again(alloc), DecorError::Memory) {
-        Ok(again) => Ok(has_plan_and_run(again, same, &mut permitter)),
+    let plan = job.shared_plan()?;
+    match at_last!(Job::sharing(alloc, &plan), DecorError::Memory) {
+        Ok(second) => Ok(has_plan_and_run(second, same, &mut permitter)),
         Err(error) => Err(error),
     }
 }

@@ -12,8 +12,7 @@ use Rattle.std.proofs.lemmas.Option.{slice_get_past}
 use Rattle.resil_decor.specs.Plan.{PlanView}
 use Rattle.resil_decor.specs.Run.{RunView}
 use Rattle.resil_rule.specs.History.{started, started_id, taken, finished, unfinished, running, is_among, is_same_id}
-use Rattle.resil_admission.specs.MachineInvariant.{HavePlans}
-use Rattle.resil_admission.specs.MachineView.{MachineView, with_event, with_submission, with_finish, newly_accepted, jobs_in_flight, next_started, plan_of, IsPicked, HasNoneToPick, IsFinishRefusal}
+use Rattle.resil_admission.specs.MachineView.{MachineView, with_event, with_submission, with_finish, with_run, newly_accepted, jobs_in_flight, next_started, plan_of, IsPicked, HasNoneToPick, IsFinishRefusal}
 use Rattle.resil_rule.specs.declared.error.AdmitError.{AdmitError}
 use Rattle.resil_rule.specs.declared.error.AdmitError.TheVariants as admit
 use Rattle.resil_rule.specs.declared.event.Id.{Id}
@@ -23,8 +22,21 @@ use Rattle.resil_rule.specs.declared.event.Event.TheVariants as event
 use Rattle.resil_admission.specs.declared.jobs.Accepted.{Accepted}
 use Rattle.resil_rule.specs.Admission.{IsAllowed}
 use Rattle.resil_rule.proofs.IdLaws.{among-unfinished, same_id-equal}
-use Rattle.resil_admission.proofs.JobLaws.{plans-grow, plans-with_run, plans-push}
-use Rattle.resil_replay.specs.Pool.{ids_in_flight, IsRemoved, ReplayPoolInvariant}
+use Rattle.resil_admission.proofs.JobLaws.{plan_of-grows, plan_of-with_run}
+use Rattle.resil_replay.specs.Pool.{ids_in_flight, IsRemoved, HavePlans, ReplayPoolInvariant}
+
+-- jobs keep their plans, with more jobs, with runs, and with one more of them
+pub plans-grow : (jobs more : List Accepted) (line : List (Id × PlanView)) → HavePlans jobs line → HavePlans (jobs ++ more) line
+plans-grow jobs more [] have = tt
+plans-grow jobs more (job ∷ line) have = (plan_of-grows jobs more job.0 job.1 have.0, plans-grow jobs more line have.1)
+
+plans-with_run : (jobs : List Accepted) (id : Id) (run : RunView) (line : List (Id × PlanView)) → HavePlans jobs line → HavePlans (with_run jobs id run) line
+plans-with_run jobs id run [] have = tt
+plans-with_run jobs id run (job ∷ line) have = (plan_of-with_run jobs id run job.0 ∙ have.0, plans-with_run jobs id run line have.1)
+
+plans-push : (jobs : List Accepted) (line : List (Id × PlanView)) (id : Id) (plan : PlanView) → HavePlans jobs line → plan_of jobs id ≡ Some plan → HavePlans jobs (line ++ (id, plan) ∷ [])
+plans-push jobs [] id plan have known = (known, tt)
+plans-push jobs (job ∷ line) id plan have known = (have.0, plans-push jobs line id plan have.1 known)
 
 -- whether an event starts or takes the job of an id
 abbrev is_new : Event → Id → Bool

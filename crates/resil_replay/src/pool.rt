@@ -15,7 +15,7 @@ ghost use Rattle.resil_replay.specs.declared.rows.ReplayRow.{ReplayRow};
 
 use crate::rows::ReplayRow;
 use resil_admission::{AdmitError, Id, Limits, Machine, Reply};
-use resil_decor::{Chain, Job, Listed, Plan};
+use resil_decor::{Chain, Job, Listed, Plan, SharedPlan};
 use resil_heads::RowRefusal;
 use resil_retry::{Outcome, Script};
 use std::alloc::{AllocError, Global};
@@ -30,13 +30,13 @@ pub(crate) enum RowError {
     Refused(RowRefusal),
 }
 
-/// A machine, the jobs that were picked and haven't finished, the job that all share their plan with, which is never run, and
-/// a permitter that grants nothing, for jobs that have no bulkheads.
+/// A machine, the jobs that were picked and haven't finished, the plan that all jobs share, and a permitter
+/// that grants nothing, for jobs that have no bulkheads.
 #[derive(Drop)]
 pub(crate) struct ReplayPool {
     machine: Machine,
     out: Vec<(Id, Job)>,
-    first: Job,
+    plan: SharedPlan,
     no_bulkheads: Listed,
 }
 
@@ -63,13 +63,13 @@ impl ReplayPool {
     {
         let chain = Chain::new(Vec::new(alloc)).map_err(|_| AllocError)?;
         let plan = Plan::new(chain, Script::one(Outcome::Value(0)));
-        let first = Job::new(alloc, plan).map_err(|_| AllocError)?;
+        let plan = SharedPlan::new(alloc, plan).map_err(|_| AllocError)?;
         let no_bulkheads = Listed::new(alloc, Vec::new(alloc)).map_err(|_| AllocError)?;
         let machine = Machine::new(alloc, limits).map_err(|_| AllocError)?;
         Ok(ReplayPool {
             machine,
             out: Vec::new(alloc),
-            first,
+            plan,
             no_bulkheads,
         })
     }
@@ -87,7 +87,7 @@ impl ReplayPool {
         if self.out.reserve(1).is_err() {
             return Err(RowError::Memory);
         }
-        let Ok(job) = self.first.again(alloc) else {
+        let Ok(job) = Job::sharing(alloc, &self.plan) else {
             return Err(RowError::Memory);
         };
         match self.machine.submit(alloc, id, job) {
@@ -190,7 +190,7 @@ impl ReplayPool {
         let ReplayPool {
             machine,
             out: _,
-            first: _,
+            plan: _,
             no_bulkheads: _,
         } = self;
         machine

@@ -1,36 +1,68 @@
-use Rattle.std.proofs.Common.{◌≡◌, ◌+◌, ◌∷◌, [], ◌++◌, ◌∙◌, ℕ, List, Option, Some, None, false, cond, length, map, sym, ap, refl, arith, length-append}
-use Rattle.std.proofs.lemmas.Grind.{common_steps}
+use Rattle.std.proofs.Common.{◌≡◌, ◌+◌, ◌∷◌, [], ◌++◌, ◌∙◌, inl, inr, ℕ, List, Option, Some, None, true, false, cond, length, map, sym, ap, subst, refl, arith, length-append}
 use Rattle.std.specs.List.{position}
-use Rattle.std.proofs.lemmas.List.{map-append, length-map}
+use Rattle.std.proofs.lemmas.List.{append_assoc, map-append, length-map}
 use Rattle.resil_rule.specs.History.{is_same_id, is_among}
+use Rattle.resil_rule.specs.declared.event.Id.{Id}
+use Rattle.resil_rule.proofs.IdLaws.{same_id-equal}
 use Rattle.resil_admission.specs.MachineView.{ids_of}
 use Rattle.resil_admission.specs.SubmissionTable.{place_at}
-use Rattle.resil_admission.specs.JobsInvariant.{jobs_kept, job_of_row}
-use Rattle.resil_admission.proofs.JobLaws.{kept-push, runs-push, position-last}
+use Rattle.resil_admission.specs.KeptJob.{KeptView}
+use Rattle.resil_admission.specs.JobsInvariant.{jobs_of, jobs_kept, job_of_row, kept_row, all_kept, unpicked_in}
+use Rattle.resil_admission.proofs.JobLaws.{jobs-kept, kept-push, runs-push, position-last, unpicked-push, unpicked-new}
 use Rattle.resil_admission.specs.declared.jobs.Accepted.{Accepted}
+use Rattle.resil_admission.specs.declared.row.Row.{Row}
 use Rattle.resil_admission.proofs.jobs.Jobs.push.Goals as goal
+
+-- the jobs that have no row yet, and the new one behind them
+module _ (c : goal.After-push_back_reserved) where
+  abbrev rows : List Row
+  rows = c.self.inside.rows.items
+
+  abbrev later : List KeptView
+  later = c.self.inside.later.items
+
+  abbrev job : Accepted
+  job = record { id = c.args.id; plan = c.args.plan; run = None }
+
+  abbrev one : KeptView
+  one = record { job = job; unpicked = true }
+
+  pushed : c.push_back_reserved.new.self.items ≡ later ++ one ∷ []
+  pushed = c.push_back_reserved.ensures.items ∙ ap (λ k. later ++ k ∷ []) c.new.ensures
+
+  jobs : jobs_kept rows (jobs_of c.push_back_reserved.new.self.items) ≡ jobs_kept rows (jobs_of later) ++ job ∷ []
+  jobs = ap (λ later. jobs_kept rows (jobs_of later)) pushed ∙ ap (jobs_kept rows) (map-append (λ k. k.job) later (one ∷ [])) ∙ kept-push rows (jobs_of later) job
+
+  new : is_among c.args.id (ids_of (jobs_kept rows (jobs_of later))) ≡ false
+  new = rw (← c.self.view_is) at c.requires.new
 
 pub invariant_of-self : goal.invariant_of-self
 invariant_of-self c =
     let kept = c.self.invariant in
     let room = rw (← c.self.view_is) at c.requires.room.1 in
-    let rows = c.self.inside.rows.items in
-    let later = c.self.inside.later.items in
-    let job : Accepted = record { id = c.args.id; plan = c.args.plan; run = None } in
-    let ids = ids_of (jobs_kept rows later) in
-    let new : is_among c.args.id ids ≡ false = rw (← c.self.view_is) at c.requires.new in
-    let long : length ids ≡ length rows + length later = length-map (jobs_kept rows later) (λ job. job.id) ∙ length-append (map job_of_row rows) later ∙ ap (λ (n : ℕ). n + length later) (length-map rows job_of_row) in
+    let made = rows c in
+    let old = jobs_kept made (jobs_of (later c)) in
+    let ids = ids_of old in
+    let long : length ids ≡ length made + length (later c) = length-map old (λ job. job.id) ∙ length-append (map job_of_row made) (jobs_of (later c)) ∙ omega (arith, length-map made job_of_row, length-map (later c) (λ k. k.job)) in
     let index : c.len.result + c.len-2.result ≡ length ids = omega (arith, long, c.len.ensures, c.len-2.ensures, c.self.inside.rows.ok, c.self.inside.later.ok) in
-    let grown : ids_of (jobs_kept rows (later ++ job ∷ [])) ≡ ids ++ c.args.id ∷ [] = ap ids_of (kept-push rows later job) ∙ map-append (λ job. job.id) (jobs_kept rows later) (job ∷ []) in
+    let grown : ids_of (jobs_kept made (jobs_of c.push_back_reserved.new.self.items)) ≡ ids ++ c.args.id ∷ [] = ap ids_of (jobs c) ∙ map-append (λ job. job.id) old (job c ∷ []) in
     record {
-      own_runs = rw (c.push_back_reserved.ensures.items, kept-push) (runs-push _ _ kept.own_runs refl);
-      room = omega (arith, ap length c.push_back_reserved.ensures.items, length-append {A = Accepted}, room, kept.room, c.self.inside.later.ok);
+      own_runs = rw (jobs c) (runs-push _ _ kept.own_runs refl);
+      room = omega (arith, ap length (pushed c), length-append {A = KeptView}, room, kept.room, c.self.inside.later.ok);
       places = λ x.
           c.set.ensures x
           ∙ ap (λ (n : ℕ). cond (is_same_id c.args.id x) (Some n) (place_at c.self.inside.places x)) index
           ∙ ap (λ (rest : Option ℕ). cond (is_same_id c.args.id x) (Some (length ids)) rest) (kept.places x)
-          ∙ sym (ap (λ (jobs : List Accepted). position (is_same_id x) (ids_of (jobs_kept rows jobs))) c.push_back_reserved.ensures.items ∙ ap (position (is_same_id x)) grown ∙ position-last c.args.id x ids new);
+          ∙ sym (ap (position (is_same_id x)) grown ∙ position-last c.args.id x ids (new c));
     }
 
-pub returns : goal.returns
-returns c = grind (arith, common_steps)
+pub returns-clause-unpicked : goal.returns-clause-unpicked
+returns-clause-unpicked c other =
+    let made = all_kept (rows c) (later c) in
+    let whole : all_kept (rows c) c.push_back_reserved.new.self.items ≡ made ++ one c ∷ [] = ap (all_kept (rows c)) (pushed c) ∙ sym (append_assoc (map kept_row (rows c)) (later c) (one c ∷ [])) in
+    λ told. ap (λ kept. unpicked_in kept other) whole ∙ elim told [
+      | inl same ↦
+          let fresh : is_among other (ids_of (jobs_of made)) ≡ false = ap (λ jobs. is_among other (ids_of jobs)) (jobs-kept (rows c) (later c)) ∙ ap (λ id. is_among id (ids_of (jobs_kept (rows c) (jobs_of (later c))))) (same_id-equal other c.args.id same) ∙ new c in
+          unpicked-new made (one c) other same fresh
+      | inr before ↦ unpicked-push made (one c ∷ []) other (rw (← c.self.view_is) at before)
+    ]

@@ -1,4 +1,5 @@
-use Rattle.std.proofs.Common.{◌≡◌, ◌++◌, ◌∷◌, [], ◌∙◌, ℕ, Some, sym, ap, subst, refl, arith}
+use Rattle.std.proofs.Common.{◌≡◌, ◌≤◌, ◌++◌, ◌∷◌, [], ◌∙◌, ℕ, Some, true, false, sym, ap, subst, refl, arith}
+use Rattle.resil_rule.specs.History.{is_same_id}
 use Rattle.resil_rule.specs.RuleView.{owed, with_finish}
 use Rattle.resil_rule.specs.RuleState.{Follows}
 use Rattle.resil_rule.specs.declared.event.Id.{Id}
@@ -7,8 +8,10 @@ use Rattle.resil_rule.proofs.OwedLaws.{finish-owes}
 use Rattle.resil_rule.proofs.RefusalLaws.{out-are}
 use Rattle.resil_rule.proofs.UnpickedLaws.{accepted-same}
 use Rattle.resil_admission.specs.MachineView.{ids_of, with_run}
-use Rattle.resil_admission.proofs.JobLaws.{ids-with_run, plans-with_run, plan_of-known, plan-at, nowhere}
-use Rattle.resil_admission.proofs.MachineLaws.{machine-after, seen, quiet-picked, nothing, is-nothing, found-at, found-out, found-known}
+use Rattle.resil_admission.specs.JobsInvariant.{unpicked_in}
+use Rattle.resil_admission.specs.MachineInvariant.{times_unpicked}
+use Rattle.resil_admission.proofs.JobLaws.{ids-with_run, plan_of-known, plan-at, nowhere}
+use Rattle.resil_admission.proofs.MachineLaws.{machine-after, out-picked, seen, quiet-picked, nothing, is-nothing, found-at, found-out, found-known}
 use Rattle.resil_admission.proofs.machine.Machine.end_run.Goals as goal
 
 pub returns-in_default-clause-refused : goal.returns-in_default-clause-refused
@@ -59,11 +62,12 @@ invariant_of-self c =
     let rule = rw yes at c.finish.ensures.event in
     let follows = subst (λ (id : Id). Follows v (Finish id) (with_finish v slot)) c.in-Some.ensures.found.0 (rw (yes, rule) at c.finish.ensures.follows) in
     let room = c.write.ensures.room (owed (with_finish v slot)) (omega (arith, finish-owes v (with_finish v slot) slot (found-at c.self.inside.rule c.self.inside.history.events c.self.invariant.state c.in-Some.slot c.args.id c.in-Some.ensures.found) refl, kept.room)) in
-    let ran = c.record_run.ensures in
+    let ran = c.record_run.ensures.jobs in
+    let others : (x : Id) → 1 ≤ times_unpicked v x → unpicked_in c.record_run.new.self.kept x ≡ true = λ x some.
+    let other = subst (λ (id : Id). is_same_id x id ≡ false) c.in-Some.ensures.found.0 (out-picked v h kept.state slot (found-at v h kept.state slot id c.in-Some.ensures.found) x some) in
+    c.record_run.ensures.others x other ∙ kept.unpicked x some in
     rw rule (machine-after h (Finish id) (with_finish v slot) c.write.new.self c.record_run.new.self (follows h kept.state).1 (c.write.ensures.written h refl) room
-    (ap ids_of ran ∙ ids-with_run jobs id c.args.run ∙ kept.accepted ∙ sym (accepted-same h (Finish id) refl))
-    (rw ran (plans-with_run jobs id c.args.run v.unpicked kept.unpicked_plans))
-    (rw ran (plans-with_run jobs id c.args.run v.waiting kept.queue_plans)))
+    (ap ids_of ran ∙ ids-with_run jobs id c.args.run ∙ kept.accepted ∙ sym (accepted-same h (Finish id) refl)) others)
 
 pub returns-clause-out : goal.returns-clause-out
 returns-clause-out c =
@@ -77,5 +81,5 @@ returns-clause-event c =
     let id = c.args.id in
     let yes = c.finish.ensures.out.1 (found-at c.self.inside.rule c.self.inside.history.events c.self.invariant.state c.in-Some.slot c.args.id c.in-Some.ensures.found) in
     let rule = rw yes at c.finish.ensures.event in
-    rw (← c.self.view_is, rule, c.write.ensures.written h refl, c.record_run.ensures)
+    rw (← c.self.view_is, rule, c.write.ensures.written h refl, c.record_run.ensures.jobs)
     (ap (λ (n : ℕ). record (seen v (h ++ Finish id ∷ []) (with_run c.self.inside.jobs.jobs id c.args.run)) { picked = n }) (quiet-picked h (Finish id) v.unpicked refl))

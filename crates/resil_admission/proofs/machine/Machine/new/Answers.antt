@@ -1,5 +1,4 @@
 use Rattle.std.proofs.Common.{◌≡◌, [], List, length, sym, ap, subst, refl, arith}
-use Rattle.resil_decor.specs.Plan.{PlanView}
 use Rattle.resil_rule.specs.Slots.{ids_out}
 use Rattle.resil_rule.specs.RuleView.{owed, opened}
 use Rattle.resil_rule.specs.RuleState.{IsStateOf}
@@ -11,13 +10,12 @@ pub invariant_of-result : goal.invariant_of-result
 invariant_of-result c =
     let opening : c.in_ok-new.field-0 ≡ opened c.args.limits 0 = c.in_ok-new.ensures.opened in
     let empty : c.reserve.new.self.events ≡ [] = c.reserve.ensures.kept [] (ap (λ all. all.events) c.new-history.ensures) in
-    let none : length (ids_out (opened {W = PlanView} c.args.limits 0).out) ≡ 0 = ap length (none-out c.args.limits.max) in
-    let one : owed {W = PlanView} (opened c.args.limits 0) ≡ 1 = omega (arith, none) in
+    let none : length (ids_out (opened {W = Unit {0}} c.args.limits 0).out) ≡ 0 = ap length (none-out c.args.limits.max) in
+    let one : owed {W = Unit {0}} (opened c.args.limits 0) ≡ 1 = omega (arith, none) in
     let jobs = c.new-2.ensures in
     rw opening (record {
-      state = subst (λ (history : List Event). IsStateOf history (opened {W = PlanView} c.args.limits 0)) (sym empty) (rw opening at c.in_ok-new.ensures.history);
+      state = subst (λ (history : List Event). IsStateOf history (opened {W = Unit {0}} c.args.limits 0)) (sym empty) (rw opening at c.in_ok-new.ensures.history);
       room = omega (arith, one, c.in_ok-reserve.ensures.room);
       accepted = rw (jobs, empty) refl;
-      unpicked_plans = tt;
-      queue_plans = tt;
+      unpicked = λ id some. absurd (omega (arith, some));
     })

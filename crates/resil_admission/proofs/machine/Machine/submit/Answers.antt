@@ -1,8 +1,8 @@
-use Rattle.std.proofs.Common.{◌≡◌, ◌+◌, ◌++◌, ◌∷◌, [], ◌∙◌, suc, List, None, true, false, sym, ap, subst, refl, arith}
-use Rattle.resil_decor.specs.Plan.{PlanView}
+use Rattle.std.proofs.Common.{inl, inr, ◌≡◌, ◌≤◌, ◌+◌, ◌++◌, ◌∷◌, [], ◌∙◌, suc, List, None, true, false, sym, ap, subst, refl, arith}
 use Rattle.resil_rule.specs.History.{is_among}
 use Rattle.resil_rule.specs.RuleView.{RuleView, made_by, next_reply, is_acceptance, counted, with_submission, owed}
 use Rattle.resil_rule.specs.RuleState.{IsStateOf, Follows}
+use Rattle.resil_rule.specs.declared.event.Id.{Id}
 use Rattle.resil_rule.specs.declared.event.Event.{Event}
 use Rattle.resil_rule.specs.declared.event.Event.TheVariants.{Submit}
 use Rattle.resil_rule.specs.declared.event.Reply.{Reply}
@@ -11,15 +11,16 @@ use Rattle.resil_rule.proofs.OwedLaws.{submission-owes}
 use Rattle.resil_rule.proofs.RuleLaws.{next-is}
 use Rattle.resil_rule.proofs.RefusalLaws.{submission-follows, submission-accepted, submission-refused}
 use Rattle.resil_admission.specs.MachineView.{MachineView, ids_of, with_submission as machine_submission}
-use Rattle.resil_admission.specs.MachineInvariant.{HavePlans}
+use Rattle.resil_admission.specs.JobsInvariant.{unpicked_in}
+use Rattle.resil_admission.specs.MachineInvariant.{times_unpicked}
 use Rattle.resil_admission.specs.declared.jobs.Accepted.{Accepted}
-use Rattle.resil_admission.proofs.MachineLaws.{machine-after, seen, plans-submitted, accepted-after, refused-after, refused-view, accepted-view}
+use Rattle.resil_admission.proofs.MachineLaws.{machine-after, seen, unpicked-submitted, accepted-after, refused-after, refused-view, accepted-view}
 use Rattle.resil_admission.proofs.machine.Machine.submit.Goals.{After-next_reply-reply}
 use Rattle.resil_admission.proofs.machine.Machine.submit.Goals as goal
 
 -- once there is room: the rule, which is as before but for room, the history, and the event to come
 module _ (c : After-next_reply-reply) where
-  abbrev v : RuleView PlanView
+  abbrev v : RuleView (Unit {0})
   v = c.make_room.new.rule
 
   abbrev h : List Event
@@ -41,16 +42,13 @@ module _ (c : After-next_reply-reply) where
   new = ap (is_among c.args.id) c.self.invariant.accepted ∙ next-fresh v.limits h c.args.id state.legal (next-is v h state c.args.id next c.in-Ok.ensures.caller)
 
   view : seen v h jobs ≡ seen c.self.inside.rule h jobs
-  view = ap (λ (v : RuleView PlanView). seen v h jobs) c.make_room.ensures.rule
+  view = ap (λ (v : RuleView (Unit {0})). seen v h jobs) c.make_room.ensures.rule
 
-  first : HavePlans jobs v.unpicked
-  first = subst (HavePlans jobs) (ap (λ (v : RuleView PlanView). v.unpicked) (sym c.make_room.ensures.rule)) c.self.invariant.unpicked_plans
-
-  later : HavePlans jobs v.waiting
-  later = subst (HavePlans jobs) (ap (λ (v : RuleView PlanView). v.waiting) (sym c.make_room.ensures.rule)) c.self.invariant.queue_plans
+  unpicked : (x : Id) → 1 ≤ times_unpicked v x → unpicked_in c.make_room.new.jobs.kept x ≡ true
+  unpicked = rw (c.make_room.ensures.rule, c.make_room.ensures.unpicked) c.self.invariant.unpicked
 
 -- a submission that is refused counts alone
-module _ (c : goal.Joined-refused) where
+module _ (c : goal.Joined-job) where
   abbrev ready : After-next_reply-reply
   ready = (goal.at.returns-then-not-is_acceptance-clause-event c).After-next_reply-reply
 
@@ -60,39 +58,39 @@ module _ (c : goal.Joined-refused) where
   refused : c.submit-refused.new.self ≡ counted (v ready) c.args.id
   refused =
       let told = c.submit-refused.ensures in
-      submission-refused (v ready) c.submit-refused.new.self c.args.id c.args.job c.in-Ok.ensures.caller (next ready) c.submit-refused.result told.accepted told.follows told.refused bars
+      submission-refused (v ready) c.submit-refused.new.self c.args.id tt c.in-Ok.ensures.caller (next ready) c.submit-refused.result told.accepted told.follows told.refused bars
 
   refused-follows : Follows (v ready) (event ready) (counted (v ready) c.args.id)
   refused-follows =
       let told = c.submit-refused.ensures in
-      rw refused at (submission-follows (v ready) c.submit-refused.new.self c.args.id c.args.job c.in-Ok.ensures.caller (next ready) c.submit-refused.result told.accepted told.follows told.refused)
+      rw refused at (submission-follows (v ready) c.submit-refused.new.self c.args.id tt c.in-Ok.ensures.caller (next ready) c.submit-refused.result told.accepted told.follows told.refused)
 
   refused-events : c.write.new.self.events ≡ h ready ++ event ready ∷ []
   refused-events = c.write.ensures.written (h ready) c.make_room.ensures.kept ∙ ap (λ (reply : Reply). h ready ++ Submit c.args.id reply ∷ []) c.next_reply-reply.ensures.rule_of_admission
 
 -- a submission that is accepted has its worker or its place in the queue, and its job is kept
-module _ (c : goal.Joined-accepted) where
+module _ (c : goal.After-push) where
   abbrev room : After-next_reply-reply
   room = (goal.at.returns-clause-event c).After-next_reply-reply
 
   accepts : is_acceptance (next_reply (v room)) ≡ true
   accepts = ap is_acceptance (sym c.next_reply-reply.ensures.rule_of_admission) ∙ sym c.is_acceptance.ensures ∙ c.if-not-is_acceptance.false
 
-  accepted : c.submit-accepted.new.self ≡ with_submission (v room) c.args.id c.args.job (next_reply (v room))
+  accepted : c.submit-accepted.new.self ≡ with_submission (v room) c.args.id tt (next_reply (v room))
   accepted =
       let told = c.submit-accepted.ensures in
-      submission-accepted (v room) c.submit-accepted.new.self c.args.id c.args.job c.in-Ok.ensures.caller (next room) c.submit-accepted.result told.accepted told.follows told.refused accepts
+      submission-accepted (v room) c.submit-accepted.new.self c.args.id tt c.in-Ok.ensures.caller (next room) c.submit-accepted.result told.accepted told.follows told.refused accepts
 
-  accepted-follows : Follows (v room) (event room) (with_submission (v room) c.args.id c.args.job (next_reply (v room)))
+  accepted-follows : Follows (v room) (event room) (with_submission (v room) c.args.id tt (next_reply (v room)))
   accepted-follows =
       let told = c.submit-accepted.ensures in
-      rw accepted at (submission-follows (v room) c.submit-accepted.new.self c.args.id c.args.job c.in-Ok.ensures.caller (next room) c.submit-accepted.result told.accepted told.follows told.refused)
+      rw accepted at (submission-follows (v room) c.submit-accepted.new.self c.args.id tt c.in-Ok.ensures.caller (next room) c.submit-accepted.result told.accepted told.follows told.refused)
 
   accepted-events : c.write-2.new.self.events ≡ h room ++ event room ∷ []
   accepted-events = c.write-2.ensures.written (h room) c.make_room.ensures.kept ∙ ap (λ (reply : Reply). h room ++ Submit c.args.id reply ∷ []) c.next_reply-reply.ensures.rule_of_admission
 
   kept : c.push.new.self.jobs ≡ jobs room ++ record { id = c.args.id; plan = c.args.job; run = None } ∷ []
-  kept = rw (c.reserve.ensures.jobs, c.make_room.ensures.jobs, c.in-Ok-shared_plan.ensures.shared) at c.push.ensures
+  kept = rw (c.reserve.ensures.jobs, c.make_room.ensures.jobs, c.in-Ok-shared_plan.ensures.shared) at c.push.ensures.jobs
 
 pub push-requires-clause-new : goal.push-requires-clause-new
 push-requires-clause-new c = rw (c.reserve.ensures.jobs, c.make_room.ensures.jobs) (new (goal.at.push-requires-clause-new c).After-next_reply-reply)
@@ -103,7 +101,7 @@ invariant_of-self-then-not-is_acceptance c =
     let fits = c.write.ensures.room (owed (v at)) (omega (arith, c.in-Ok.ensures.events)) in
     rw (refused c) (machine-after (h at) (event at) (counted (v at) c.args.id) c.write.new.self c.make_room.new.jobs (refused-follows c (h at) (state at)).1 (refused-events c) fits
     (ap ids_of c.make_room.ensures.jobs ∙ c.self.invariant.accepted ∙ sym (refused-after (h at) c.args.id (next_reply (v at)) (bars c)))
-    (rw c.make_room.ensures.jobs (first at)) (rw c.make_room.ensures.jobs (later at)))
+    (unpicked at))
 
 pub returns-then-not-is_acceptance-clause-event : goal.returns-then-not-is_acceptance-clause-event
 returns-then-not-is_acceptance-clause-event c =
@@ -115,11 +113,13 @@ pub invariant_of-self-2 : goal.invariant_of-self-2
 invariant_of-self-2 c =
     let at = room c in
     let reply = next_reply (v at) in
-    let most = submission-owes (v at) c.args.id c.args.job reply in
+    let most = submission-owes (v at) c.args.id tt reply in
     let fits = c.write-2.ensures.room (owed (v at) + 2) (omega (arith, c.in-Ok.ensures.events)) in
-    let plans = plans-submitted (v at) (jobs at) c.args.id c.args.job reply (accepts c) (first at) (later at) (new at) in
-    rw (accepted c) (machine-after (h at) (event at) (with_submission (v at) c.args.id c.args.job reply) c.write-2.new.self c.push.new.self (accepted-follows c (h at) (state at)).1 (accepted-events c) (omega (arith, most, fits))
-    (ap ids_of (kept c) ∙ accepted-after (h at) (jobs at) c.args.id c.args.job reply (accepts c) c.self.invariant.accepted) (rw (kept c) plans.0) (rw (kept c) plans.1))
+    let old = rw (← c.reserve.ensures.kept) at (unpicked at) in
+    let waits : (x : Id) → 1 ≤ times_unpicked (with_submission (v at) c.args.id tt reply) x → unpicked_in c.push.new.self.kept x ≡ true = λ x some.
+    c.push.ensures.unpicked x (elim (unpicked-submitted (v at) c.args.id tt reply x some) [ inl same ↦ inl same | inr before ↦ inr (old x before) ]) in
+    rw (accepted c) (machine-after (h at) (event at) (with_submission (v at) c.args.id tt reply) c.write-2.new.self c.push.new.self (accepted-follows c (h at) (state at)).1 (accepted-events c) (omega (arith, most, fits))
+    (ap ids_of (kept c) ∙ accepted-after (h at) (jobs at) c.args.id c.args.job reply (accepts c) c.self.invariant.accepted) waits)
 
 pub returns-clause-event : goal.returns-clause-event
 returns-clause-event c =

@@ -1,14 +1,15 @@
-use Rattle.std.proofs.Common.{◌≡◌, ◌-◌, ◌<◌, ◌≤◌, ◌∙◌, ℕ, Option, Some, List, [], cond, map, set, length, sym, ap, arith}
+use Rattle.std.proofs.Common.{◌≡◌, ◌-◌, ◌<◌, ◌≤◌, ◌+◌, ◌∙◌, ℕ, Option, Some, List, [], cond, map, set, length, sym, ap, arith}
 use Rattle.std.proofs.lemmas.Grind.{common_steps}
 use Rattle.std.proofs.lemmas.List.{get_or-map, map-set}
 use Rattle.resil_rule.specs.declared.event.Id.{Id}
+use Rattle.resil_admission.specs.declared.submission_table.Place.{Place}
 use Rattle.resil_rule.specs.History.{is_same_id}
 use Rattle.resil_admission.specs.SubmissionTable.{row_at, place_at}
 use Rattle.resil_admission.proofs.submission_table.SubmissionTable.set.Goals as goal
 
-placed : (table : List (List (Option ℕ))) (id : Id) (index : ℕ) → 1 ≤ id.number → id.number ≤ length (row_at table id.caller) → (other : Id)
-    → place_at (set table id.caller (set (row_at table id.caller) (id.number - 1) (Some index))) other ≡ cond (is_same_id id other) (Some index) (place_at table other)
-placed table id index low within other = grind (arith, common_steps)
+placed : (table : List (List Place)) (id : Id) (place : Place) (index : ℕ) → place.behind ≡ index + 1 → 1 ≤ id.number → id.number ≤ length (row_at table id.caller) → (other : Id)
+    → place_at (set table id.caller (set (row_at table id.caller) (id.number - 1) place)) other ≡ cond (is_same_id id other) (Some index) (place_at table other)
+placed table id place index is low within other = grind (arith, common_steps, is)
 
 pub returns : goal.returns
 returns c other =
@@ -17,4 +18,4 @@ returns c other =
     let kept = rw (← c.self.view_is) at c.requires in
     let inside : c.args.id.caller < length rows = grind (arith, common_steps, kept) in
     let same : row.items ≡ row_at (map (λ row. row.items) rows) c.args.id.caller = ap (λ row. row.items) c.index_mut-row.ensures.value ∙ sym (get_or-map (λ row. row.items) rows c.args.id.caller row [] inside) in
-    rw (← c.self.view_is, map-set, same) (placed (map (λ row. row.items) rows) c.args.id c.args.index kept.0 kept.1 other)
+    rw (← c.self.view_is, map-set, same) (placed (map (λ row. row.items) rows) c.args.id c.at.result c.args.index c.at.ensures kept.0 kept.1 other)

@@ -2,8 +2,7 @@ use Rattle.std.proofs.Common.{◌≡◌, ◌∷◌, [], inl, refl, rules}
 use Rattle.resil_admission.specs.MachineView.{with_submission, newly_accepted}
 use Rattle.resil_rule.specs.History.{started}
 use Rattle.resil_rule.specs.declared.event.Event.TheVariants.{Submit}
-use Rattle.resil_admission.proofs.JobLaws.{plans-grow}
-use Rattle.resil_replay.proofs.PoolLaws.{kept-same, next-submitted, picked-submitted, submitted-kept, found}
+use Rattle.resil_replay.proofs.PoolLaws.{plans-grow, kept-same, next-submitted, picked-submitted, submitted-kept, found}
 use Rattle.resil_replay.proofs.pool.ReplayPool.submit.Goals as goal
 
 pub unwrap-picked-requires : goal.unwrap-picked-requires
