@@ -114,7 +114,10 @@ impl ReplayPool {
         let Some(job) = remove_job(&mut self.out, id) else {
             return Err(RowError::Refused(RowRefusal::NotOut));
         };
-        match self.machine.finish(id, job.run(&mut self.no_bulkheads)) {
+        match self
+            .machine
+            .finish_picked(id, job.run(&mut self.no_bulkheads))
+        {
             Ok(()) => Ok(()),
             Err(_) => Err(RowError::Refused(RowRefusal::NotOut)),
         }
