@@ -4,14 +4,14 @@ use Rattle.std.specs.Prelude.{count_by}
 use Rattle.std.proofs.lemmas.List.Sums.{sum_by-append}
 use Rattle.resil_permit.specs.declared.event.PermitEvent.{PermitEvent}
 use Rattle.resil_permit.specs.declared.event.PermitEvent.TheVariants.{Took, Retired}
-use Rattle.resil_permit.specs.History.{is_taking, is_giving, is_retiring, is_raising, events_of_seat, taken_count, retired_count, raised_count, let_go_count, holders, in_use_count, free_count, IsLegal}
+use Rattle.resil_permit.specs.History.{is_taking, is_giving, is_retiring, is_raising, events_of_seat, taken_count, retired_count, raised_count, let_go_count, holders, in_use_count, free_count}
 use Rattle.resil_permit.specs.Knowledge.{SeesMore, SeesOwn}
 use Rattle.resil_permit.specs.Steps.{PassSeat, AfterAcquireLoad, AfterAcquireExchange}
 use Rattle.atomic_table.specs.Table.{Step}
 use Rattle.resil_permit.specs.Passes.{Source, PassView}
 use Rattle.resil_permit.specs.TryAcquire.{FreeChanged}
 use Rattle.resil_permit.proofs.Histories.{copies_of_within}
-use Rattle.resil_permit.proofs.Tallies.{retirees, counted, retired_counted, in_use, within}
+use Rattle.resil_permit.proofs.Tallies.{retirees, tallied}
 use Rattle.resil_permit.proofs.Log.Prefixes.{prefix_self, prefix_trans, prefix_length}
 use Rattle.resil_permit.proofs.Log.Seats.{sees_more_trans, sees_own_trans}
 
@@ -46,25 +46,12 @@ counts-more max number seen new e there a kind = ap (count_by kind) a.more_own �
 -- a pass that took one more holds no more than there are
 pub room : (max number held : ℕ) (seen new : List PermitEvent) (there : List PermitEvent → Type 0) → SeesOwn max number seen (Took number) there new → held + let_go_count number seen ≡ taken_count number seen → held + 1 ≤ max
 room max number held seen new there a is =
-    let taken = counts-more max number seen new (Took number) there a is_taking in
-    let given = counts-more max number seen new (Took number) there a is_giving in
-    let retired = counts-more max number seen new (Took number) there a is_retiring in
-    let all = counted max new a.legal number in
-    let most = copies_of_within number (holders new) in
-    let least = within max new a.legal in
-    let in_all = in_use max new a.legal in omega arith
+    let more = counts-more max number seen new (Took number) there a in
+    let all = tallied max new a.legal in omega (arith, more is_taking, more is_giving, more is_retiring, copies_of_within number (holders new))
 
 -- a pass that retired one more has retired no more than there are
 pub fits_one_retired : (m m' : PassSeat) (retired : ℕ) (there : List PermitEvent → Type 0) → SeesOwn m.0.max m.0.number m.0.seen (Retired m.0.number) there m'.0.seen
     → retired + raised_count m.0.number m.0.seen ≡ retired_count m.0.number m.0.seen → retired + 1 ≤ m.0.max
 fits_one_retired m m' retired there a is =
-    let number = m.0.number in
-    let more = counts-more m.0.max number m.0.seen m'.0.seen (Retired number) there a is_retiring in
-    let raised = counts-more m.0.max number m.0.seen m'.0.seen (Retired number) there a is_raising in
-    let all = retired_counted m.0.max m'.0.seen a.legal number in
-    let most = copies_of_within number (retirees m'.0.seen) in
-    let in_all = in_use m.0.max m'.0.seen a.legal in omega arith
-
--- no more are free than there are
-pub fits_free : (max found : ℕ) (seen : List PermitEvent) → IsLegal max seen → found + length (holders seen) ≡ in_use_count max seen → found ≤ max
-fits_free max found seen legal free = let in_all = in_use max seen legal in omega arith
+    let more = counts-more m.0.max m.0.number m.0.seen m'.0.seen (Retired m.0.number) there a in
+    let all = tallied m.0.max m'.0.seen a.legal in omega (arith, more is_retiring, more is_raising, copies_of_within m.0.number (retirees m'.0.seen))

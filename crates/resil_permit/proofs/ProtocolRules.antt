@@ -13,7 +13,6 @@ use Rattle.resil_permit.specs.Log.Seats.{IsSeenWhole}
 use Rattle.resil_permit.specs.Rule.{view_of, IsLive, FitsPassPhase, Fits, PermitWordInvariant}
 use Rattle.resil_permit.specs.Steps.{PassSeat, IsSame}
 use Rattle.resil_permit.proofs.Histories.{events_of_seat-append, events_of_other, holders-push, IsLegal-push}
-use Rattle.resil_permit.proofs.Tallies.{in_use_after, in_use_count-push}
 use Rattle.resil_permit.proofs.Log.Prefixes.{prefix_self, prefix_trans}
 use Rattle.resil_permit.proofs.Log.Seats.{live_later, joining_later, live_whole, seen_here, log_moves}
 
@@ -53,7 +52,7 @@ module _ (max n place : ℕ) (words : List ℕ) (views : List View) (k : PermitW
   -- a step after which the view at the place is w, the word is n and the log is `now`
   unfoldable pub moved : (w : View) (now : List PermitEvent) → IsPrefix k.log now → IsLegal max now → n + length (holders now) ≡ in_use_count max now → ((j : ℕ) → j ≢ place → events_of_seat j now ≡ events_of_seat j k.log) → Fits max now place w
       → IsSeenWhole (λ (u : View). u.seen) now (set views place w) → PermitWordInvariant max (set words 0 n) (set views place w)
-  moved w now more legal counts others mine long = let one_word = k.one_word in record {
+  moved w now more legal counts others mine long = record {
     log = now;
     few = k.few;
     one_word = length-set words 0 n ∙ k.one_word;
@@ -62,12 +61,12 @@ module _ (max n place : ℕ) (words : List ℕ) (views : List View) (k : PermitW
   }
 
   -- a step that adds an event of its pass
-  unfoldable pub added : (e : PermitEvent) → seat_of e ≡ place → IsAllowed max k.log e → n + length (holders_after (holders k.log) e) ≡ in_use_after (in_use_count max k.log) e
+  unfoldable pub added : (e : PermitEvent) → seat_of e ≡ place → IsAllowed max k.log e → n + length (holders_after (holders k.log) e) ≡ in_use_count max (k.log ++ e ∷ [])
       → PermitWordInvariant max (set words 0 n) (set views place (view_of place max (k.log ++ e ∷ []) Idle))
   added e is may counts =
       let now = k.log ++ e ∷ [] in
       let w = view_of place max now Idle in
-      moved w now (e ∷ [], refl) (IsLegal-push max k.log e k.shared.legal may) (ap (λ (multiset : List ℕ). n + length multiset) (holders-push k.log e) ∙ (counts ∙ sym (in_use_count-push max k.log e k.shared.legal)))
+      moved w now (e ∷ [], refl) (IsLegal-push max k.log e k.shared.legal may) (ap (λ (multiset : List ℕ). n + length multiset) (holders-push k.log e) ∙ counts)
       (λ j apart. events_of_seat-append j k.log (e ∷ []) ∙ (ap (λ (es : List PermitEvent). events_of_seat j k.log ++ es) (events_of_other j e [] (λ same. apart (sym same ∙ is))) ∙ append-nil (events_of_seat j k.log)))
       (live_whole now refl refl)
       (seen_here views place v w at refl)

@@ -24,7 +24,7 @@ use Rattle.resil_permit.specs.Steps.{PassSeat, AfterPlainLoad, AfterAcquireLoad,
 use Rattle.resil_permit.proofs.Machines.{shown_refused, shown_loaded, shown_took, shown_lost, after_shown-is}
 use Rattle.resil_permit.proofs.RunningMachines.{stands_still, stands_moved}
 use Rattle.resil_permit.proofs.Histories.{IsLegal-push}
-use Rattle.resil_permit.proofs.Tallies.{holder, in_use, in_use_after}
+use Rattle.resil_permit.proofs.Tallies.{one_more, tallied}
 use Rattle.resil_permit.proofs.Log.Prefixes.{prefix_self, filter_none}
 use Rattle.resil_permit.proofs.Log.Places.{place_within}
 use Rattle.resil_permit.proofs.Log.Seats.{live_whole, joins_live, sees_more, sees_whole, sees_own, seen_still, log_opens, log_enters, log_splits, log_joins}
@@ -94,7 +94,6 @@ loading max slots id me idle = record {
       let n : ℕ = get_or s.words 0 0 in
       let m = machine_of k.log s in
       let can = stood s id me.0 Idle at idle in
-      let count = k.counts in
       dite (ℕ_discrete n 0)
       (λ zero.
       let full : length (holders k.log) ≡ in_use_count max k.log = omega arith in
@@ -102,7 +101,7 @@ loading max slots id me idle = record {
       let w = view_of id max now Idle in (
         (can, tt),
         w,
-        added max n id s.words s.views k me.0 at (Refused id) refl full k.counts,
+        added max n id s.words s.views k me.0 at (Refused id) refl full (omega (arith, one_more)),
         record {
           same = same max id k.log me live now Idle;
           refused = λ _. (refl, sees_own IsLegal live (λ i. Refused i) (λ limit before. length (holders before) ≡ in_use_count limit before) (eq-eqb id id refl) (IsLegal-push max k.log (Refused id) k.shared.legal full) full);
@@ -133,23 +132,20 @@ exchanging max slots id me old new loaded less = record {
   goes = λ s k at.
       let fits : FitsPassPhase max k.log id me.0 (Loaded old) = subst (FitsPassPhase max k.log id me.0) loaded (k.shared.each id me.0 at) in
       let live = fits.live in
-      let free = fits.free in
       let n : ℕ = get_or s.words 0 0 in
       let m = machine_of k.log s in
-      let count = k.counts in
       let at_old = stood s id me.0 (Loaded old) at loaded in
       let becomes : ℕ → Type 0 = λ left. Goes max s k id me left (AfterAcquireExchange (step slots 0 old new none) me n) (Exchange id ∷ []) in
       dite (ℕ_discrete n old)
       (λ hit.
       let room : length (holders k.log) < in_use_count max k.log = omega arith in
-      let left : new + length (id ∷ holders k.log) ≡ in_use_count max k.log = omega arith in
       let fewer : new ≡ n - 1 = omega arith in
       let now = k.log ++ Took id ∷ [] in
       let w = view_of id max now Idle in
       subst (λ b. becomes (either b new n)) (sym (eq-eqb n old hit)) (
         ((old, at_old), tt),
         w,
-        added max new id s.words s.views k me.0 at (Took id) refl room left,
+        added max new id s.words s.views k me.0 at (Took id) refl room (omega (arith, one_more)),
         record {
           same = same max id k.log me live now Idle;
           idle = refl;
@@ -181,7 +177,7 @@ writing : (max slots more id : ℕ) (me : PassSeat) → me.0.phase ≡ Idle → 
     → ((m : Machine) → after_step m next ≡ record { word = after m.word; callers = m.callers; events = m.events ++ event id ∷ [] })
     → ((s : Table) (k : Rule max s) → IsLive max k.log id me.0 → state_at (get_elem? s.views id) ≡ caller.Idle
     → CanMake (machine_of k.log s) next × IsAllowed max k.log (event id) × ((get_or s.words 0 0 + more) % 2 ^ 64 ≡ after (get_or s.words 0 0))
-    × (after (get_or s.words 0 0) + length (holders_after (holders k.log) (event id)) ≡ in_use_after (in_use_count max k.log) (event id)))
+    × (after (get_or s.words 0 0) + length (holders_after (holders k.log) (event id)) ≡ in_use_count max (k.log ++ event id ∷ [])))
     → Advances max id me (λ n. (n + more) % 2 ^ 64) (AfterAdd event (step slots 0 more 0 none) me) (next ∷ [])
 unfolding added moved
 writing max slots more id me idle event is own next after does may = record {
@@ -204,45 +200,26 @@ writing max slots more id me idle event is own next after does may = record {
       );
 }
 
--- a pass that holds a permit by what it has seen holds one by the log
-holds_in_log : (max id : ℕ) (s : Table) (k : Rule max s) (v : View) → IsLive max k.log id v → let_go_count v.number v.seen < taken_count v.number v.seen → let_go_count id k.log < taken_count id k.log
-holds_in_log max id s k v live holds =
-    let mine = counts_of_live max id k.log v live in
-    let t = mine.taken in
-    let g = mine.given in
-    let r = mine.retired in omega arith
-
 pub giving : (max slots id : ℕ) (me : PassSeat) → me.0.phase ≡ Idle → let_go_count me.0.number me.0.seen < taken_count me.0.number me.0.seen
     → Advances max id me (λ n. (n + 1) % 2 ^ 64) (AfterAdd Gave (step slots 0 1 0 none) me) (Add id ∷ [])
 giving max slots id me idle holds = writing max slots 1 id me idle Gave refl (eq-eqb id id refl) (Add id) (λ n. n + 1) (λ m. refl)
     (λ s k live stands.
-    let has = holds_in_log max id s k me.0 live holds in
-    let one = holder max k.log k.shared.legal id has in
-    let count = k.counts in
-    let few = k.few in
-    let in_all = in_use max k.log k.shared.legal in ((stands, has), one.0, omega arith, omega arith))
+    let mine = counts_of_live max id k.log me.0 live in
+    let all = tallied max k.log k.shared.legal in ((stands, omega arith), omega arith, omega arith, omega (arith, one_more)))
 
 pub retiring : (max slots id : ℕ) (me : PassSeat) → me.0.phase ≡ Idle → let_go_count me.0.number me.0.seen < taken_count me.0.number me.0.seen
     → Advances max id me (λ n. (n + 0) % 2 ^ 64) (AfterAdd Retired (step slots 0 0 0 none) me) (Retire id ∷ [])
 retiring max slots id me idle holds = writing max slots 0 id me idle Retired refl (eq-eqb id id refl) (Retire id) (λ n. n) (λ m. refl)
     (λ s k live stands.
-    let has = holds_in_log max id s k me.0 live holds in
-    let one = holder max k.log k.shared.legal id has in
-    let count = k.counts in
-    let few = k.few in
-    let in_all = in_use max k.log k.shared.legal in ((stands, has), one.0, omega arith, omega arith))
+    let mine = counts_of_live max id k.log me.0 live in
+    let all = tallied max k.log k.shared.legal in ((stands, omega arith), omega arith, omega arith, omega (arith, one_more)))
 
 pub raising : (max slots id : ℕ) (me : PassSeat) → me.0.phase ≡ Idle → raised_count me.0.number me.0.seen < retired_count me.0.number me.0.seen
     → Advances max id me (λ n. (n + 1) % 2 ^ 64) (AfterAdd Raised (step slots 0 1 0 none) me) (Raise id ∷ [])
 raising max slots id me idle has = writing max slots 1 id me idle Raised refl (eq-eqb id id refl) (Raise id) (λ n. n + 1) (λ m. refl)
     (λ s k live stands.
     let mine = counts_of_live max id k.log me.0 live in
-    let r = mine.retired in
-    let u = mine.raised in
-    let may : raised_count id k.log < retired_count id k.log = omega arith in
-    let count = k.counts in
-    let few = k.few in
-    let in_all = in_use max k.log k.shared.legal in ((stands, may), may, omega arith, omega arith))
+    let all = tallied max k.log k.shared.legal in ((stands, omega arith), omega arith, omega arith, omega (arith, one_more)))
 
 pub numbering : (max slots id : ℕ) (me : PassSeat) → me.0.phase ≡ Splitting → Advances max id me (λ n. n) (AfterNumberSeat (step slots 0 0 0 none) me) []
 unfolding moved
@@ -265,7 +242,6 @@ numbering max slots id me new = record {
 unfoldable pub splits : (max id : ℕ) (v : View) → v.phase ≡ Idle → Splits (Rule max) id v v (splitting_view v)
 splits max id v idle s k at =
     let live = live_at max s.words s.views k id v at idle in
-    let numbered = live.numbered in
     let inside = place_within s.views id v at in
     let last : IsSplitting max k.log (length s.views) (splitting_view v) = record {
       unnumbered = λ same. absurd (omega (arith, same));
@@ -283,10 +259,6 @@ joins max id v other u idle idle' even clear s k at apart there =
     let live = live_at max s.words s.views k id v at idle in
     let live' = live_at max s.words s.views k other u there' idle' in
     let theirs = counts_of_live max other k.log u live' in
-    let t = theirs.taken in
-    let g = theirs.given in
-    let r = theirs.retired in
-    let w = theirs.raised in
     record {
       log = k.log;
       few = k.few;

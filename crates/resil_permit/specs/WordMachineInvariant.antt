@@ -23,8 +23,7 @@ fresh_caller = record { state = Idle; held = 0; retired = 0 }
 -- a caller has loaded what the machine says, holds what it took and has neither given back nor retired, and has retired what it has not raised again
 pub record Matches (m : Machine) (c : ℕ) (caller : Caller) : Type 0 where
   pub state : caller.state ≡ m.callers c
-  pub held : caller.held + let_go_count c m.events ≡ taken_count c m.events
-  pub retired : caller.retired + raised_count c m.events ≡ retired_count c m.events
+  pub counts : (caller.held + let_go_count c m.events ≡ taken_count c m.events) × (caller.retired + raised_count c m.events ≡ retired_count c m.events)
 
 -- the running machine stands where the machine stands
 pub record Follows (max : ℕ) (m : Machine) (word : ℕ) (callers : List Caller) : Type 0 where

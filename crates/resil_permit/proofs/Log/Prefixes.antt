@@ -57,9 +57,7 @@ module _ {E : Type 0} (p : E → Bool) where
 
   -- where the filter keeps nothing of a list, it keeps nothing of a prefix
   pub filter_none : (xs ys : List E) → IsPrefix xs ys → filter p ys ≡ [] → filter p xs ≡ []
-  filter_none xs ys q none =
-      let l : length (filter p ys) ≡ 0 = ap length none in
-      let same = prefix_whole (filter p xs) (filter p ys) (filter_prefix xs ys q) (omega arith) in same ∙ none
+  filter_none xs ys q none = filter_between [] xs ys (xs, refl) q (sym none) ∙ none
 
   pub filter_push : (xs : List E) (e : E) → p e ≡ true → filter p (xs ++ e ∷ []) ≡ filter p xs ++ e ∷ []
   filter_push xs e is = filter-append p xs (e ∷ []) ∙ ap (λ b. filter p xs ++ cond b (e ∷ []) []) is

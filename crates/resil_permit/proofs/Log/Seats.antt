@@ -9,7 +9,7 @@ use Rattle.atomic_table.proofs.Lists.{at_set, set_here, set_else, at_longer}
 use Rattle.resil_permit.specs.Log.Seen.{SeesMore, SeesOwn, longer_of}
 use Rattle.resil_permit.specs.Log.Seats.{IsLive, IsJoining, IsSeenWhole, IsLogOf}
 use Rattle.resil_permit.proofs.Log.Prefixes.{prefix_self, prefix_push, prefix_trans, prefix_shorter, longer_of_cases, longer_of_whole, filter_between, filter_push}
-use Rattle.resil_permit.proofs.Log.Places.{place_within, one_at, at_end, at_joined}
+use Rattle.resil_permit.proofs.Log.Places.{place_within, one_at, at_end}
 
 module _ {E K : Type 0} {is_own : ℕ → E → Bool} {key : K} {index number : ℕ} {known : K} where
   -- a log that grew, with no event of this seat, keeps what was known of it
@@ -87,29 +87,27 @@ module _ {E V : Type 0} {seen : V → List E} {log : List E} (views : List V) wh
   pub seen_here : (index : ℕ) (v w : V) → get_elem? views index ≡ some v → seen w ≡ log → IsSeenWhole seen log (set views index w)
   seen_here index v w at all = record { index = index; seat = w; there = set_here views index w (place_within views index v at); whole = all }
 
-  -- the seat of the step has seen what it had seen
-  pub seen_still : (index : ℕ) (v w : V) → get_elem? views index ≡ some v → seen w ≡ seen v → IsSeenWhole seen log views → IsSeenWhole seen log (set views index w)
-  seen_still index v w at same long =
+  -- where the seat of the step had seen all, it still has
+  seen_on : (index : ℕ) (v w : V) → get_elem? views index ≡ some v → (seen v ≡ log → seen w ≡ log) → IsSeenWhole seen log views
+      → IsSeenWhole seen log (set views index w)
+  seen_on index v w at still long =
       dite (ℕ_discrete long.index index)
-      (λ is. seen_here index v w at (same ∙ (ap seen (one_at views index long.index v long.seat at long.there is) ∙ long.whole)))
+      (λ is. seen_here index v w at (still (ap seen (one_at views index long.index v long.seat at long.there is) ∙ long.whole)))
       (λ not. record { index = long.index; seat = long.seat; there = set_else views index long.index w not ∙ long.there; whole = long.whole })
 
-  -- one seat takes in what another had seen
-  pub seen_joined : (index other : ℕ) (v u both spent : V) → get_elem? views index ≡ some v → get_elem? views other ≡ some u → other ≢ index
-      → IsPrefix (seen v) log → IsPrefix (seen u) log → seen both ≡ longer_of (seen v) (seen u) → IsSeenWhole seen log views → IsSeenWhole seen log (set (set views index both) other spent)
-  seen_joined index other v u both spent at there apart begins begins' is long =
-      let views' = set views index both in
-      let whole : (seen v ≡ log) ⊎ (seen u ≡ log) → IsSeenWhole seen log (set views' other spent) = λ (one : (seen v ≡ log) ⊎ (seen u ≡ log)). record {
-        index = index;
-        seat = both;
-        there = set_else views' other index spent (λ e. apart (sym e)) ∙ set_here views index both (place_within views index v at);
-        whole = is ∙ longer_of_whole (seen v) (seen u) log begins begins' one;
-      } in
-      dite (ℕ_discrete long.index index)
-      (λ here. whole (inl (ap seen (one_at views index long.index v long.seat at long.there here) ∙ long.whole)))
-      (λ not. dite (ℕ_discrete long.index other)
-      (λ here. whole (inr (ap seen (one_at views other long.index u long.seat there long.there here) ∙ long.whole)))
-      (λ not'. record { index = long.index; seat = long.seat; there = set_else views' other long.index spent not' ∙ (set_else views index long.index both not ∙ long.there); whole = long.whole }))
+  -- the seat of the step has seen what it had seen
+  pub seen_still : (index : ℕ) (v w : V) → get_elem? views index ≡ some v → seen w ≡ seen v → IsSeenWhole seen log views → IsSeenWhole seen log (set views index w)
+  seen_still index v w at same = seen_on index v w at (λ all. same ∙ all)
+
+  -- a seat is spent that another has taken in
+  seen_spent : (index other : ℕ) (both u spent : V) → get_elem? views index ≡ some both → get_elem? views other ≡ some u → index ≢ other
+      → (seen u ≡ log → seen both ≡ log) → IsSeenWhole seen log views → IsSeenWhole seen log (set views other spent)
+  seen_spent index other both u spent at there apart whole long =
+      dite (ℕ_discrete long.index other)
+      (λ is.
+      let all = whole (ap seen (one_at views other long.index u long.seat there long.there is) ∙ long.whole) in
+      record { index = index; seat = both; there = set_else views other index spent apart ∙ at; whole = all })
+      (λ not. record { index = long.index; seat = long.seat; there = set_else views other long.index spent not ∙ long.there; whole = long.whole })
 
 module _ {E V : Type 0} {seen : V → List E} {IsLegal : List E → Type 0} {is_own : ℕ → E → Bool} where
   -- at the start there is one seat and no event
@@ -169,14 +167,10 @@ module _ {E V : Type 0} {seen : V → List E} {IsLegal : List E → Type 0} {is_
   pub log_joins : {Fits : ℕ → V → Type 0} {log : List E} {views : List V} → IsLogOf seen IsLegal is_own Fits log views → (index other : ℕ) (v u both spent : V) → get_elem? views index ≡ some v → get_elem? views other ≡ some u
       → other ≢ index → IsPrefix (seen v) log → IsPrefix (seen u) log → seen both ≡ longer_of (seen v) (seen u) → Fits index both → Fits other spent → IsLogOf seen IsLegal is_own Fits log (set (set views index both) other spent)
   log_joins {Fits} {log} {views} k index other v u both spent at there apart begins begins' is mine theirs =
-      let lengths : length (set (set views index both) other spent) ≡ length views = length-set (set views index both) other spent ∙ length-set views index both in record {
-        legal = k.legal;
-        longest = seen_joined views index other v u both spent at there apart begins begins' is k.longest;
-        each = λ j y e.
-            ⊎_elim
-            (λ (t : (j ≡ other) × (spent ≡ y)). subst (λ (z : ℕ × V). Fits z.0 z.1) (λ i. (sym t.0 i, t.1 i)) theirs)
-            (λ (t : ((j ≡ index) × (both ≡ y)) ⊎ (get_elem? views j ≡ some y)).
-            ⊎_elim (λ (r : (j ≡ index) × (both ≡ y)). subst (λ (z : ℕ × V). Fits z.0 z.1) (λ i. (sym r.0 i, r.1 i)) mine) (λ (r : get_elem? views j ≡ some y). k.each j y r) t)
-            (at_joined views index other j both spent y e);
-        no_others = λ j le. k.no_others j (omega arith);
-      }
+      let whole = λ (one : (seen v ≡ log) ⊎ (seen u ≡ log)). is ∙ longer_of_whole (seen v) (seen u) log begins begins' one in
+      let here = set_here views index both (place_within views index v at) in
+      let there' = set_else views index other both apart ∙ there in
+      let long = seen_on views index v both at (λ all. whole (inl all)) k.longest in
+      let took = log_moves k log Fits index v both at k.legal (λ j apart. refl) mine (λ j y apart e fits. fits) long in
+      log_moves took log Fits other u spent there' k.legal (λ j apart. refl) theirs (λ j y apart e fits. fits)
+      (seen_spent (set views index both) index other both u spent here there' (λ e. apart (sym e)) (λ all. whole (inr all)) long)

@@ -7,9 +7,7 @@ use Rattle.resil_permit.proofs.permits.Permits.join.Goals as goal
 
 pub join_seat-requires : goal.join_seat-requires
 join_seat-requires c =
-    let words = c.self.invariant.1 in
-    let free = subst (λ (k : PassView). held_by k ≡ 0) (sym c.from.view_is) c.requires.held in
-    let none = subst (λ (k : PassView). retired_by k ≡ 0) (sym c.from.view_is) c.requires.retired in (
+    let none = subst (λ (k : PassView). (held_by k ≡ 0) × (retired_by k ≡ 0)) (sym c.from.view_is) (c.requires.held, c.requires.retired) in (
       same_table _ _ _ _ c.into.view_is c.requires.source.0 c.self.view_is,
       same_table _ _ _ _ c.from.view_is c.requires.source.1 c.self.view_is,
       c.from.invariant.no_slot,
@@ -19,9 +17,6 @@ join_seat-requires c =
 
 pub load-requires : goal.load-requires
 load-requires c =
-    let words = c.self.invariant.1 in
-    let made = c.join_seat.ensures in (
-      made.0 ∙ same_table _ _ _ _ c.into.view_is c.requires.source.0 c.self.view_is,
-      omega arith,
-      allows _ (ending_join _ _ _ _ _ _ _ (ap (λ m. m.0.phase) made.2)),
-    )
+    let made = c.join_seat.ensures in
+    let table = made.0 ∙ same_table _ _ _ _ c.into.view_is c.requires.source.0 c.self.view_is in
+    (table, omega arith, allows _ (ending_join _ _ _ _ _ _ _ (ap (λ m. m.0.phase) made.2)))

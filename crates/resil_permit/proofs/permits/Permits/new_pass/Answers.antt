@@ -4,4 +4,4 @@ use Rattle.resil_permit.proofs.ProtocolSteps.{enters}
 use Rattle.resil_permit.proofs.permits.Permits.new_pass.Goals as goal
 
 pub load_new_seat-seat-requires : goal.load_new_seat-seat-requires
-load_new_seat-seat-requires c = let words = c.self.invariant.1 in (omega arith, enters _ _)
+load_new_seat-seat-requires c = (omega arith, enters _ _)

@@ -7,9 +7,5 @@ use Rattle.resil_permit.proofs.permits.Permits.release_without_wake.Goals as goa
 
 pub fetch_add-requires : goal.fetch_add-requires
 fetch_add-requires c =
-    let words = c.self.invariant.1 in
-    let holds = subst (λ (k : PassView). 0 < held_by k) (sym c.pass.view_is) c.requires.held in (
-      same_table _ _ _ _ c.pass.view_is c.requires.source c.self.view_is,
-      omega arith,
-      allows _ (giving _ _ _ _ c.pass.invariant.idle (omega arith)),
-    )
+    let holds = subst (λ (k : PassView). 0 < held_by k) (sym c.pass.view_is) c.requires.held in
+    (same_table _ _ _ _ c.pass.view_is c.requires.source c.self.view_is, omega arith, allows _ (giving _ _ _ _ c.pass.invariant.idle (omega arith)))

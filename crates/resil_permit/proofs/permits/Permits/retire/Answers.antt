@@ -7,15 +7,9 @@ use Rattle.resil_permit.proofs.permits.Permits.retire.Goals as goal
 
 pub fetch_add-requires : goal.fetch_add-requires
 fetch_add-requires c =
-    let words = c.self.invariant.1 in
-    let has = subst (λ (k : PassView). 0 < held_by k) (sym c.pass.view_is) c.requires.held in (
-      same_table _ _ _ _ c.pass.view_is c.requires.source c.self.view_is,
-      omega arith,
-      allows _ (retiring _ _ _ _ c.pass.invariant.idle (omega arith)),
-    )
+    let holds = subst (λ (k : PassView). 0 < held_by k) (sym c.pass.view_is) c.requires.held in
+    (same_table _ _ _ _ c.pass.view_is c.requires.source c.self.view_is, omega arith, allows _ (retiring _ _ _ _ c.pass.invariant.idle (omega arith)))
 
 pub overflow_add-pass : goal.overflow_add-pass
 overflow_add-pass c =
-    let told = c.fetch_add.ensures in
-    let few = c.pass.invariant.few in
-    let least = fits_one_retired c.pass.inside.seat.me c.fetch_add.new.seat.me c.pass.inside.retired _ told.2.own c.pass.invariant.kept_back in omega arith
+    let least = fits_one_retired c.pass.inside.seat.me c.fetch_add.new.seat.me _ _ c.fetch_add.ensures.2.own c.pass.invariant.kept_back in omega arith

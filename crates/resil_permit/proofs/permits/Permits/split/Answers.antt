@@ -5,18 +5,9 @@ use Rattle.resil_permit.proofs.Calls.{same_table}
 use Rattle.resil_permit.proofs.permits.Permits.split.Goals as goal
 
 pub split_seat-seat-requires : goal.split_seat-seat-requires
-split_seat-seat-requires c =
-    let words = c.self.invariant.1 in (
-      same_table _ _ _ _ c.pass.view_is c.requires c.self.view_is,
-      omega arith,
-      splits _ _ _ c.pass.invariant.idle,
-    )
+split_seat-seat-requires c = (same_table _ _ _ _ c.pass.view_is c.requires c.self.view_is, omega arith, splits _ _ _ c.pass.invariant.idle)
 
 pub load-requires : goal.load-requires
 load-requires c =
-    let words = c.self.invariant.1 in
-    let made = c.split_seat-seat.ensures in (
-      made.3 ∙ same_table _ _ _ _ c.pass.view_is c.requires c.self.view_is,
-      omega arith,
-      allows _ (numbering _ _ _ _ (ap (λ m. m.0.phase) made.4)),
-    )
+    let made = c.split_seat-seat.ensures in
+    (made.3 ∙ same_table _ _ _ _ c.pass.view_is c.requires c.self.view_is, omega arith, allows _ (numbering _ _ _ _ (ap (λ m. m.0.phase) made.4)))

@@ -8,23 +8,13 @@ use Rattle.resil_permit.proofs.Calls.{same_table, taken, lost, room}
 use Rattle.resil_permit.proofs.permits.Permits.try_once.Goals as goal
 
 pub load-free-requires : goal.load-free-requires
-load-free-requires c =
-    let words = c.self.invariant.1 in (
-      same_table _ _ _ _ c.pass.view_is c.requires c.self.view_is,
-      omega arith,
-      allows _ (loading _ _ _ _ c.pass.invariant.idle),
-    )
+load-free-requires c = (same_table _ _ _ _ c.pass.view_is c.requires c.self.view_is, omega arith, allows _ (loading _ _ _ _ c.pass.invariant.idle))
 
 pub compare_exchange-found-requires : goal.compare_exchange-found-requires
 compare_exchange-found-requires c =
-    let words = c.self.invariant.1 in
     let told = c.load-free.ensures in
-    let some = c.if-free-eq0.false in
-    let loaded = told.2.loaded some in (
-      told.0 ∙ same_table _ _ _ _ c.pass.view_is c.requires c.self.view_is,
-      omega arith,
-      allows _ (exchanging _ _ _ _ _ _ loaded.0 (omega arith)),
-    )
+    let table = told.0 ∙ same_table _ _ _ _ c.pass.view_is c.requires c.self.view_is in
+    (table, omega arith, allows _ (exchanging _ _ _ _ _ _ (told.2.loaded c.if-free-eq0.false).0 (omega arith)))
 
 pub overflow_add-pass : goal.overflow_add-pass
 overflow_add-pass c =
