@@ -18,7 +18,7 @@ IsTold log place v p = IsPrefix v.seen log × (HasNumber p → v.number ≡ plac
 told_of : (max : ℕ) (log : List PermitEvent) (place : ℕ) (v : View) (p : Phase) → FitsPassPhase max log place v p → IsTold log place v p
 told_of max log place v Idle k = (k.begins, (λ has. k.numbered), k.all_own)
 told_of max log place v (Loaded n) k = (k.live.begins, (λ has. k.live.numbered), k.live.all_own)
-told_of max log place v (Joining number mine other) k = (k.both.live.begins, (λ has. k.both.live.numbered), k.both.live.all_own)
+told_of max log place v (Joining number mine other) k = (k.live.begins, (λ has. k.live.numbered), k.live.all_own)
 told_of max log place v Splitting k = (k.begins, (λ has. absurd has), k.no_events)
 told_of max log place v Joined k = (subst (λ (es : List PermitEvent). IsPrefix es log) (sym k.nothing_seen) (log, refl), (λ has. absurd has), (k.even, k.none_retired))
 

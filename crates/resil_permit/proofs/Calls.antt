@@ -11,7 +11,7 @@ use Rattle.atomic_table.specs.Table.{Step}
 use Rattle.resil_permit.specs.Passes.{Source, PassView}
 use Rattle.resil_permit.specs.TryAcquire.{FreeChanged}
 use Rattle.resil_permit.proofs.Histories.{copies_of_within}
-use Rattle.resil_permit.proofs.Tallies.{retirees, tallied}
+use Rattle.resil_permit.proofs.Tallies.{tallied}
 use Rattle.resil_permit.proofs.Log.Prefixes.{prefix_self, prefix_trans, prefix_length}
 use Rattle.resil_permit.proofs.Log.Seats.{sees_more_trans, sees_own_trans}
 
@@ -24,14 +24,11 @@ module _ {first second : Step (Unit {0})} {m m' m'' : PassSeat} {free found : �
   -- where it was lost, they show a contended try
   pub lost : found ≢ second.first → SeesMore m.0.max m.0.number m.0.seen m''.0.seen × FreeChanged m.0.max m.0.seen m''.0.seen
   lost miss =
-      let a = m.0.seen in
-      let b = m'.0.seen in
-      let c = m''.0.seen in
       let k = (load.loaded some).1 in
-      let l = (exchange.lost miss).0 in
-      let other = (exchange.lost miss).1 in (
+      let (l, other) = exchange.lost miss in
+      let differ = subst (λ (y : ℕ). free_count y m'.0.seen ≢ free_count y m''.0.seen) load.same.max (λ e. other (sym e)) in (
         sees_more_trans k (rw (load.same.max, load.same.number) at l),
-        (b, c, l.begins, prefix_self c, prefix_length a b k.begins, prefix_length a c (prefix_trans a b c k.begins l.begins), subst (λ (y : ℕ). free_count y b ≢ free_count y c) load.same.max (λ e. other (sym e))),
+        (m'.0.seen, m''.0.seen, l.begins, prefix_self _, prefix_length _ _ k.begins, prefix_length _ _ (prefix_trans _ _ _ k.begins l.begins), differ),
       )
 
   -- where it won, they show that a permit was taken
@@ -54,4 +51,4 @@ pub fits_one_retired : (m m' : PassSeat) (retired : ℕ) (there : List PermitEve
     → retired + raised_count m.0.number m.0.seen ≡ retired_count m.0.number m.0.seen → retired + 1 ≤ m.0.max
 fits_one_retired m m' retired there a is =
     let more = counts-more m.0.max m.0.number m.0.seen m'.0.seen (Retired m.0.number) there a in
-    let all = tallied m.0.max m'.0.seen a.legal in omega (arith, more is_retiring, more is_raising, copies_of_within m.0.number (retirees m'.0.seen))
+    let all = tallied m.0.max m'.0.seen a.legal in omega (arith, more is_retiring, more is_raising, copies_of_within m.0.number all.0)

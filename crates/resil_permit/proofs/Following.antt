@@ -1,6 +1,5 @@
 -- Each step of the running word machine is the word machine's.
-use Rattle.std.proofs.Common.{cond, eq-eqb, ne_eqb, ◌≡◌, ◌≢◌, ℕ, ◌+◌, ◌-◌, ◌<◌, ◌≤◌, List, length, set, get_or, refl, sym, ap, ◌∙◌, subst, arith, length-set, get_or-set_same, get_or-set_other, Ok, replicate}
-use Rattle.std.specs.Prelude.{◌==◌}
+use Rattle.std.proofs.Common.{◌≡◌, ◌≢◌, ℕ, ◌+◌, ◌-◌, ◌<◌, ◌≤◌, List, length, set, get_or, refl, sym, ap, ◌∙◌, subst, arith, length-set, get_or-set_same, get_or-set_other, Ok, replicate}
 use Rattle.std.proofs.lemmas.List.{get_or_default, length-replicate, get_or-replicate}
 use mathlib.Core.Logic.{dite}
 use native.Mathlib.Decide.{ℕ_discrete}
@@ -14,8 +13,8 @@ use Rattle.resil_permit.specs.History.{holders}
 use Rattle.resil_permit.specs.WordMachine.{Machine, start, caller_of, CanMake, shown_by, after_shown, after_step}
 use Rattle.resil_permit.specs.WordMachineInvariant.{IsSound, fresh_caller, Matches, Follows, Answers}
 use Rattle.resil_permit.proofs.Histories.{copies_of_within}
-use Rattle.resil_permit.proofs.Tallies.{retirees, more, tallied}
-use Rattle.resil_permit.proofs.Machines.{with_caller_same, with_caller_other, sound_start, sound_step, shown_refused, shown_took}
+use Rattle.resil_permit.proofs.Tallies.{more, tallied}
+use Rattle.resil_permit.proofs.Machines.{sound_start, sound_step, shown_refused, shown_took}
 
 -- what was read at a place is what stands there
 pub matches_read : (max c : ℕ) (m : Machine) (word : ℕ) (callers : List Caller) (x : Caller) → Follows max m word callers → c < 65536 → x ≡ get_or callers c x → Matches m c x
@@ -23,25 +22,20 @@ matches_read max c m word callers x f within read =
     let there : get_or callers c fresh_caller ≡ x = get_or_default callers c fresh_caller x (omega arith) ∙ sym read in
     subst (Matches m c) there (f.each c within)
 
-module _ (max c : ℕ) (m : Machine) (word : ℕ) (callers : List Caller) (x : Caller) (f : Follows max m word callers) (inside : c < 65536) (read : x ≡ get_or callers c x) where
+module _ (max c : ℕ) (m : Machine) {word : ℕ} {callers : List Caller} {x : Caller} (f : Follows max m word callers)
+    (inside : c < 65536) (read : x ≡ get_or callers c x) where
   here : Matches m c x
   here = matches_read max c m word callers x f inside read
 
   -- what a step of the caller shows leaves the others as they were
   others : (s : Shown) (d : ℕ) (y : Caller) → d ≢ c → Matches m d y → Matches (after_shown m c s) d y
-  others s d y apart old = by s
-    where
-      none : ◌≡◌ {A = ℕ} (cond (c == d) 1 0) 0
-      none = ap (λ b. cond b 1 0) (ne_eqb c d (λ same. apart (sym same)))
-
-      by : (s : Shown) → Matches (after_shown m c s) d y
-      by show.Loaded = record { state = old.state ∙ sym (with_caller_other m.callers c d (Loaded m.word) apart); counts = old.counts }
-      by show.Refused = record { state = old.state; counts = omega (arith, none, more) }
-      by show.Took = record { state = old.state ∙ sym (with_caller_other m.callers c d Idle apart); counts = omega (arith, none, more) }
-      by show.Lost = record { state = old.state ∙ sym (with_caller_other m.callers c d Idle apart); counts = old.counts }
-      by show.Gave = record { state = old.state; counts = omega (arith, none, more) }
-      by show.Retired = record { state = old.state; counts = omega (arith, none, more) }
-      by show.Raised = record { state = old.state; counts = omega (arith, none, more) }
+  others show.Loaded d y apart old = record { state = grind arith; counts = old.counts }
+  others show.Refused d y apart old = record { state = old.state; counts = grind (arith, more) }
+  others show.Took d y apart old = record { state = grind arith; counts = grind (arith, more) }
+  others show.Lost d y apart old = record { state = grind arith; counts = old.counts }
+  others show.Gave d y apart old = record { state = old.state; counts = grind (arith, more) }
+  others show.Retired d y apart old = record { state = old.state; counts = grind (arith, more) }
+  others show.Raised d y apart old = record { state = old.state; counts = grind (arith, more) }
 
   -- a step of the caller that shows this, after which the word is so and the caller stands so
   answers : (step : Step) (s : Shown) (word' : ℕ) (y : Caller) → caller_of step ≡ c → CanMake m step → shown_by m step ≡ s → word' ≡ (after_shown m c s).word
@@ -60,46 +54,42 @@ module _ (max c : ℕ) (m : Machine) (word : ℕ) (callers : List Caller) (x : C
             (λ apart. subst (Matches (after_shown m c s) d) (sym (get_or-set_other callers c d y fresh_caller apart)) (others s d _ apart (f.each d within)));
       } in (can, sym shows, subst (λ (k : Machine). Follows max k word' (set callers c y)) after follows)
 
-  -- an event of the caller counts as its own
-  one : ◌≡◌ {A = ℕ} (cond (c == c) 1 0) 1
-  one = ap (λ b. cond b 1 0) (eq-eqb c c refl)
-
   pub load_refused : x.state ≡ Idle → word ≡ 0 → Answers max m (Load c) word (set callers c x) (Ok show.Refused)
   load_refused idle none =
       let mine = here in
       answers (Load c) show.Refused word x refl (sym mine.state ∙ idle) (shown_refused m c (sym f.same_word ∙ none)) f.same_word
-      (record { state = mine.state; counts = omega (arith, one, more) })
+      (record { state = mine.state; counts = grind (arith, more) })
 
   pub exchange_took : (n : ℕ) → x.state ≡ Loaded n → word ≡ n → Answers max m (Exchange c) (word - 1) (set callers c (record { state = Idle; held = x.held + 1; retired = x.retired })) (Ok show.Took)
   exchange_took n is hit =
       let mine = here in
       let at : m.callers c ≡ Loaded n = sym mine.state ∙ is in
       answers (Exchange c) show.Took (word - 1) _ refl (n, at) (shown_took m c n at (sym f.same_word ∙ hit)) (ap (λ (k : ℕ). k - 1) f.same_word)
-      (record { state = sym (with_caller_same m.callers c c Idle refl); counts = omega (arith, one, more) })
+      (record { state = grind arith; counts = grind (arith, more) })
 
   pub add_gave : x.state ≡ Idle → x.held ≢ 0 → Answers max m (Add c) (word + 1) (set callers c (record { state = x.state; held = x.held - 1; retired = x.retired })) (Ok show.Gave)
   add_gave idle some =
       let mine = here in
       answers (Add c) show.Gave (word + 1) _ refl (sym mine.state ∙ idle, omega arith) refl (ap (λ (k : ℕ). k + 1) f.same_word)
-      (record { state = mine.state; counts = omega (arith, one, more) })
+      (record { state = mine.state; counts = grind (arith, more) })
 
   pub retire_retired : x.state ≡ Idle → x.held ≢ 0 → Answers max m (Retire c) word (set callers c (record { state = x.state; held = x.held - 1; retired = x.retired + 1 })) (Ok show.Retired)
   retire_retired idle some =
       let mine = here in
       answers (Retire c) show.Retired word _ refl (sym mine.state ∙ idle, omega arith) refl f.same_word
-      (record { state = mine.state; counts = omega (arith, one, more) })
+      (record { state = mine.state; counts = grind (arith, more) })
 
   pub raise_raised : x.state ≡ Idle → x.retired ≢ 0 → Answers max m (Raise c) (word + 1) (set callers c (record { state = x.state; held = x.held; retired = x.retired - 1 })) (Ok show.Raised)
   raise_raised idle some =
       let mine = here in
       answers (Raise c) show.Raised (word + 1) _ refl (sym mine.state ∙ idle, omega arith) refl (ap (λ (k : ℕ). k + 1) f.same_word)
-      (record { state = mine.state; counts = omega (arith, one, more) })
+      (record { state = mine.state; counts = grind (arith, more) })
 
   -- the word, and what a caller holds and has retired, are no more than the permits
   pub room : word + x.held + x.retired ≤ 65535
   room =
       let mine = here in
-      let all = tallied max m.events f.sound.legal in omega (arith, copies_of_within c (holders m.events), copies_of_within c (retirees m.events))
+      let all = tallied max m.events f.sound.legal in omega (arith, copies_of_within c (holders m.events), copies_of_within c all.0)
 
   -- a caller that has loaded a number finds a permit
   pub some_to_take : (n : ℕ) → x.state ≡ Loaded n → word ≡ n → 0 < word

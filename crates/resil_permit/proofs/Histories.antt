@@ -1,5 +1,5 @@
 -- Lemmas on permit histories.
-use Rattle.std.proofs.Common.{◌≡◌, ◌≢◌, ℕ, ◌+◌, ◌<◌, ◌≤◌, cond, Bool, List, [], ◌∷◌, ◌++◌, length, true, false, refl, sym, ap, ◌∙◌, subst, arith, ne_eqb, zero-add, append-nil}
+use Rattle.std.proofs.Common.{◌≡◌, ◌≢◌, ℕ, ◌+◌, ◌<◌, ◌≤◌, cond, Bool, List, [], ◌∷◌, ◌++◌, length, refl, sym, ap, ◌∙◌, subst, arith, ne_eqb, zero-add, append-nil}
 use Rattle.std.specs.Prelude.{◌==◌, count_by}
 use Rattle.std.proofs.lemmas.Bool.{eqb-true}
 use Rattle.std.proofs.lemmas.List.{append_assoc}
@@ -20,25 +20,12 @@ copies_of-cons s x multiset = sum_by-append (λ y. cond (y == s) 1 0) (x ∷ [])
 -- with one of a seat less, that seat stands there once less often, and each other one as often
 pub copies_of-without_one : (s t : ℕ) (multiset : List ℕ) → 0 < copies_of t multiset → copies_of s (without_one t multiset) + cond (t == s) 1 0 ≡ copies_of s multiset
 copies_of-without_one s t [] h = absurd (omega arith)
-copies_of-without_one s t (x ∷ xs) h = by (x == t) refl (copies_of-without_one s t xs)
-  where
-    by : (b : Bool) → (x == t) ≡ b → (0 < copies_of t xs → copies_of s (without_one t xs) + cond (t == s) 1 0 ≡ copies_of s xs) → copies_of s (cond b xs (x ∷ without_one t xs)) + cond (t == s) 1 0 ≡ copies_of s (x ∷ xs)
-    by true same later = let one = copies_of-cons s x xs in let is : ◌≡◌ {A = ℕ} (cond (x == s) 1 0) (cond (t == s) 1 0) = ap (λ (y : ℕ). cond (y == s) 1 0) (eqb-true x t same) in omega arith
-    by false other later =
-        let more : copies_of t (x ∷ xs) ≡ 0 + copies_of t xs = copies_of-cons t x xs ∙ ap (λ b. cond b 1 0 + copies_of t xs) other in
-        let rest = later (omega arith) in
-        let before = copies_of-cons s x xs in
-        let after = copies_of-cons s x (without_one t xs) in omega arith
+copies_of-without_one s t (x ∷ xs) h =
+    grind (arith, copies_of-without_one s t xs, copies_of-cons s x xs, copies_of-cons t x xs, copies_of-cons s x (without_one t xs), eqb-true x t)
 
 pub length-without_one : (s : ℕ) (multiset : List ℕ) → 0 < copies_of s multiset → length (without_one s multiset) + 1 ≡ length multiset
 length-without_one s [] h = absurd (omega arith)
-length-without_one s (x ∷ xs) h = by (x == s) refl (length-without_one s xs)
-  where
-    by : (b : Bool) → (x == s) ≡ b → (0 < copies_of s xs → length (without_one s xs) + 1 ≡ length xs) → length (cond b xs (x ∷ without_one s xs)) + 1 ≡ length (x ∷ xs)
-    by true same later = omega arith
-    by false other later =
-        let more : copies_of s (x ∷ xs) ≡ 0 + copies_of s xs = copies_of-cons s x xs ∙ ap (λ b. cond b 1 0 + copies_of s xs) other in
-        let rest = later (omega arith) in omega arith
+length-without_one s (x ∷ xs) h = grind (arith, length-without_one s xs, copies_of-cons s x xs)
 
 pub holders_from-append : (multiset : List ℕ) (xs ys : List PermitEvent) → holders_from multiset (xs ++ ys) ≡ holders_from (holders_from multiset xs) ys
 holders_from-append multiset [] ys = refl
@@ -77,12 +64,7 @@ count-append kind s xs ys = ap (count_by kind) (events_of_seat-append s xs ys) �
 
 -- one event is of its seat alone
 pub count_one : (kind : PermitEvent → Bool) (s : ℕ) (e : PermitEvent) → count_by kind (events_of_seat s (e ∷ [])) ≡ cond (kind e) (cond (seat_of e == s) 1 0) 0
-count_one kind s e = by (seat_of e == s) (kind e) refl
-  where
-    by : (b k : Bool) → kind e ≡ k → count_by kind (cond b (e ∷ []) []) ≡ cond k (cond b 1 0) 0
-    by true k is = ap (λ (c : Bool). 0 + cond c 1 0) is ∙ zero-add (cond k 1 0)
-    by false true is = refl
-    by false false is = refl
+count_one kind s e = grind arith
 
 pub copies_of_within : (s : ℕ) (multiset : List ℕ) → copies_of s multiset ≤ length multiset
 copies_of_within s multiset = count_by-le-length (λ x. x == s) multiset

@@ -1,5 +1,5 @@
 -- What each step of the word machine keeps.
-use Rattle.std.proofs.Common.{◌≡◌, ◌≢◌, ℕ, ◌+◌, ◌-◌, ◌<◌, cond, List, [], ◌∷◌, ◌++◌, length, sym, ap, ◌∙◌, subst, arith, eq-eqb, ne_eqb}
+use Rattle.std.proofs.Common.{◌≡◌, ◌≢◌, ℕ, ◌+◌, ◌-◌, ◌<◌, List, [], ◌∷◌, ◌++◌, length, sym, ap, ◌∙◌, subst, arith, eq-eqb, ne_eqb}
 use Rattle.std.specs.Prelude.{if◌then◌else◌}
 use mathlib.Core.Logic.{dite}
 use native.Mathlib.Decide.{ℕ_discrete}
@@ -17,25 +17,13 @@ use Rattle.resil_permit.specs.WordMachineInvariant.{IsSound}
 use Rattle.resil_permit.proofs.Histories.{holders-push, IsLegal-push}
 use Rattle.resil_permit.proofs.Tallies.{one_more, tallied}
 
-pub with_caller_same : (callers : ℕ → CallerState) (c d : ℕ) (s : CallerState) → d ≡ c → with_caller callers c s d ≡ s
-with_caller_same callers c d s is = ap (λ b. cond b s (callers d)) (eq-eqb d c is)
-
-pub with_caller_other : (callers : ℕ → CallerState) (c d : ℕ) (s : CallerState) → d ≢ c → with_caller callers c s d ≡ callers d
-with_caller_other callers c d s not = ap (λ b. cond b s (callers d)) (ne_eqb d c not)
-
 -- no caller has loaded 0
 abbrev LoadsSome : (ℕ → CallerState) → Type 0
 LoadsSome callers = (c n : ℕ) → callers c ≡ Loaded n → 0 < n
 
-loads_some-idle : (callers : ℕ → CallerState) (c : ℕ) → LoadsSome callers → LoadsSome (with_caller callers c Idle)
-loads_some-idle callers c some d n is = dite (ℕ_discrete d c)
-    (λ same. absurd (let e : Idle ≡ Loaded n = sym (with_caller_same callers c d Idle same) ∙ is in cc))
-    (λ other. some d n (sym (with_caller_other callers c d Idle other) ∙ is))
-
-loads_some-loaded : (callers : ℕ → CallerState) (c word : ℕ) → 0 < word → LoadsSome callers → LoadsSome (with_caller callers c (Loaded word))
-loads_some-loaded callers c word more some d n is = dite (ℕ_discrete d c)
-    (λ same. let e : Loaded word ≡ Loaded n = sym (with_caller_same callers c d (Loaded word) same) ∙ is in let m : word ≡ n = cc in omega arith)
-    (λ other. some d n (sym (with_caller_other callers c d (Loaded word) other) ∙ is))
+loads_some : (callers : ℕ → CallerState) (c : ℕ) (state : CallerState) → ((n : ℕ) → state ≡ Loaded n → 0 < n) → LoadsSome callers
+    → LoadsSome (with_caller callers c state)
+loads_some callers c state here some d n is = grind arith
 
 -- an event that is allowed, with the word that fits it
 pushed : (max word : ℕ) (callers : ℕ → CallerState) (m : Machine) (e : PermitEvent) → IsSound max m → IsAllowed max m.events e
@@ -69,10 +57,10 @@ sound_step max m (Load c) can s = dite (ℕ_discrete m.word 0)
     (λ is. after_shown-is (IsSound max) m (Load c) show.Refused (shown_refused m c is)
     (pushed max m.word m.callers m (Refused c) s (omega arith) (omega (arith, one_more)) s.some_free))
     (λ not. after_shown-is (IsSound max) m (Load c) show.Loaded (shown_loaded m c not)
-    (record { legal = s.legal; counts = s.counts; within = s.within; some_free = loads_some-loaded m.callers c m.word (omega arith) s.some_free }))
+    (record { legal = s.legal; counts = s.counts; within = s.within; some_free = loads_some m.callers c (Loaded m.word) (λ n e. let is : m.word ≡ n = cc in omega arith) s.some_free }))
 sound_step max m (Exchange c) can s =
     let some = s.some_free c can.0 can.1 in
-    let idle = loads_some-idle m.callers c s.some_free in
+    let idle = loads_some m.callers c Idle (λ n e. absurd (cc)) s.some_free in
     dite (ℕ_discrete m.word can.0)
     (λ is. after_shown-is (IsSound max) m (Exchange c) show.Took (shown_took m c can.0 can.1 is)
     (pushed max (m.word - 1) (with_caller m.callers c Idle) m (Took c) s (omega arith) (omega (arith, one_more)) idle))

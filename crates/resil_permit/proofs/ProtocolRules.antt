@@ -8,19 +8,25 @@ use Rattle.resil_permit.specs.declared.event.PermitEvent.{PermitEvent}
 use Rattle.resil_permit.specs.declared.protocol.Phase.{Phase}
 use Rattle.resil_permit.specs.declared.protocol.Phase.TheVariants.{Idle, Loaded, Joining, Splitting, Joined}
 use Rattle.resil_permit.specs.declared.protocol.View.{View}
-use Rattle.resil_permit.specs.History.{seat_of, is_taking, is_giving, is_retiring, is_raising, events_of_seat, taken_count, given_count, retired_count, raised_count, holders_after, holders, in_use_count, IsAllowed, IsLegal}
+use Rattle.resil_permit.specs.History.{seat_of, is_taking, is_giving, is_retiring, is_raising, events_of_seat, holders_after, holders, in_use_count, IsAllowed, IsLegal}
 use Rattle.resil_permit.specs.Log.Seats.{IsSeenWhole}
 use Rattle.resil_permit.specs.Rule.{view_of, IsLive, FitsPassPhase, Fits, PermitWordInvariant}
 use Rattle.resil_permit.specs.Steps.{PassSeat, IsSame}
 use Rattle.resil_permit.proofs.Histories.{events_of_seat-append, events_of_other, holders-push, IsLegal-push}
 use Rattle.resil_permit.proofs.Log.Prefixes.{prefix_self, prefix_trans}
-use Rattle.resil_permit.proofs.Log.Seats.{live_later, joining_later, live_whole, seen_here, log_moves}
+use Rattle.resil_permit.proofs.Log.Seats.{live_later, live_whole, seen_here, log_moves}
 
 -- a log that grew, with no event of this place, keeps what was known at the place
 pub fits_later : (max place : ℕ) (log now : List PermitEvent) (v : View) (p : Phase) → IsPrefix log now → events_of_seat place now ≡ events_of_seat place log → FitsPassPhase max log place v p → FitsPassPhase max now place v p
 fits_later max place log now v Idle more same k = live_later k more same
 fits_later max place log now v (Loaded n) more same k = record { live = live_later k.live more same; some = k.some; free = k.free }
-fits_later max place log now v (Joining number mine other) more same k = record { both = joining_later k.both more same; apart = k.apart }
+fits_later max place log now v (Joining number mine other) more same k = record {
+  live = live_later k.live more same;
+  begins = prefix_trans mine log now k.begins more;
+  other_begins = prefix_trans other log now k.other_begins more;
+  all_own = k.all_own ∙ sym same;
+  apart = k.apart;
+}
 fits_later max place log now v Splitting more same k = record { unnumbered = k.unnumbered; bounded = k.bounded; begins = prefix_trans v.seen log now k.begins more; no_events = same ∙ k.no_events }
 fits_later max place log now v Joined more same k = record {
   nothing_seen = k.nothing_seen;
@@ -31,18 +37,10 @@ fits_later max place log now v Joined more same k = record {
 pub live_at : (max : ℕ) (words : List ℕ) (views : List View) (k : PermitWordInvariant max words views) (place : ℕ) (v : View) → get_elem? views place ≡ some v → v.phase ≡ Idle → IsLive max k.log place v
 live_at max words views k place v at idle = subst (FitsPassPhase max k.log place v) idle (k.shared.each place v at)
 
--- what a pass took, let go, retired and raised, by what it has seen, is what the log has of it
-pub record HasCountsOf (place : ℕ) (log : List PermitEvent) (v : View) : Type 0 where
-  pub taken : taken_count place log ≡ taken_count v.number v.seen
-  pub given : given_count place log ≡ given_count v.number v.seen
-  pub retired : retired_count place log ≡ retired_count v.number v.seen
-  pub raised : raised_count place log ≡ raised_count v.number v.seen
-
-pub counts_of_live : (max place : ℕ) (log : List PermitEvent) (v : View) → IsLive max log place v → HasCountsOf place log v
-counts_of_live max place log v live = record { taken = of is_taking; given = of is_giving; retired = of is_retiring; raised = of is_raising }
-  where
-    of : (kind : PermitEvent → Bool) → count_by kind (events_of_seat place log) ≡ count_by kind (events_of_seat v.number v.seen)
-    of kind = ap (count_by kind) (sym live.all_own) ∙ ap (λ (n : ℕ). count_by kind (events_of_seat n v.seen)) (sym live.numbered)
+-- what a pass took, gave back, retired and raised, by what it has seen, is what the log has of it
+pub counts_of_live : (max place : ℕ) (log : List PermitEvent) (v : View) → IsLive max log place v → (kind : PermitEvent → Bool)
+    → count_by kind (events_of_seat place log) ≡ count_by kind (events_of_seat v.number v.seen)
+counts_of_live max place log v live kind = ap (count_by kind) (sym live.all_own) ∙ ap (λ (n : ℕ). count_by kind (events_of_seat n v.seen)) (sym live.numbered)
 
 -- a step leaves the pass its number and its permits
 pub same : (max place : ℕ) (log : List PermitEvent) (m : PassSeat) → IsLive max log place m.0 → (seen : List PermitEvent) (p : Phase) → IsSame m (view_of place max seen p, m.1)

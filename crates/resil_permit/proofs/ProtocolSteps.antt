@@ -27,7 +27,7 @@ use Rattle.resil_permit.proofs.Histories.{IsLegal-push}
 use Rattle.resil_permit.proofs.Tallies.{one_more, tallied}
 use Rattle.resil_permit.proofs.Log.Prefixes.{prefix_self, filter_none}
 use Rattle.resil_permit.proofs.Log.Places.{place_within}
-use Rattle.resil_permit.proofs.Log.Seats.{live_whole, joins_live, sees_more, sees_whole, sees_own, seen_still, log_opens, log_enters, log_splits, log_joins}
+use Rattle.resil_permit.proofs.Log.Seats.{live_whole, live_joined, sees_more, sees_whole, sees_own, seen_still, log_opens, log_enters, log_splits, log_joins}
 use Rattle.resil_permit.proofs.ProtocolRules.{live_at, counts_of_live, same, moved, added, looked_on}
 
 unfoldable pub opens : (max : ℕ) → max ≤ 65535 → Rule max (opening (max ∷ []) [] (first_pass_view max))
@@ -74,12 +74,11 @@ pub ending_join : (max slots id : ℕ) (me : PassSeat) (number : ℕ) (mine othe
 ending_join max slots id me number mine other joining = seeing max id me (AfterPassJoin (step slots 0 0 0 none) me) (ap state_of joining)
     (λ s k at.
     let fits : FitsPassPhase max k.log id me.0 (Joining number mine other) = subst (FitsPassPhase max k.log id me.0) joining (k.shared.each id me.0 at) in
-    let live = fits.both.live in
     record {
-      same = same max id k.log me live k.log Idle;
+      same = same max id k.log me fits.live k.log Idle;
       idle = refl;
       both = subst (λ (p : Phase). BeginsWithBothPasses me.0.max me.0.number p k.log) (sym joining)
-          ((sees_more IsLegal live mine k.shared.legal fits.both.begins fits.both.all_own, fits.both.other_begins), fits.apart);
+          ((sees_more IsLegal fits.live mine k.shared.legal fits.begins fits.all_own, fits.other_begins), fits.apart);
     })
 
 -- the caller of a pass in the machine stands as the pass does
@@ -264,8 +263,13 @@ joins max id v other u idle idle' even clear s k at apart there =
       few = k.few;
       one_word = k.one_word;
       counts = k.counts;
-      shared = log_joins k.shared id other v u both joined_view at there' apart live.begins live'.begins refl (record { both = joins_live live u.seen live'.begins; apart = λ same. apart (sym live'.numbered ∙ (same ∙ live.numbered)) })
-          (record { nothing_seen = refl; even = omega arith; none_retired = omega arith });
+      shared = log_joins k.shared id other v u both joined_view at there' apart live.begins live'.begins refl (record {
+        live = live_joined live u.seen live'.begins;
+        begins = live.begins;
+        other_begins = live'.begins;
+        all_own = live.all_own;
+        apart = λ same. apart (sym live'.numbered ∙ (same ∙ live.numbered));
+      }) (record { nothing_seen = refl; even = omega arith; none_retired = omega arith });
     }
 
 -- a pass that comes in has seen the whole log, of which no event is its own

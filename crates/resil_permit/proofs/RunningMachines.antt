@@ -1,5 +1,5 @@
 -- Which machine a table stands for after one pass changes.
-use Rattle.std.proofs.Common.{◌≡◌, ◌≢◌, ℕ, zero, suc, List, [], ◌∷◌, ◌++◌, length, set, get_or, refl, sym, ap, ◌∙◌, arith, get_or-set_same}
+use Rattle.std.proofs.Common.{◌≡◌, ℕ, zero, suc, List, [], ◌∷◌, ◌++◌, length, set, get_or, refl, ap, ◌∙◌, arith, get_or-set_same}
 use mathlib.Core.Option.{some}
 use mathlib.Core.Logic.{dite}
 use native.Mathlib.Decide.{ℕ_discrete}
@@ -13,7 +13,6 @@ use Rattle.resil_permit.specs.declared.word_machine.CallerState.TheVariants.{Idl
 use Rattle.resil_permit.specs.WordMachine.{Machine, with_caller}
 use Rattle.resil_permit.specs.RunningWord.{Table, state_of, state_at, machine_of}
 use Rattle.resil_permit.proofs.Log.Places.{place_within}
-use Rattle.resil_permit.proofs.Machines.{with_caller_same, with_caller_other}
 
 abbrev pub callers_of : List View → ℕ → CallerState
 callers_of views index = state_at (get_elem? views index)
@@ -26,21 +25,14 @@ pub same_machine : (word word' : ℕ) (callers callers' : ℕ → CallerState) (
 same_machine word word' callers callers' events words each = λ i. machine (words i) (λ c. each c i) events
 
 module _ (views : List View) (id : ℕ) (v w : View) (at : get_elem? views id ≡ some v) where
-  here : (c : ℕ) → c ≡ id → callers_of (set views id w) c ≡ state_of w.phase
-  here c is = ap (callers_of (set views id w)) is ∙ ap state_at (set_here views id w (place_within views id v at))
-
-  elsewhere : (c : ℕ) → c ≢ id → callers_of (set views id w) c ≡ callers_of views c
-  elsewhere c not = ap state_at (set_else views id c w not)
-
   -- the pass stands as it stood
   pub callers_still : state_of w.phase ≡ state_of v.phase → (c : ℕ) → callers_of (set views id w) c ≡ callers_of views c
-  callers_still same c = dite (ℕ_discrete c id) (λ is. here c is ∙ (same ∙ sym (ap (callers_of views) is ∙ ap state_at at))) (elsewhere c)
+  callers_still same c =
+      let here = set_here views id w (place_within views id v at) in dite (ℕ_discrete c id) (λ is. cc) (λ not. ap state_at (set_else views id c w not))
 
   -- the pass now stands so
   callers_moved : (state : CallerState) → state_of w.phase ≡ state → (c : ℕ) → callers_of (set views id w) c ≡ with_caller (callers_of views) id state c
-  callers_moved state same c = dite (ℕ_discrete c id)
-      (λ is. here c is ∙ (same ∙ sym (with_caller_same (callers_of views) id c state is)))
-      (λ not. elsewhere c not ∙ sym (with_caller_other (callers_of views) id c state not))
+  callers_moved state same c = grind (arith, set_here views id w (place_within views id v at), set_else views id c w)
 
 -- a pass that comes last and is idle is none
 pub callers_longer : (views : List View) (last : View) → state_of last.phase ≡ Idle → (c : ℕ) → callers_of (views ++ last ∷ []) c ≡ callers_of views c

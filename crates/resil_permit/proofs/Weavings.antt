@@ -10,7 +10,6 @@ use Rattle.resil_permit.specs.declared.step.Shown.TheVariants as show
 use Rattle.resil_permit.specs.declared.word_machine.Caller.{Caller}
 use Rattle.resil_permit.specs.declared.word_machine.StepError.{StepError}
 use Rattle.resil_permit.specs.declared.word_machine.StepError.TheVariants as stuck
-use Rattle.resil_permit.specs.declared.word_machine.CallerState.TheVariants.{Idle, Loaded}
 use Rattle.resil_permit.specs.declared.interleaving.WeaveError.{WeaveError}
 use Rattle.resil_permit.specs.declared.interleaving.WeaveError.TheVariants.{Memory, TooManyPermits, NotLoaded, NotHolding, StillLoaded, NotRetired}
 use Rattle.resil_permit.specs.WordMachine.{Machine, start, caller_of, CanMake, shown_by, after_shown, after_step, CanMakeAll, after_steps, all_shown, event_shown}
@@ -80,14 +79,14 @@ can_make_there m [] step back all = all.0
 can_make_there m (x ∷ xs) step back all = can_make_there (after_step m x) xs step back all.1
 
 not_both : (m : Machine) (step : Step) (why : StepError) → CanMake m step → IsStuck m step why → ⊥
-not_both m (Load c) stuck.StillLoaded can is = let e : Idle ≡ Loaded is.0 = sym can ∙ is.1 in cc
-not_both m (Exchange c) stuck.NotLoaded can is = let e : Idle ≡ Loaded can.0 = sym is ∙ can.1 in cc
-not_both m (Add c) stuck.NotHolding can is = let h = can.1 in let k = is.1 in omega arith
-not_both m (Add c) stuck.StillLoaded can is = let e : Idle ≡ Loaded is.0 = sym can.0 ∙ is.1 in cc
-not_both m (Retire c) stuck.NotHolding can is = let h = can.1 in let k = is.1 in omega arith
-not_both m (Retire c) stuck.StillLoaded can is = let e : Idle ≡ Loaded is.0 = sym can.0 ∙ is.1 in cc
-not_both m (Raise c) stuck.StillLoaded can is = let e : Idle ≡ Loaded is.0 = sym can.0 ∙ is.1 in cc
-not_both m (Raise c) stuck.NotRetired can is = let h = can.1 in let k = is.1 in omega arith
+not_both m (Load c) stuck.StillLoaded can is = cc (is.1)
+not_both m (Exchange c) stuck.NotLoaded can is = cc (can.1)
+not_both m (Add c) stuck.NotHolding can is = omega arith
+not_both m (Add c) stuck.StillLoaded can is = cc (can.0, is.1)
+not_both m (Retire c) stuck.NotHolding can is = omega arith
+not_both m (Retire c) stuck.StillLoaded can is = cc (can.0, is.1)
+not_both m (Raise c) stuck.StillLoaded can is = cc
+not_both m (Raise c) stuck.NotRetired can is = grind arith
 not_both m step why can is = is
 
 none_stuck : (max : ℕ) (steps : List Step) (why : StepError) (place : ℕ) → CanMakeAll (start max) steps → IsFirstStuck max steps (λ m step. IsStuck m step why) place → ⊥

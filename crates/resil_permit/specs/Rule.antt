@@ -31,9 +31,12 @@ pub record IsSplitting (max : ℕ) (log : List PermitEvent) (place : ℕ) (v : V
   pub begins : IsPrefix v.seen log
   pub no_events : events_of_seat place log ≡ []
 
--- between the two loads of a join: what either pass had seen is kept, and the other had another number
+-- between the two loads of a join: what either pass had seen is kept, of which this one's had all its own events, and the other had another number
 pub record IsJoining (max : ℕ) (log : List PermitEvent) (place : ℕ) (v : View) (other_number : ℕ) (mine other : List PermitEvent) : Type 0 where
-  pub both : seats.IsJoining is_event_of max log place v.number v.max v.seen mine other
+  pub live : IsLive max log place v
+  pub begins : IsPrefix mine log
+  pub other_begins : IsPrefix other log
+  pub all_own : events_of_seat place mine ≡ events_of_seat place log
   pub apart : other_number ≢ v.number
 
 -- a pass that was joined away holds none of what it took and has no retired permit, and what it has seen is gone

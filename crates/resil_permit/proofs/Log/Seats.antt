@@ -7,7 +7,7 @@ use native.Mathlib.Decide.{ℕ_discrete}
 use lib.ListN.{get_elem?}
 use Rattle.atomic_table.proofs.Lists.{at_set, set_here, set_else, at_longer}
 use Rattle.resil_permit.specs.Log.Seen.{SeesMore, SeesOwn, longer_of}
-use Rattle.resil_permit.specs.Log.Seats.{IsLive, IsJoining, IsSeenWhole, IsLogOf}
+use Rattle.resil_permit.specs.Log.Seats.{IsLive, IsSeenWhole, IsLogOf}
 use Rattle.resil_permit.proofs.Log.Prefixes.{prefix_self, prefix_push, prefix_trans, prefix_shorter, longer_of_cases, longer_of_whole, filter_between, filter_push}
 use Rattle.resil_permit.proofs.Log.Places.{place_within, one_at, at_end}
 
@@ -16,32 +16,19 @@ module _ {E K : Type 0} {is_own : ℕ → E → Bool} {key : K} {index number : 
   pub live_later : {log now seen : List E} → IsLive is_own key log index number known seen → IsPrefix log now → filter (is_own index) now ≡ filter (is_own index) log → IsLive is_own key now index number known seen
   live_later {log} {now} {seen} k more same = record { numbered = k.numbered; keyed = k.keyed; begins = prefix_trans seen log now k.begins more; all_own = k.all_own ∙ sym same }
 
-  pub joining_later : {log now seen mine other : List E} → IsJoining is_own key log index number known seen mine other → IsPrefix log now → filter (is_own index) now ≡ filter (is_own index) log
-      → IsJoining is_own key now index number known seen mine other
-  joining_later {log} {now} {seen} {mine} {other} k more same = record {
-    live = live_later k.live more same;
-    begins = prefix_trans mine log now k.begins more;
-    other_begins = prefix_trans other log now k.other_begins more;
-    all_own = k.all_own ∙ sym same;
-  }
-
   -- a seat that has seen all is live
   pub live_whole : (log : List E) → number ≡ index → known ≡ key → IsLive is_own key log index number known log
   live_whole log numbered keyed = record { numbered = numbered; keyed = keyed; begins = prefix_self log; all_own = refl }
 
   -- a seat that takes in what another had seen
-  pub joins_live : {log mine : List E} → IsLive is_own key log index number known mine → (other : List E) → IsPrefix other log → IsJoining is_own key log index number known (longer_of mine other) mine other
-  joins_live {log} {mine} live other begins = record {
-    live = record {
-      numbered = live.numbered;
-      keyed = live.keyed;
-      begins = longer_of_cases (λ zs. IsPrefix zs log) mine other (λ _. live.begins) (λ _. begins);
-      all_own = longer_of_cases (λ zs. filter (is_own index) zs ≡ filter (is_own index) log) mine other (λ _. live.all_own)
-          (λ lt. filter_between (is_own index) mine other log (prefix_shorter mine other log live.begins begins (omega arith)) begins live.all_own);
-    };
-    begins = live.begins;
-    other_begins = begins;
-    all_own = live.all_own;
+  pub live_joined : {log mine : List E} → IsLive is_own key log index number known mine → (other : List E) → IsPrefix other log
+      → IsLive is_own key log index number known (longer_of mine other)
+  live_joined {log} {mine} live other begins = record {
+    numbered = live.numbered;
+    keyed = live.keyed;
+    begins = longer_of_cases (λ zs. IsPrefix zs log) mine other (λ _. live.begins) (λ _. begins);
+    all_own = longer_of_cases (λ zs. filter (is_own index) zs ≡ filter (is_own index) log) mine other (λ _. live.all_own)
+        (λ lt. filter_between (is_own index) mine other log (prefix_shorter mine other log live.begins begins (omega arith)) begins live.all_own);
   }
 
   module _ (IsLegal : K → List E → Type 0) {log seen : List E} (live : IsLive is_own key log index number known seen) where

@@ -11,13 +11,6 @@ pub record IsLive {E K : Type 0} (is_own : ℕ → E → Bool) (key : K) (log : 
   pub begins : IsPrefix seen log
   pub all_own : filter (is_own index) seen ≡ filter (is_own index) log
 
--- between the two steps of a join: what either seat had seen is a prefix of the log, and the seat that stays had seen all events of its own
-pub record IsJoining {E K : Type 0} (is_own : ℕ → E → Bool) (key : K) (log : List E) (index number : ℕ) (known : K) (seen mine other : List E) : Type 0 where
-  pub live : IsLive is_own key log index number known seen
-  pub begins : IsPrefix mine log
-  pub other_begins : IsPrefix other log
-  pub all_own : filter (is_own index) mine ≡ filter (is_own index) log
-
 -- some seat has seen the whole log
 pub record IsSeenWhole {E V : Type 0} (seen : V → List E) (log : List E) (views : List V) : Type 0 where
   pub index : ℕ

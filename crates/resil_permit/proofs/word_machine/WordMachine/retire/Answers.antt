@@ -5,8 +5,8 @@ use Rattle.resil_permit.proofs.word_machine.WordMachine.retire.Goals as goal
 
 pub overflow_add-caller : goal.overflow_add-caller
 overflow_add-caller c =
-    let r = c.requires in
-    let few = room r.0 c.args.id r.1 _ _ c.index_mut-caller.result.now r.2 (omega arith) (rw c.from.ensures at c.index_mut-caller.ensures.value) in omega arith
+    let (max, m, f) = c.requires in
+    let few = room max c.args.id m f (omega arith) (rw c.from.ensures at c.index_mut-caller.ensures.value) in omega arith
 
 pub returns : goal.returns
-returns c = rw c.from.ensures (λ max m f. retire_retired max c.args.id m _ _ _ f (omega arith) (rw c.from.ensures at c.index_mut-caller.ensures.value) c.in_default.is c.if-caller-eq0.false)
+returns c = rw c.from.ensures (λ max m f. retire_retired max c.args.id m f (omega arith) (rw c.from.ensures at c.index_mut-caller.ensures.value) c.in_default.is c.if-caller-eq0.false)
