@@ -15,6 +15,7 @@ use atomic_table::{Join, Play, Split, TableRule};
 
 /// Whatever the order in which any number of callers load, exchange, add, retire and raise, their events are a legal
 /// permit history. The word and the permits held add up to the permits in use, and those are no more than at the start.
+#[tactic(auto, using(crate::proofs::Machines::every_interleaving))]
 pub fn every_interleaving()
     ensures { EveryInterleaving }
 {}
@@ -28,6 +29,7 @@ pub fn all_add_up()
 /// Between any two steps, whichever threads make them, there is one legal permit history, of which every pass has seen
 /// a prefix with all events of its own. All passes have different numbers, and the word is the number of permits in
 /// use that nobody holds.
+#[tactic(auto, using(crate::proofs::BetweenSteps::holds_between_steps))]
 pub fn holds_between_steps()
     ensures { (max : ℕ) (s : State (Unit {0}) View) → ⟦<PermitRule as TableRule<(), View, u32>>⟧.holds max s → HoldsBetweenSteps max s.words s.views }
 {}

@@ -99,6 +99,7 @@ impl Permits {
     /// # Errors
     ///
     /// In this order: `TooManyPermits` where `max` is above 65,535; `Memory` where memory runs out.
+    #[tactic(auto, using(crate::proofs::ProtocolSteps::opens))]
     pub fn new(alloc: Global, max: u32) -> Result<(Permits, Pass), PermitError>
         ensures max { IfOk result (λ r. r.0.max ≡ max) }
         ensures pass { IfOk result (λ r. (r.1.source ≡ r.0) × (r.1.seen ≡ []) × (held_by r.1 ≡ 0)) }
@@ -278,6 +279,7 @@ impl Permits {
     /// ```
     /// let mut pass = permits.new_pass();
     /// ```
+    #[tactic(auto, using(crate::proofs::ProtocolSteps::enters))]
     pub fn new_pass(&self) -> Pass
         ensures source { result.source ≡ self.now }
         ensures number { own_events result ≡ [] }
