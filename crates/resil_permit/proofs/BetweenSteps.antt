@@ -1,11 +1,10 @@
 -- The rule of the word gives what holds between any two steps.
-use Rattle.std.proofs.Common.{◌≡◌, ℕ, ◌+◌, ◌<◌, List, length, refl, sym, ◌∙◌, subst}
+use Rattle.std.proofs.Common.{◌≡◌, ℕ, List, refl, sym, ◌∙◌, subst}
 use mathlib.Core.List.{IsPrefix}
 use Rattle.resil_permit.specs.declared.event.PermitEvent.{PermitEvent}
 use Rattle.resil_permit.specs.declared.protocol.Phase.{Phase}
 use Rattle.resil_permit.specs.declared.protocol.Phase.TheVariants.{Idle, Loaded, Joining, Splitting, Joined}
 use Rattle.resil_permit.specs.declared.protocol.View.{View}
-use Rattle.resil_permit.specs.History.{holders, in_use_count}
 use Rattle.resil_permit.specs.Rule.{FitsPassPhase, PermitWordInvariant}
 use Rattle.resil_permit.specs.BetweenSteps.{IsPassAt, IsHistory, HasNumber, HasSeenItsEvents, HoldsBetweenSteps}
 use Rattle.resil_permit.proofs.Log.Prefixes.{prefix_length, prefix_whole}
@@ -43,9 +42,6 @@ module _ (max : ℕ) (words : List ℕ) (views : List View) (k : PermitWordInvar
       let whole = subst (λ (es : List PermitEvent). IsPrefix es history) k.shared.longest.whole (h.prefixes k.shared.longest.index k.shared.longest.seat k.shared.longest.there) in
       prefix_whole history k.log within (prefix_length k.log history whole)
 
-  loaded : (index : ℕ) (v : View) (n : ℕ) → IsPassAt views index v → v.phase ≡ Loaded n → (0 < n) × (n + length (holders v.seen) ≡ in_use_count max v.seen)
-  loaded index v n at is = let fits : FitsPassPhase max k.log index v (Loaded n) = subst (FitsPassPhase max k.log index v) is (k.shared.each index v at) in (fits.some, fits.free)
-
   pub holds_between_steps : HoldsBetweenSteps max words views
   holds_between_steps = record {
     history = k.log;
@@ -57,7 +53,8 @@ module _ (max : ℕ) (words : List ℕ) (views : List View) (k : PermitWordInvar
     no_others = k.shared.no_others;
     one_word = k.one_word;
     word = k.counts;
-    loaded = loaded;
+    loaded = λ index v n at is.
+        let fits : FitsPassPhase max k.log index v (Loaded n) = subst (FitsPassPhase max k.log index v) is (k.shared.each index v at) in (fits.some, fits.free);
     adds_up = (adds_up max words views k).0;
     most = (adds_up max words views k).1;
   }

@@ -16,16 +16,14 @@ use Rattle.resil_permit.proofs.Histories.{copies_of_within}
 use Rattle.resil_permit.proofs.Tallies.{more, tallied}
 use Rattle.resil_permit.proofs.Machines.{sound_start, sound_step, shown_refused, shown_took}
 
--- what was read at a place is what stands there
-pub matches_read : (max c : ℕ) (m : Machine) (word : ℕ) (callers : List Caller) (x : Caller) → Follows max m word callers → c < 65536 → x ≡ get_or callers c x → Matches m c x
-matches_read max c m word callers x f within read =
-    let there : get_or callers c fresh_caller ≡ x = get_or_default callers c fresh_caller x (omega arith) ∙ sym read in
-    subst (Matches m c) there (f.each c within)
-
 module _ (max c : ℕ) (m : Machine) {word : ℕ} {callers : List Caller} {x : Caller} (f : Follows max m word callers)
     (inside : c < 65536) (read : x ≡ get_or callers c x) where
+  -- what was read at a place is what stands there
   here : Matches m c x
-  here = matches_read max c m word callers x f inside read
+  here =
+      let all = f.all_there in
+      let there : get_or callers c fresh_caller ≡ x = get_or_default callers c fresh_caller x (omega arith) ∙ sym read in
+      subst (Matches m c) there (f.each c inside)
 
   -- what a step of the caller shows leaves the others as they were
   others : (s : Shown) (d : ℕ) (y : Caller) → d ≢ c → Matches m d y → Matches (after_shown m c s) d y

@@ -1,6 +1,6 @@
 -- Lemmas on permit histories.
-use Rattle.std.proofs.Common.{◌≡◌, ◌≢◌, ℕ, ◌+◌, ◌<◌, ◌≤◌, cond, Bool, List, [], ◌∷◌, ◌++◌, length, refl, sym, ap, ◌∙◌, subst, arith, ne_eqb, zero-add, append-nil}
-use Rattle.std.specs.Prelude.{◌==◌, count_by}
+use Rattle.std.proofs.Common.{◌≡◌, ◌≢◌, ℕ, ◌+◌, ◌<◌, ◌≤◌, cond, List, [], ◌∷◌, ◌++◌, length, refl, sym, ap, ◌∙◌, subst, arith, zero-add, append-nil}
+use Rattle.std.specs.Prelude.{◌==◌}
 use Rattle.std.proofs.lemmas.Bool.{eqb-true}
 use Rattle.std.proofs.lemmas.List.{append_assoc}
 use Rattle.std.proofs.lemmas.List.Elements.{filter-append}
@@ -11,8 +11,9 @@ use Rattle.resil_permit.specs.History.{seat_of, is_event_of, events_of_seat, cop
 pub events_of_seat-append : (s : ℕ) (xs ys : List PermitEvent) → events_of_seat s (xs ++ ys) ≡ events_of_seat s xs ++ events_of_seat s ys
 events_of_seat-append s xs ys = filter-append (is_event_of s) xs ys
 
-pub events_of_other : (s : ℕ) (e : PermitEvent) (es : List PermitEvent) → seat_of e ≢ s → events_of_seat s (e ∷ es) ≡ events_of_seat s es
-events_of_other s e es not = ap (λ b. cond b (e ∷ events_of_seat s es) (events_of_seat s es)) (ne_eqb (seat_of e) s not)
+-- an event is none of another seat's
+pub events_of_seat-other : (s : ℕ) (events : List PermitEvent) (e : PermitEvent) → seat_of e ≢ s → events_of_seat s (events ++ e ∷ []) ≡ events_of_seat s events
+events_of_seat-other s events e apart = grind (arith, events_of_seat-append s events (e ∷ []), append-nil (events_of_seat s events))
 
 pub copies_of-cons : (s x : ℕ) (multiset : List ℕ) → copies_of s (x ∷ multiset) ≡ cond (x == s) 1 0 + copies_of s multiset
 copies_of-cons s x multiset = sum_by-append (λ y. cond (y == s) 1 0) (x ∷ []) multiset ∙ ap (λ n. n + copies_of s multiset) (zero-add (cond (x == s) 1 0))
@@ -57,14 +58,6 @@ IsLegalFrom-prefix max before (e ∷ es) rest legal = (legal.0, IsLegalFrom-pref
 
 pub IsLegal-prefix : (max : ℕ) (events rest : List PermitEvent) → IsLegal max (events ++ rest) → IsLegal max events
 IsLegal-prefix max events rest legal = IsLegalFrom-prefix max [] events rest legal
-
--- how many of a seat's events are of a kind
-pub count-append : (kind : PermitEvent → Bool) (s : ℕ) (xs ys : List PermitEvent) → count_by kind (events_of_seat s (xs ++ ys)) ≡ count_by kind (events_of_seat s xs) + count_by kind (events_of_seat s ys)
-count-append kind s xs ys = ap (count_by kind) (events_of_seat-append s xs ys) ∙ sum_by-append (λ x. cond (kind x) 1 0) (events_of_seat s xs) (events_of_seat s ys)
-
--- one event is of its seat alone
-pub count_one : (kind : PermitEvent → Bool) (s : ℕ) (e : PermitEvent) → count_by kind (events_of_seat s (e ∷ [])) ≡ cond (kind e) (cond (seat_of e == s) 1 0) 0
-count_one kind s e = grind arith
 
 pub copies_of_within : (s : ℕ) (multiset : List ℕ) → copies_of s multiset ≤ length multiset
 copies_of_within s multiset = count_by-le-length (λ x. x == s) multiset

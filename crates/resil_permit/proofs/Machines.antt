@@ -57,7 +57,8 @@ sound_step max m (Load c) can s = dite (ℕ_discrete m.word 0)
     (λ is. after_shown-is (IsSound max) m (Load c) show.Refused (shown_refused m c is)
     (pushed max m.word m.callers m (Refused c) s (omega arith) (omega (arith, one_more)) s.some_free))
     (λ not. after_shown-is (IsSound max) m (Load c) show.Loaded (shown_loaded m c not)
-    (record { legal = s.legal; counts = s.counts; within = s.within; some_free = loads_some m.callers c (Loaded m.word) (λ n e. let is : m.word ≡ n = cc in omega arith) s.some_free }))
+    (let loaded = loads_some m.callers c (Loaded m.word) (λ n e. let is : m.word ≡ n = cc in omega arith) s.some_free in
+    record { legal = s.legal; counts = s.counts; within = s.within; some_free = loaded }))
 sound_step max m (Exchange c) can s =
     let some = s.some_free c can.0 can.1 in
     let idle = loads_some m.callers c Idle (λ n e. absurd (cc)) s.some_free in

@@ -1,5 +1,5 @@
 -- What a step of one pass leaves of the rule of the word.
-use Rattle.std.proofs.Common.{◌≡◌, ◌≢◌, ℕ, ◌+◌, Bool, List, [], ◌∷◌, ◌++◌, length, set, get_or, refl, sym, ap, ◌∙◌, subst, arith, length-set, get_or-set_same, append-nil}
+use Rattle.std.proofs.Common.{◌≡◌, ◌≢◌, ℕ, ◌+◌, Bool, List, [], ◌∷◌, ◌++◌, length, set, get_or, refl, sym, ap, ◌∙◌, subst, arith, length-set, get_or-set_same}
 use Rattle.std.specs.Prelude.{count_by}
 use mathlib.Core.Option.{some}
 use mathlib.Core.List.{IsPrefix}
@@ -12,7 +12,7 @@ use Rattle.resil_permit.specs.History.{seat_of, is_taking, is_giving, is_retirin
 use Rattle.resil_permit.specs.Log.Seats.{IsSeenWhole}
 use Rattle.resil_permit.specs.Rule.{view_of, IsLive, FitsPassPhase, Fits, PermitWordInvariant}
 use Rattle.resil_permit.specs.Steps.{PassSeat, IsSame}
-use Rattle.resil_permit.proofs.Histories.{events_of_seat-append, events_of_other, holders-push, IsLegal-push}
+use Rattle.resil_permit.proofs.Histories.{events_of_seat-other, holders-push, IsLegal-push}
 use Rattle.resil_permit.proofs.Log.Prefixes.{prefix_self, prefix_trans}
 use Rattle.resil_permit.proofs.Log.Seats.{live_later, live_whole, seen_here, log_moves}
 
@@ -65,7 +65,7 @@ module _ (max n place : ℕ) (words : List ℕ) (views : List View) (k : PermitW
       let now = k.log ++ e ∷ [] in
       let w = view_of place max now Idle in
       moved w now (e ∷ [], refl) (IsLegal-push max k.log e k.shared.legal may) (ap (λ (multiset : List ℕ). n + length multiset) (holders-push k.log e) ∙ counts)
-      (λ j apart. events_of_seat-append j k.log (e ∷ []) ∙ (ap (λ (es : List PermitEvent). events_of_seat j k.log ++ es) (events_of_other j e [] (λ same. apart (sym same ∙ is))) ∙ append-nil (events_of_seat j k.log)))
+      (λ j apart. events_of_seat-other j k.log e (λ same. apart (sym same ∙ is)))
       (live_whole now refl refl)
       (seen_here views place v w at refl)
 

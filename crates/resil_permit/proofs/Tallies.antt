@@ -5,7 +5,7 @@ use Rattle.std.proofs.lemmas.List.Sums.{sum_by-append}
 use Rattle.resil_permit.specs.declared.event.PermitEvent.{PermitEvent}
 use Rattle.resil_permit.specs.declared.event.PermitEvent.TheVariants.{Took, Gave, Refused, Retired, Raised}
 use Rattle.resil_permit.specs.History.{seat_of, is_retiring, is_raising, taken_count, events_of_seat, retired_count, raised_count, let_go_count, copies_of, without_one, holders_after, holders, in_use_count, IsAllowed, IsLegal}
-use Rattle.resil_permit.proofs.Histories.{copies_of-cons, copies_of-without_one, length-without_one, holders-push, by_events, count-append, count_one}
+use Rattle.resil_permit.proofs.Histories.{copies_of-cons, copies_of-without_one, length-without_one, holders-push, by_events, events_of_seat-append}
 
 -- the multiset of seats that retired a permit and have not raised it, each as often as it has one retired, after one more event
 abbrev retirees_after : List ℕ → PermitEvent → List ℕ
@@ -28,7 +28,9 @@ pub record IsTallied (max : ℕ) (events : List PermitEvent) (holding keeping : 
 -- one event more of a seat's own is one more of its kind
 pub more : (kind : PermitEvent → Bool) (s : ℕ) (events : List PermitEvent) (e : PermitEvent)
     → count_by kind (events_of_seat s (events ++ e ∷ [])) ≡ count_by kind (events_of_seat s events) + cond (kind e) (cond (seat_of e == s) 1 0) 0
-more kind s events e = count-append kind s events (e ∷ []) ∙ ap (λ (n : ℕ). count_by kind (events_of_seat s events) + n) (count_one kind s e)
+more kind s events e =
+    ap (count_by kind) (events_of_seat-append s events (e ∷ []))
+    ∙ (sum_by-append (λ x. cond (kind x) 1 0) (events_of_seat s events) (events_of_seat s (e ∷ [])) ∙ grind arith)
 
 -- what one event more changes
 pub ruleset one_more = (more, all-append, copies_of-cons, copies_of-without_one, length-without_one)
