@@ -8,10 +8,6 @@ use Rattle.resil_permit.specs.Waits.{IsRefusedTimes, HasWaited}
 still_same : (p q r : PassView) → IsSamePass p q → IsSamePass q r → IsSamePass p r
 still_same p q r first second = record { source = second.source ∙ first.source; number = second.number ∙ first.number }
 
--- a pass that hasn't tried has waited
-pub not_yet : (p : PassView) → HasWaited p p
-not_yet p = record { refusals = 0; refused = refl; same = record { source = refl; number = refl } }
-
 -- one refused try more
 pub once_more : (p q r : PassView) → HasWaited p q → IsSamePass q r → IsTry q r Full → HasWaited p r
 once_more p q r waited same tried = record { refusals = suc waited.refusals; refused = (q, waited.refused, same, tried); same = still_same p q r waited.same same }

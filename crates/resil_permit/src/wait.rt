@@ -36,7 +36,6 @@ impl Permits {
     ///     Acquire::Full => println!(rt; "no permit came free")?,
     /// }
     /// ```
-    #[tactic(auto, using(crate::proofs::Waits::not_yet, crate::proofs::Waits::once_before))]
     pub fn acquire_within<R: Wait + Clock>(
         &self,
         rt: &R,
@@ -63,7 +62,6 @@ impl Permits {
     }
 
     // Tries and sleeps until a permit is taken, or the time is over and the last try was refused.
-    #[tactic(auto, using(crate::proofs::Waits::not_yet, crate::proofs::Waits::once_more))]
     fn acquire_until<R: Wait + Clock>(&self, rt: &R, pass: &mut Pass, time: TimeLeft) -> Acquire
         requires { pass.old.source ≡ self.now }
         ensures pass { IsSamePass pass.old pass.new }
