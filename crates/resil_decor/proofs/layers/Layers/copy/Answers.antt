@@ -1,6 +1,0 @@
--- What the prover finds by itself, written down because edits that must fail open it.
-use Rattle.std.proofs.Common.{rules}
-use Rattle.resil_decor.proofs.layers.Layers.copy.Goals as goal
-
-pub returns-clause-copied : goal.returns-clause-copied
-returns-clause-copied c = search rules
