@@ -28,10 +28,7 @@ has_none-empty (kind ∷ kinds) none = cc
 
 -- a test that isn't ignored and is listed, or that no kind is listed for, by three answers
 named : (ignored none has : Bool) → (not ignored && (none || has)) ≡ true → (ignored ≡ false) × ((none ≡ true) ⊎ (has ≡ true))
-named false true has holds = (refl, inl refl)
-named false false true holds = (refl, inr refl)
-named false false false holds = cc
-named true none has holds = cc
+named ignored none has holds = grind (arith, holds)
 
 -- the rule of an error test is what `names` computes
 pub names-IsNamed : (test : ErrorTestView) (kind : Kind) → IsTrue (names test kind) ↔ IsNamed test kind
@@ -45,12 +42,7 @@ names-IsNamed test kind = (
   λ rule.
       let ignored = false_from_ne_true (has_kind test.ignored kind) (λ has. rule.not_ignored (has_kind-Contains test.ignored kind has)) in
       ⊎_elim
-      (λ unlisted.
-      let all : has_none test.named ≡ true = ap has_none unlisted in
-      rw (ignored, all) refl)
-      (λ contains.
-      let has = Contains-has_kind test.named kind contains in
-      let either : (has_none test.named || has_kind test.named kind) ≡ true = rw has (or-true (has_none test.named)) in
-      rw (ignored, either) refl)
+      (λ unlisted. let all : has_none test.named ≡ true = ap has_none unlisted in rw (ignored, all) refl)
+      (λ contains. rw (ignored, Contains-has_kind test.named kind contains) (or-true (has_none test.named)))
       rule.named_or_all,
 )

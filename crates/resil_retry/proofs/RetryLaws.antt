@@ -65,7 +65,10 @@ pub record Done (settings : RetryConfigView) (start now : List Outcome) (old new
   pub callee : IsSomeAnd (retry_of settings start) (λ r. now ≡ r.after)
 
 -- one call of a script with a first outcome
-called : (script : List Outcome) (o : Outcome) → first script ≡ Some o → scripted script ≡ Some (record { outcome = o; calls = 1; waits = []; after = rest script })
+abbrev one_call : List Outcome → Outcome → CallResult (List Outcome)
+one_call script o = record { outcome = o; calls = 1; waits = []; after = rest script }
+
+called : (script : List Outcome) (o : Outcome) → first script ≡ Some o → scripted script ≡ Some (one_call script o)
 called script o h = rw h refl
 
 -- before the first attempt
@@ -81,31 +84,28 @@ SoFar-start settings start waits some = record {
 
 module _ (settings : RetryConfigView) (start now : List Outcome) (old new : WaitsView) (k : ℕ) (so_far : SoFar settings start now old new k) (o : Outcome) (given : first now ≡ Some o) where
   -- after the retry ends
-  ended : (c : RetryResult (List Outcome)) → retry_from settings scripted (settings.max_attempts - k) k now ≡ Some c → c.waits ≡ [] → c.calls ≡ 1 → c.after ≡ rest now
-      → Done settings start (rest now) old new (c.outcome, c.ending)
-  ended c is_c no_waits one_call left =
-      let whole : retry_of settings start ≡ Some (prepend (length so_far.recorded) so_far.recorded c) = so_far.to_do ∙ rw is_c refl in
-      let waits : so_far.recorded ++ c.waits ≡ so_far.recorded = rw no_waits (append-nil so_far.recorded) in
+  ended : (outcome : Outcome) (ending : Ending) → retry_from settings scripted (settings.max_attempts - k) k now ≡ Some (record { outcome = outcome; ending = ending; calls = 1; waits = []; after = rest now })
+      → Done settings start (rest now) old new (outcome, ending)
+  ended outcome ending last =
+      let whole = so_far.to_do ∙ ap (option_map (prepend (length so_far.recorded) so_far.recorded)) last in
+      let recorded = append-nil so_far.recorded in
       record {
         answer = rw whole refl;
-        waits = rw (whole, waits) so_far.items;
-        room = rw (whole, waits) so_far.room;
-        calls = rw (whole, waits, one_call) refl;
-        callee = rw whole (sym left);
+        waits = rw (whole, recorded) so_far.items;
+        room = rw (whole, recorded) so_far.room;
+        calls = rw (whole, recorded) refl;
+        callee = rw whole refl;
       }
 
   -- an outcome that isn't to be retried
   pub Done-stopped : again settings o ≡ false → Done settings start (rest now) old new (o, ending_at k o)
-  Done-stopped over =
-      ended (stopped k (record { outcome = o; calls = 1; waits = []; after = rest now }))
-      (retry_from-stopped settings scripted (settings.max_attempts - k) k now (record { outcome = o; calls = 1; waits = []; after = rest now }) (called now o given) over) refl refl refl
+  Done-stopped over = ended o (ending_at k o) (retry_from-stopped settings scripted (settings.max_attempts - k) k now (one_call now o) (called now o given) over)
 
   -- an outcome that is to be retried, at the last attempt
   pub Done-exhausted : again settings o ≡ true → k ≡ settings.max_attempts → Done settings start (rest now) old new (exhausted_outcome settings o, Exhausted)
   Done-exhausted more last =
       let none_left : settings.max_attempts - k ≡ 0 = omega arith in
-      ended (exhausted settings (record { outcome = o; calls = 1; waits = []; after = rest now }))
-      (rw none_left (retry_from-exhausted settings scripted k now (record { outcome = o; calls = 1; waits = []; after = rest now }) (called now o given) more)) refl refl refl
+      ended (exhausted_outcome settings o) Exhausted (rw none_left (retry_from-exhausted settings scripted k now (one_call now o) (called now o given) more))
 
   -- an outcome that is to be retried, with attempts left
   pub SoFar-again : again settings o ≡ true → k ≢ settings.max_attempts → (newer : WaitsView) → newer.items ≡ new.items ++ wait_after settings k ∷ [] → newer.room + 1 ≡ new.room
@@ -114,12 +114,12 @@ module _ (settings : RetryConfigView) (start now : List Outcome) (old new : Wait
       let within : k + 1 ≤ settings.max_attempts = omega (arith, so_far.within) in
       let left : settings.max_attempts - k ≡ suc (settings.max_attempts - (k + 1)) = omega (arith, so_far.within) in
       let longer : length (so_far.recorded ++ wait_after settings k ∷ []) ≡ length so_far.recorded + 1 = length-append so_far.recorded (wait_after settings k ∷ []) in
-      let step = retry_from-again settings scripted (settings.max_attempts - (k + 1)) k now (record { outcome = o; calls = 1; waits = []; after = rest now }) (called now o given) more in
+      let step = retry_from-again settings scripted (settings.max_attempts - (k + 1)) k now (one_call now o) (called now o given) more in
       record {
         recorded = so_far.recorded ++ wait_after settings k ∷ [];
-        items = wait ∙ rw (so_far.items, append_assoc old.items so_far.recorded (wait_after settings k ∷ [])) refl;
+        items = rw (wait, so_far.items) (append_assoc old.items so_far.recorded (wait_after settings k ∷ []));
         room = omega (arith, longer, so_far.room);
         counted = omega (arith, longer, so_far.counted);
         within = within;
-        to_do = so_far.to_do ∙ rw (left, step, prepend-prepend, ← longer) (ap (λ n. option_map (prepend (length (so_far.recorded ++ wait_after settings k ∷ [])) (so_far.recorded ++ wait_after settings k ∷ [])) (retry_from settings scripted (settings.max_attempts - (k + 1)) n (rest now))) (sym (add-one k)));
+        to_do = so_far.to_do ∙ rw (left, step, prepend-prepend, longer, add-one k) refl;
       }
