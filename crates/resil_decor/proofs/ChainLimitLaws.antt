@@ -55,18 +55,15 @@ pub max_permit_requests-le : (layers : List Layer) → 1 ≤ max_calls layers �
 unfolding max_calls max_permit_requests
 max_permit_requests-le [] h = omega arith
 max_permit_requests-le (Retry settings ∷ inside) h =
-    let some = right_factor settings.max_attempts (max_calls inside) h in
-    let inner = max_permit_requests-le inside some in
+    let inner = max_permit_requests-le inside (right_factor settings.max_attempts (max_calls inside) h) in
     let wider : settings.max_attempts * max_permit_requests inside ≤ settings.max_attempts * (length inside * max_calls inside) = mul-le-mul_left settings.max_attempts inner in
     omega (arith, wider)
 max_permit_requests-le (Bulkhead id ∷ inside) h =
-    let some : 1 ≤ max_calls inside = omega (arith, h) in
-    let inner = max_permit_requests-le inside some in
-    omega (arith, inner, some)
+    let inner = max_permit_requests-le inside (omega (arith, h)) in
+    omega (arith, inner, h)
 max_permit_requests-le (Fallback catch value ∷ inside) h =
-    let some : 1 ≤ max_calls inside = omega (arith, h) in
-    let inner = max_permit_requests-le inside some in
-    omega (arith, inner, some)
+    let inner = max_permit_requests-le inside (omega (arith, h)) in
+    omega (arith, inner, h)
 
 -- the layers inside the outermost one of a chain are a chain
 pub IsChain-inside : (layers : List Layer) (layer : Layer) → IsChain (layers ++ layer ∷ []) → IsChain layers

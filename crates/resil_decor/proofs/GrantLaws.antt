@@ -39,54 +39,36 @@ retry_gives : {S : Type 0} (settings : RetryConfigView) (call other : S → Opti
 unfolding retry_from
 retry_gives settings call other gives zero k s = map_gives (last_attempt settings k) (call s) (other s) (gives s)
 retry_gives settings call other gives (suc left) k s =
-    and_then_gives (λ c. attempt settings k c (retry_from settings call left (suc k) c.after)) (λ c. attempt settings k c (retry_from settings other left (suc k) c.after)) (call s) (other s) (gives s)
-    (λ c. if_gives (again settings c.outcome) _ _ (Some (stopped k c))
-    (map_gives (prepend c.calls (c.waits ++ wait_after settings k ∷ [])) (retry_from settings call left (suc k) c.after) (retry_from settings other left (suc k) c.after) (retry_gives settings call other gives left (suc k) c.after)))
+    and_then_gives _ _ (call s) (other s) (gives s)
+    (λ c. if_gives (again settings c.outcome) _ _ _ (map_gives (prepend c.calls (c.waits ++ wait_after settings k ∷ [])) _ _ (retry_gives settings call other gives left (suc k) c.after)))
 
 -- a bulkhead around a call that has the value of another
 bulkhead_gives : (id : ℕ) (call other : Remaining → Option (CallResult Remaining)) → ((left : Remaining) → Gives (call left) (other left))
     → (script : List Outcome) (asked : List Asked) → Gives (through_bulkhead id call script asked) (through_bulkhead id other script asked)
 bulkhead_gives id call other gives script [] c h = h
 bulkhead_gives id call other gives script (answer ∷ answers) c h =
-    let left : Remaining = record { script = script; asked = answers } in
-    if_gives (answer.id == id) (if answer.granted then call left else Some (refused left)) (if answer.granted then other left else Some (refused left)) None
-    (if_gives answer.granted (call left) (other left) (Some (refused left)) (gives left))
-    c h
+    if_gives (answer.id == id) _ _ None (if_gives answer.granted _ _ _ (gives (record { script = script; asked = answers }))) c h
 
 -- the call through layers within the permits of their bulkheads has the value of the call through
 -- the layers
-pub through_within-through : (permits : ℕ → ℕ) (layers around : List Layer) (left : Remaining) (c : CallResult Remaining)
-    → through_within permits around layers left ≡ Some c → through layers left ≡ Some c
+pub through_within-through : (permits : ℕ → ℕ) (layers around : List Layer) (left : Remaining) → Gives (through_within permits around layers left) (through layers left)
 unfolding through through_within
 through_within-through permits [] around left c h = h
 through_within-through permits (Retry settings ∷ inside) around left c h =
-    map_gives as_call (retry_from settings (through_within permits (Retry settings ∷ around) inside) (settings.max_attempts - 1) 1 left) (retry_from settings (through inside) (settings.max_attempts - 1) 1 left)
-    (retry_gives settings (through_within permits (Retry settings ∷ around) inside) (through inside) (through_within-through permits inside (Retry settings ∷ around)) (settings.max_attempts - 1) 1 left)
-    c h
+    map_gives as_call _ _ (retry_gives settings _ _ (through_within-through permits inside (Retry settings ∷ around)) (settings.max_attempts - 1) 1 left) c h
 through_within-through permits (Bulkhead id ∷ inside) around left c h =
-    bulkhead_gives id (under_permit (held_inside id around) (permits id) (through_within permits (Bulkhead id ∷ around) inside)) (through inside)
-    (λ later. if_true_gives (nat_lt (held_inside id around) (permits id)) (through_within permits (Bulkhead id ∷ around) inside later) (through inside later) (through_within-through permits inside (Bulkhead id ∷ around) later))
+    bulkhead_gives id _ _ (λ later. if_true_gives (nat_lt (held_inside id around) (permits id)) _ _ (through_within-through permits inside (Bulkhead id ∷ around) later))
     left.script left.asked c h
 through_within-through permits (Fallback catch value ∷ inside) around left c h =
-    map_gives (through_fallback catch value) (through_within permits (Fallback catch value ∷ around) inside left) (through inside left) (through_within-through permits inside (Fallback catch value ∷ around) left)
-    c h
+    map_gives (through_fallback catch value) _ _ (through_within-through permits inside (Fallback catch value ∷ around) left) c h
 
 -- a run whose call has a value within the permits has its own there
-value_within : (x y : Option (CallResult Remaining)) (P : CallResult Remaining → Type 0) → Gives x y → IsSomeAnd y P → IsSome x → IsSomeAnd x P
-value_within None y P gives value some = let no : false ≡ true = some in absurd (cc)
-value_within (Some c) y P gives value some = subst (λ (z : Option (CallResult Remaining)). IsSomeAnd z P) (gives c refl) value
-
-has_value : (x : Option (CallResult Remaining)) (P : CallResult Remaining → Type 0) → IsSomeAnd x P → IsSome x
-has_value None P value = absurd value
-has_value (Some c) P value = refl
+value_within : {A : Type 0} (x y : Option A) (P : A → Type 0) → Gives x y → IsSomeAnd y P → IsSome x ↔ IsSomeAnd x P
+value_within None y P gives value = (λ some. let no : false ≡ true = some in absurd (cc), λ none. absurd none)
+value_within (Some a) y P gives value = (λ some. rw (gives a refl) at value, λ holds. refl)
 
 pub some_within : (bulkheads : List BulkheadView) (r : RunView) → IsValue r
     → IsSome (through_within (permits_of bulkheads) [] (reverse r.plan.layers) (record { script = r.plan.script; asked = r.asked })) ↔ IsWithin bulkheads r
 some_within bulkheads r value =
-    let left : Remaining = record { script = r.plan.script; asked = r.asked } in
-    let layers = reverse r.plan.layers in
-    let P : CallResult Remaining → Type 0 = λ c. (c.outcome ≡ r.outcome) × (c.calls ≡ r.calls) × (c.waits ≡ r.waits) × (c.after.asked ≡ []) in
-    let within = through_within (permits_of bulkheads) [] layers left in (
-      λ some. value_within within (through layers left) P (through_within-through (permits_of bulkheads) layers [] left) value some,
-      λ has. has_value within P has,
-    )
+    value_within _ _ (λ c. (c.outcome ≡ r.outcome) × (c.calls ≡ r.calls) × (c.waits ≡ r.waits) × (c.after.asked ≡ []))
+    (through_within-through (permits_of bulkheads) (reverse r.plan.layers) [] (record { script = r.plan.script; asked = r.asked })) value

@@ -1,40 +1,34 @@
--- How often an id is in a list, and how often after one of them is removed.
-use Rattle.std.proofs.Common.{◌≡◌, ◌≢◌, ◌<◌, ◌+◌, ◌==◌, ◌∷◌, [], ℕ, suc, Bool, true, false, List, length, filter, Some, refl, arith}
-use Rattle.std.specs.List.{position_from, remove}
-
-pub some_same : {a b : ℕ} → Some a ≡ Some b → a ≡ b
-some_same h = cc h
+-- How often an id is in a list, and how often after the first of them is removed.
+use Rattle.std.proofs.Common.{◌≡◌, ◌<◌, ◌+◌, ◌==◌, ◌∷◌, ◌∙◌, [], ℕ, List, length, filter, get_or, Some, cond, sym, arith}
+use Rattle.std.specs.Prelude.{IsSome}
+use Rattle.std.specs.List.{position_from, position_or_len, remove}
+use Rattle.std.proofs.lemmas.Bool.{eqb-true, ltb-true, ne_eqb}
+use Rattle.std.proofs.lemmas.Iterator.Adapters.{position_from-zero}
+use Rattle.std.proofs.lemmas.List.Sums.{length-filter, passes_at_first, sum_by-remove}
+use Rattle.std.proofs.lemmas.Option.{cond_some}
+use Rattle.resil_decor.specs.Permitter.{IsGivenBack}
 
 -- how often an id is in a list
-abbrev count : ℕ → List ℕ → ℕ
-count id xs = length (filter (λ other. other == id) xs)
+abbrev count : List ℕ → ℕ → ℕ
+count xs id = length (filter (λ other. other == id) xs)
 
--- the index of the first such id, and the list without it
-pub record FirstIndex (id start : ℕ) (xs : List ℕ) : Type 0 where
-  pub index : ℕ
-  pub found : position_from (λ other. other == id) start xs ≡ Some (start + index)
-  pub inside : index < length xs
-  pub one_fewer : count id xs ≡ count id (remove xs index) + 1
-  pub others : (other : ℕ) → other ≢ id → count other (remove xs index) ≡ count other xs
+pub some_found : (id start : ℕ) (xs : List ℕ) → 0 < count xs id → IsSome (position_from (λ other. other == id) start xs)
+some_found id start [] some = absurd (omega (arith, some))
+some_found id start (x ∷ xs) some = grind (arith, some_found id (start + 1) xs, some)
 
-pub first_index : (id start : ℕ) (xs : List ℕ) → 0 < count id xs → FirstIndex id start xs
-first_index id start [] h = absurd (omega (arith, h))
-first_index id start (x ∷ xs) h = go (first_index id (start + 1) xs) (x == id) refl
-  where
-    go : (0 < count id xs → FirstIndex id (start + 1) xs) → (b : Bool) → (x == id) ≡ b → FirstIndex id start (x ∷ xs)
-    go later true here = record {
-      index = 0;
-      found = grind (arith, here);
-      inside = omega arith;
-      one_fewer = grind (arith, here);
-      others = λ other apart. grind (arith, here, apart);
-    }
-    go later false here =
-        let more = later (grind (arith, here, h)) in
-        record {
-          index = suc more.index;
-          found = grind (arith, here, more.found);
-          inside = omega (arith, more.inside);
-          one_fewer = grind (arith, here, more.one_fewer);
-          others = λ other apart. grind (arith, here, more.others other apart);
-        }
+-- the first such id is in the list, and without it there is one fewer
+pub first_removed : (id : ℕ) (xs : List ℕ) (i : ℕ) → position_from (λ other. other == id) 0 xs ≡ Some i → (i < length xs) × IsGivenBack (count xs) id (count (remove xs i))
+first_removed id xs i found =
+    let parts = cond_some _ _ i (position_from-zero (λ other. other == id) xs ∙ found) in
+    let inside = ltb-true _ (length xs) parts.0 in
+    let first = position_or_len (λ x. x == id) xs in
+    let passes = passes_at_first (λ x. x == id) xs 0 inside in
+    let counted : (other : ℕ) → count (remove xs first) other + cond (get_or xs first 0 == other) 1 0 ≡ count xs other =
+        λ other. rw (length-filter (λ x. x == other) xs, length-filter (λ x. x == other) (remove xs first)) (sum_by-remove (λ x. cond (x == other) 1 0) xs first 0 inside) in
+    rw (← parts.1)
+    (inside, record {
+      one_fewer = sym (rw passes at (counted id));
+      others = λ other apart.
+          let same = rw (ne_eqb (get_or xs first 0) other (λ e. apart (sym e ∙ eqb-true (get_or xs first 0) id passes))) at (counted other) in
+          omega (arith, same);
+    })

@@ -1,5 +1,5 @@
 -- What a call through a layer is, by what the call inside it is.
-use Rattle.std.proofs.Common.{◌≡◌, ◌≢◌, ◌≤◌, ◌<◌, ◌+◌, ◌*◌, ◌==◌, ◌∷◌, [], ◌++◌, ◌∙◌, ℕ, ℤ, suc, List, length, Some, option_map, ◌-◌, true, false, refl, sym, ap, arith, append_assoc, append-nil, length-append}
+use Rattle.std.proofs.Common.{◌≡◌, ◌≢◌, ◌≤◌, ◌<◌, ◌+◌, ◌*◌, ◌==◌, ◌∷◌, [], ◌++◌, ◌∙◌, ℕ, ℤ, suc, List, length, Some, option_map, ◌-◌, true, false, refl, sym, ap, arith, add-one, append_assoc, append-nil, length-append}
 use Rattle.std.proofs.lemmas.Bool.Decides.{Decides-eqb}
 use Rattle.resil_retry.specs.declared.outcome.Ending.{Ending}
 use Rattle.resil_retry.specs.declared.outcome.Ending.TheVariants.{Exhausted}
@@ -15,8 +15,7 @@ use Rattle.resil_decor.specs.declared.permitter.Asked.{Asked}
 use Rattle.resil_decor.specs.declared.layer.Layer.{Layer}
 use Rattle.resil_decor.specs.declared.layer.Layer.TheVariants.{Retry, Bulkhead, Fallback}
 use Rattle.resil_decor.specs.Chain.{Remaining, through, fallback_outcome}
-use Rattle.resil_decor.specs.Permitter.{PermitterAnswers, IsAnswered, AreAnswered}
-use Rattle.resil_decor.specs.PermitterLaws.{AreAnswered-append}
+use Rattle.resil_decor.specs.Permitter.{PermitterAnswers, IsAnswered, AreAnswered, AreAnswered-append}
 use Rattle.resil_decor.specs.RunLog.{RunLogView, HasRoom, IsAnswerWritten, IsCallThrough, max_permit_requests}
 use Rattle.resil_decor.specs.ChainLimits.{max_calls}
 use Rattle.resil_decor.proofs.ChainLimitLaws.{max_calls-none, max_calls-cons, max_permit_requests-none, max_permit_requests-retry, max_permit_requests-bulkhead, max_permit_requests-fallback}
@@ -197,74 +196,52 @@ module _ (settings : RetryConfigView) (inside : List Layer) (start now : List Ou
         (λ later. rw none_left (retry_from-exhausted settings (through inside) k (record { script = now; asked = ran.asked ++ later }) (called later) (ran.value later) more))
 
     -- an outcome that is to be retried, with attempts left
-    pub SoFar-again : again settings o ≡ true → k ≢ settings.max_attempts → (newer : RunLogView)
+    pub SoFar-again : again settings o ≡ true → (later : ℕ) → so_far.left ≡ suc later → (newer : RunLogView)
         → newer.waits ≡ new.waits ++ wait_after settings k ∷ [] → newer.wait_room + 1 ≡ new.wait_room → newer.calls ≡ new.calls
         → (newer.asked ≡ new.asked) × (newer.asked_room ≡ new.asked_room)
         → SoFar settings inside start left before after old newer (k + 1)
-    SoFar-again more before_last newer waits room calls asked =
-        let left_before : so_far.left ≡ suc (so_far.left - 1) = omega (arith, so_far.attempt, so_far.attempts, before_last) in
-        let step = λ (later : List Asked). retry_from-again settings (through inside) (so_far.left - 1) k (record { script = now; asked = ran.asked ++ later }) (called later) (ran.value later) more in
-        let next_attempt : suc k ≡ k + 1 = omega arith in
+    SoFar-again more later one_more newer waits room calls asked =
+        let step = λ (answers : List Asked). retry_from-again settings (through inside) later k (record { script = now; asked = ran.asked ++ answers }) (called answers) (ran.value answers) more in
         let sum_waits = length-append so_far.waits (ran.waits ++ wait_after settings k ∷ []) in
-        let one_more = length-append ran.waits (wait_after settings k ∷ []) in
+        let one_wait = length-append ran.waits (wait_after settings k ∷ []) in
         let sum_asked = length-append so_far.asked ran.asked in
         record {
           tried = so_far.tried + 1;
-          left = so_far.left - 1;
+          left = later;
           calls = so_far.calls + ran.calls;
           waits = so_far.waits ++ (ran.waits ++ wait_after settings k ∷ []);
           asked = so_far.asked ++ ran.asked;
           attempt = omega (arith, so_far.attempt);
-          attempts = omega (arith, so_far.attempts, left_before);
-          to_do = λ later.
-              ap (λ asked. retry_from settings (through inside) (settings.max_attempts - 1) 1 (record { script = start; asked = asked })) (append_assoc so_far.asked ran.asked later)
-              ∙ so_far.to_do (ran.asked ++ later)
-              ∙ ap (λ n. option_map (prepend so_far.calls so_far.waits) (retry_from settings (through inside) n k (record { script = now; asked = ran.asked ++ later }))) left_before
-              ∙ ap (option_map (prepend so_far.calls so_far.waits)) (step later)
-              ∙ prepend-prepend so_far.calls ran.calls so_far.waits (ran.waits ++ wait_after settings k ∷ []) (retry_from settings (through inside) (so_far.left - 1) (suc k) (record { script = left; asked = later }))
-              ∙ ap (λ n. option_map (prepend (so_far.calls + ran.calls) (so_far.waits ++ (ran.waits ++ wait_after settings k ∷ []))) (retry_from settings (through inside) (so_far.left - 1) n (record { script = left; asked = later }))) next_attempt;
+          attempts = omega (arith, so_far.attempts, one_more);
+          to_do = λ answers. rw (append_assoc so_far.asked ran.asked answers, so_far.to_do (ran.asked ++ answers), one_more, step answers, add-one k)
+              (prepend-prepend so_far.calls ran.calls so_far.waits (ran.waits ++ wait_after settings k ∷ []) (retry_from settings (through inside) later (suc k) (record { script = left; asked = answers })));
           answered = AreAnswered-append before between after so_far.asked ran.asked so_far.answered ran.answered;
           new_calls = omega (arith, calls, ran.new_calls, so_far.new_calls);
-          new_waits = waits ∙ ap (λ w. w ++ wait_after settings k ∷ []) (ran.new_waits ∙ ap (λ w. w ++ ran.waits) so_far.new_waits)
-              ∙ append_assoc (old.waits ++ so_far.waits) ran.waits (wait_after settings k ∷ []) ∙ append_assoc old.waits so_far.waits (ran.waits ++ wait_after settings k ∷ []);
-          new_asked = asked.0 ∙ ran.new_asked ∙ ap (λ w. w ++ ran.asked) so_far.new_asked ∙ append_assoc old.asked so_far.asked ran.asked;
-          wait_room = omega (arith, room, ran.wait_room, so_far.wait_room, sum_waits, one_more);
+          new_waits = rw (waits, ran.new_waits, so_far.new_waits, append_assoc (old.waits ++ so_far.waits) ran.waits (wait_after settings k ∷ []))
+              (append_assoc old.waits so_far.waits (ran.waits ++ wait_after settings k ∷ []));
+          new_asked = rw (asked.0, ran.new_asked, so_far.new_asked, append_assoc) refl;
+          wait_room = omega (arith, room, ran.wait_room, so_far.wait_room, sum_waits, one_wait);
           asked_room = omega (arith, asked.1, ran.asked_room, so_far.asked_room, sum_asked);
           few_calls = omega (arith, so_far.few_calls, ran.few_calls);
-          few_waits = omega (arith, so_far.few_waits, ran.few_waits, sum_waits, one_more);
+          few_waits = omega (arith, so_far.few_waits, ran.few_waits, sum_waits, one_wait);
           few_asked = omega (arith, so_far.few_asked, ran.few_asked, sum_asked);
         }
 
--- the call inside a bulkhead is made at least once
-pub some_inside : (id : ℕ) (inside : List Layer) (old : RunLogView) → HasRoom (Bulkhead id ∷ inside) old → 1 ≤ max_calls inside
-some_inside id inside old room = let some_call = rw max_calls-cons at room.some_call in omega (arith, some_call)
-
--- there is room for one more answer, and then for the call inside
-pub room_to_ask : (id : ℕ) (inside : List Layer) (old : RunLogView) → HasRoom (Bulkhead id ∷ inside) old → 0 < old.asked_room
-room_to_ask id inside old room = let asked = rw max_permit_requests-bulkhead at room.asked in omega (arith, asked)
-
+-- there is room for the call inside, after one more answer
 pub room_permitted : (id : ℕ) (inside : List Layer) (old middle : RunLogView) (asked : Asked) → HasRoom (Bulkhead id ∷ inside) old → IsAnswerWritten old asked middle → HasRoom inside middle
-room_permitted id inside old middle asked room written =
-    let some_call = rw max_calls-cons at room.some_call in
-    let calls = rw max_calls-cons at room.calls in
-    let waits = rw max_calls-cons at room.waits in
-    let asks = rw max_permit_requests-bulkhead at room.asked in
-    record {
-      some_call = omega (arith, some_call);
-      calls = omega (arith, calls, written.calls);
-      waits = omega (arith, waits, written.waits.1);
-      asked = omega (arith, asks, written.room);
-    }
+unfolding max_calls max_permit_requests
+room_permitted id inside old middle asked room written = record {
+  some_call = omega (arith, room.some_call);
+  calls = omega (arith, room.calls, written.calls);
+  waits = omega (arith, room.waits, written.waits.1);
+  asked = omega (arith, room.asked, written.room);
+}
 
 pub room_in_fallback : (catch : ErrorTestView) (value : ℤ) (inside : List Layer) (old : RunLogView) → HasRoom (Fallback catch value ∷ inside) old → HasRoom inside old
-room_in_fallback catch value inside old room =
-    let some_call = rw max_calls-cons at room.some_call in
-    let calls = rw max_calls-cons at room.calls in
-    let waits = rw max_calls-cons at room.waits in
-    let asks = rw max_permit_requests-fallback at room.asked in
-    record {
-      some_call = omega (arith, some_call);
-      calls = omega (arith, calls);
-      waits = omega (arith, waits);
-      asked = asks;
-    }
+unfolding max_calls max_permit_requests
+room_in_fallback catch value inside old room = record {
+  some_call = omega (arith, room.some_call);
+  calls = omega (arith, room.calls);
+  waits = omega (arith, room.waits);
+  asked = room.asked;
+}

@@ -1,9 +1,12 @@
 -- What becomes of passes where one of them acquires or releases a permit.
-use Rattle.std.proofs.Common.{◌≡◌, ◌≢◌, ◌<◌, ◌+◌, ◌++◌, ◌∷◌, [], ◌∙◌, ℕ, zero, suc, Bool, true, false, List, length, map, Some, slice_get, take, inl, refl, add-one, sym, ap, arith, append-nil}
+use Rattle.std.proofs.Common.{◌≡◌, ◌≢◌, ◌<◌, ◌+◌, ◌++◌, ◌∷◌, [], ◌∙◌, ℕ, zero, suc, Bool, true, false, List, length, map, Some, slice_get, take, inl, ⊎_elim, refl, add-one, sym, ap, arith, append-nil}
 use Rattle.std.specs.List.{filter_map, slice_set, slice_index_or}
-use Rattle.std.proofs.lemmas.List.{get_or-map, length-map, length-set, set-get_or}
+use Rattle.std.proofs.lemmas.Bool.{cases_eq}
+use Rattle.std.proofs.lemmas.Grind.{common_steps}
+use Rattle.std.proofs.lemmas.List.{get_or-map, get_or-set_same, get_or-set_other, length-map, length-set, set-get_or}
 use Rattle.std.proofs.lemmas.List.Elements.{filter_map-append}
-use Rattle.std.proofs.lemmas.Option.{slice_get-get_or}
+use Rattle.std.proofs.lemmas.Option.{gets, slice_get-get_or}
+use Rattle.std.proofs.lemmas.Slice.Zip.{all_zipped_more}
 use Rattle.std.proofs.Math.Seq.{map-set_same, take-suc}
 use Rattle.resil_bulkhead.specs.PermitEvent.{PermitEvent}
 use Rattle.resil_bulkhead.specs.PermitEvent.TheVariants.{Took, Gave, Refused}
@@ -26,24 +29,10 @@ source_at passes bulkheads i d e h same =
 
 -- a pass put where another was
 slice_get-set_same : (passes : List PassView) (i : ℕ) (q : PassView) → i < length passes → slice_get (slice_set passes i q) i ≡ Some q
-slice_get-set_same [] i q h = absurd (omega (arith, h))
-slice_get-set_same (p ∷ ps) zero q h = refl
-slice_get-set_same (p ∷ ps) (suc i) q h = slice_get-set_same ps i q (omega (arith, h))
+slice_get-set_same passes i q inside = grind (arith, common_steps, gets, inside, get_or-set_same, length-set)
 
 slice_get-set_other : (passes : List PassView) (i j : ℕ) (q : PassView) → j ≢ i → slice_get (slice_set passes i q) j ≡ slice_get passes j
-slice_get-set_other [] i j q apart = refl
-slice_get-set_other (p ∷ ps) zero zero q apart = absurd (apart refl)
-slice_get-set_other (p ∷ ps) zero (suc j) q apart = refl
-slice_get-set_other (p ∷ ps) (suc i) zero q apart = refl
-slice_get-set_other (p ∷ ps) (suc i) (suc j) q apart = slice_get-set_other ps i j q (λ e. apart (ap suc e))
-
-given-set : (passes : List PassView) (i id : ℕ) (q d : PassView) → answers_in q ≡ answers_in (slice_index_or passes i d)
-    → answers_at (slice_get (slice_set passes i q) id) ≡ answers_at (slice_get passes id)
-given-set [] i id q d h = refl
-given-set (p ∷ ps) zero zero q d h = h
-given-set (p ∷ ps) zero (suc id) q d h = refl
-given-set (p ∷ ps) (suc i) zero q d h = refl
-given-set (p ∷ ps) (suc i) (suc id) q d h = given-set ps i id q d h
+slice_get-set_other passes i j q apart = grind (arith, common_steps, gets, apart, get_or-set_other, length-set)
 
 -- own events, answer by answer
 acted : (p q : PassView) (event : PermitEvent) (Before : List PermitEvent → Type 0) → IsSamePass p q → AppendsEvent p event Before q → answers_in q ≡ answers_in p ++ filter_map answer_in (event ∷ [])
@@ -88,10 +77,14 @@ module _ (passes : List PassView) (i : ℕ) (p q : PassView) (at : p ≡ slice_i
   }
 
   -- the pass released a permit
+  given-set : AppendsEvent p (Gave p.number) (λ _. Unit {0}) q → (id : ℕ) → answers_at (slice_get (slice_set passes i q) id) ≡ answers_at (slice_get passes id)
+  given-set done id = ⊎_elim
+      (λ (here_too : id ≡ i). rw (here_too, slice_get-set_same passes i q inside, here) (released p q same done))
+      (λ apart. ap answers_at (slice_get-set_other passes i id q apart))
+      (cases_eq id i)
+
   pub answers_of-set : AppendsEvent p (Gave p.number) (λ _. Unit {0}) q → answers_of (slice_set passes i q) ≡ answers_of passes
-  answers_of-set done =
-      let same_answers : answers_in q ≡ answers_in (slice_index_or passes i p) = released p q same done ∙ ap answers_in at in
-      λ j. record { known = length-set passes i q j; given = λ id. given-set passes i id q p same_answers j }
+  answers_of-set done = λ j. record { known = length-set passes i q j; given = λ id. given-set done id j }
 
   pub IsGivenBack-set : held_by p ≡ held_by q + 1 → IsGivenBack (held_of passes) i (held_of (slice_set passes i q))
   IsGivenBack-set held = record {
@@ -105,20 +98,12 @@ some_held passes i p at inside h = rw (slice_get-get_or passes i p inside ∙ ap
 
 -- an id of which a permit is held is known
 pub held_inside : (passes : List PassView) (id : ℕ) → 0 < held_of passes id → id < length passes
-held_inside [] id h = absurd (omega (arith, h))
-held_inside (p ∷ ps) zero h = omega arith
-held_inside (p ∷ ps) (suc id) h = let more = held_inside ps id h in omega (arith, more)
+held_inside passes id h = grind (arith, common_steps, gets, h)
 
 -- passes split one by one, up to an index; the old ones stay as they are
 pub record SplitSoFar (olds now news : List PassView) (index : ℕ) : Type 0 where
   pub unchanged : now ≡ olds
   pub split : AreSplitFrom (take index olds) news
-
-AreSplitFrom-more : (olds news : List PassView) (p q : PassView) → AreSplitFrom olds news → IsSplitFrom p q → AreSplitFrom (olds ++ p ∷ []) (news ++ q ∷ [])
-AreSplitFrom-more [] [] p q h more = (more, tt)
-AreSplitFrom-more [] (n ∷ ns) p q h more = absurd h
-AreSplitFrom-more (o ∷ os) [] p q h more = absurd h
-AreSplitFrom-more (o ∷ os) (n ∷ ns) p q h more = (h.0, AreSplitFrom-more os ns p q h.1 more)
 
 pub SplitSoFar-start : (olds now : List PassView) → now ≡ olds → SplitSoFar olds now [] 0
 SplitSoFar-start olds now same = record { unchanged = same; split = tt }
@@ -130,7 +115,7 @@ SplitSoFar-more olds now news index p q kept so_far inside at same split =
     let next : take (suc index) olds ≡ take index olds ++ p ∷ [] = rw so_far.unchanged at (take-suc now index p inside ∙ ap (λ x. take index now ++ x ∷ []) (sym at)) in
     record {
       unchanged = stays ∙ so_far.unchanged;
-      split = rw (add-one, next) (AreSplitFrom-more (take index olds) news p q so_far.split split);
+      split = rw (add-one, next) (all_zipped_more IsSplitFrom (take index olds) news p q so_far.split split);
     }
 
 -- split passes have the same sources

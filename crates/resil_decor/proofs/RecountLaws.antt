@@ -1,6 +1,7 @@
 -- The recount of a run, layer by layer.
 use Rattle.std.proofs.Common.{◌≡◌, ◌≤◌, ◌<◌, ◌+◌, ◌-◌, ◌∷◌, [], ◌++◌, ◌∙◌, ℕ, ℤ, suc, List, Option, Some, None, option_map, true, false, length, take, drop, get_or, reverse, refl, sym, ap, arith, add-one, take-suc, drop-cons}
 use Rattle.std.proofs.lemmas.List.{reverse-append}
+use Rattle.std.proofs.lemmas.Option.{some_pair_parts}
 use Rattle.resil_retry.specs.declared.outcome.Outcome.{Outcome}
 use Rattle.resil_retry.specs.Config.{RetryConfigView, again, wait_after}
 use Rattle.resil_retry.specs.ErrorTest.{ErrorTestView}
@@ -10,8 +11,7 @@ use Rattle.resil_retry.proofs.RetryLaws.{retry_from-none, retry_from-stopped, re
 use Rattle.resil_decor.specs.declared.layer.Layer.{Layer}
 use Rattle.resil_decor.specs.declared.layer.Layer.TheVariants.{Retry, Bulkhead, Fallback}
 use Rattle.resil_decor.specs.Chain.{Remaining, through_bulkhead, through_fallback, fallback_outcome}
-use Rattle.resil_decor.specs.Grants.{held_inside, under_permit, through_within}
-use Rattle.resil_decor.specs.Recount.{call_at, outcome_and_rest}
+use Rattle.resil_decor.specs.Grants.{held_inside, under_permit, through_within, call_at, outcome_and_rest}
 
 -- the outcome of a retry, and what it leaves
 abbrev pub answer_of : Option (RetryResult Remaining) → Option (Outcome × Remaining)
@@ -25,9 +25,7 @@ answer_of-prepend calls waits r = grind arith
 given_by : (call : Option (CallResult Remaining)) (o : Outcome) (left : Remaining) → Some (o, left) ≡ option_map outcome_and_rest call
     → (c : CallResult Remaining) × (call ≡ Some c) × (c.outcome ≡ o) × (c.after ≡ left)
 given_by None o left h = cc
-given_by (Some c) o left h =
-    let pair : ◌≡◌ {A = Outcome × Remaining} (o, left) (c.outcome, c.after) = cc in
-    (c, refl, ap (λ p. p.0) (sym pair), ap (λ p. p.1) (sym pair))
+given_by (Some c) o left h = let parts = some_pair_parts o c.outcome left c.after h in (c, refl, sym parts.0, sym parts.1)
 
 none_by : (call : Option (CallResult Remaining)) → None ≡ option_map outcome_and_rest call → call ≡ None
 none_by None h = refl

@@ -1,5 +1,5 @@
 -- What a retry around a call through layers is, from the retry of any call.
-use Rattle.std.proofs.Common.{◌≡◌, ◌≢◌, ◌≤◌, ◌<◌, ◌+◌, ◌*◌, ◌∷◌, [], ◌++◌, ◌∙◌, ℕ, Bool, true, List, refl, sym, ap, arith, subst}
+use Rattle.std.proofs.Common.{◌≡◌, ◌≤◌, ◌<◌, ◌+◌, ◌-◌, ◌*◌, ◌∷◌, [], ◌++◌, ◌∙◌, ℕ, suc, Bool, true, List, refl, sym, ap, arith, subst}
 use Rattle.std.specs.Borrow.{MutBor}
 use Rattle.resil_call.specs.declared.tried.Tried.{Tried}
 use Rattle.resil_call.specs.declared.tried.End.TheVariants as ended
@@ -18,7 +18,7 @@ use Rattle.resil_decor.specs.Permitter.{PermitterAnswers}
 use Rattle.resil_decor.specs.RunLog.{RunLogView, HasRoom, HasWritten, IsCallThrough, IsWaitWritten, max_permit_requests}
 use Rattle.resil_decor.proofs.ChainLimitLaws.{max_calls-cons, max_permit_requests-retry, right_factor}
 use Rattle.resil_decor.proofs.LayerCallLaws.{SoFar, SoFar-start, SoFar-again, IsCallThrough-stopped, IsCallThrough-exhausted}
-use Rattle.resil_decor.proofs.RunLogLaws.{HasWritten-same, HasWritten-none, HasWritten-both}
+use Rattle.resil_decor.proofs.RunLogLaws.{HasWritten-none, HasWritten-both}
 
 -- there is room for so many attempts around a call through layers
 pub record RoomFor (inside : List Layer) (left : ℕ) (w : RunLogView) : Type 0 where
@@ -123,18 +123,17 @@ module _ {P : Type 0} (answers : P → PermitterAnswers) (held : P → ℕ → �
         → Verdict outcome true → Waiting k wait → Waits between wait later → Kept old (k + 1) later
     Kept-again k now outcome between wait later kept before_last made verdict is_wait waited =
         let one = attempted now outcome between made in
-        let apart : k ≢ settings.max_attempts = omega (arith, before_last) in
+        let more_left : kept.so_far.left ≡ suc (kept.so_far.left - 1) = omega (arith, kept.so_far.attempt, kept.so_far.attempts, before_last) in
         let items = rw is_wait at waited.3.waits in
         let more = SoFar-again settings inside old.player.now now.player.now (answers old.permitter.now) (answers now.permitter.now) old.log.now now.log.now k kept.so_far
-        between.player.now (answers between.permitter.now) between.log.now outcome one.ran (sym verdict) apart later.log.now items waited.3.room waited.3.calls waited.3.asked in
-        let given = HasWritten-same _ old.log.now between.log.now later.log.now
-        (HasWritten-both _ _ (λ asked. Between old.permitter.now asked between.permitter.now) old.log.now now.log.now between.log.now (append old.permitter.now now.permitter.now between.permitter.now) kept.given one.given)
-        waited.3.asked.0 in
+        between.player.now (answers between.permitter.now) between.log.now outcome one.ran (sym verdict) (kept.so_far.left - 1) more_left later.log.now items waited.3.room waited.3.calls waited.3.asked in
+        let given = HasWritten-both _ _ (λ asked. Between old.permitter.now asked between.permitter.now) old.log.now now.log.now between.log.now
+        (append old.permitter.now now.permitter.now between.permitter.now) kept.given one.given in
         record {
           so_far = subst (λ (p : MutBor (List Outcome)). SoFar settings inside old.player.now p.now (answers old.permitter.now) (answers later.permitter.now) old.log.now later.log.now (k + 1)) (sym waited.0)
               (subst (λ (p : MutBor P). SoFar settings inside old.player.now between.player.now (answers old.permitter.now) (answers p.now) old.log.now later.log.now (k + 1)) (sym waited.1) more);
           held_after = λ id. ap (λ (p : MutBor P). held p.now id) waited.1 ∙ one.held_after id ∙ kept.held_after id;
-          given = subst (λ (p : MutBor P). HasWritten (λ asked. Between old.permitter.now asked p.now) old.log.now later.log.now) (sym waited.1) given;
+          given = rw waited.1 (record { more = given.more; written = waited.3.asked.0 ∙ given.written; holds = given.holds });
           player = ap (λ (p : MutBor (List Outcome)). p.ghost_name) waited.0 ∙ one.player ∙ kept.player;
           permitter = ap (λ (p : MutBor P). p.ghost_name) waited.1 ∙ one.permitter ∙ kept.permitter;
           log = waited.2 ∙ one.log ∙ kept.log;

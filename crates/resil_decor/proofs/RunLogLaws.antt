@@ -3,10 +3,6 @@ use Rattle.std.proofs.Common.{◌≡◌, ◌++◌, ◌∙◌, [], List, sym, ap,
 use Rattle.resil_decor.specs.declared.permitter.Asked.{Asked}
 use Rattle.resil_decor.specs.RunLog.{RunLogView, HasWritten}
 
--- nothing is written after it
-pub HasWritten-same : (Holds : List Asked → Type 0) (old middle new : RunLogView) → HasWritten Holds old middle → new.asked ≡ middle.asked → HasWritten Holds old new
-HasWritten-same Holds old middle new wrote same = record { more = wrote.more; written = same ∙ wrote.written; holds = wrote.holds }
-
 -- nothing is written
 pub HasWritten-none : (Holds : List Asked → Type 0) (old new : RunLogView) → Holds [] → new.asked ≡ old.asked → HasWritten Holds old new
 HasWritten-none Holds old new holds same = record { more = []; written = same ∙ sym (append-nil old.asked); holds = holds }

@@ -1,8 +1,9 @@
 -- Whether bulkheads have the permits that a run held of them at once (Resilience4j user guide,
 -- Bulkhead, `maxConcurrentCalls`).
-use Rattle.std.specs.Prelude.{ℕ, ◌≡◌, ◌==◌, Bool, false, List, [], ◌∷◌, Option, None, IsSomeAnd, option_map, if◌then◌else◌, nat_lt, count_by, slice_get, reverse}
+use Rattle.std.specs.Prelude.{ℕ, ◌≡◌, ◌==◌, Bool, false, List, [], ◌∷◌, Option, None, IsSomeAnd, option_map, if◌then◌else◌, nat_lt, count_by, slice_get, reverse, take, drop}
 use Rattle.std.specs.Option.{option_map_or}
 use Rattle.resil_bulkhead.specs.Bulkhead.{BulkheadView}
+use Rattle.resil_retry.specs.declared.outcome.Outcome.{Outcome}
 use Rattle.resil_retry.specs.Retry.{CallResult, as_call, retried}
 use Rattle.resil_decor.specs.declared.layer.Layer.{Layer}
 use Rattle.resil_decor.specs.declared.layer.Layer.TheVariants.{Retry, Bulkhead, Fallback}
@@ -40,6 +41,15 @@ through_within permits around (Bulkhead id ∷ inside) left =
     through_bulkhead id (under_permit (held_inside id around) (permits id) (through_within permits (Bulkhead id ∷ around) inside)) left.script left.asked
 through_within permits around (Fallback catch value ∷ inside) left =
     option_map (through_fallback catch value) (through_within permits (Fallback catch value ∷ around) inside left)
+
+-- the call through the innermost layers of a chain, this many, under its other layers; the chain is
+-- listed innermost first
+abbrev pub call_at : (ℕ → ℕ) → List Layer → ℕ → Remaining → Option (CallResult Remaining)
+call_at permits layers depth left = through_within permits (drop depth layers) (reverse (take depth layers)) left
+
+-- the outcome of a call, and what it leaves
+abbrev pub outcome_and_rest : CallResult Remaining → Outcome × Remaining
+outcome_and_rest c = (c.outcome, c.after)
 
 -- The run never held more permits of one of these bulkheads at once than that has: outcome, calls
 -- and waits are those of the plan's chain for these answers within the permits, and no answer is

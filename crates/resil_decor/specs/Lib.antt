@@ -6,10 +6,8 @@ pub mod ChainLimits
 pub mod Layers
 pub mod Listed
 pub mod ListedLaws
-pub mod PermitterLaws
 pub mod Passes
 pub mod PassesLaws
 pub mod Plan
 pub mod Run
 pub mod Grants
-pub mod Recount

@@ -1,14 +1,9 @@
 -- The laws of a permitter, for one that answers by a list: proofs that must be in specs/, since the
 -- ghost members of an `impl` may name nothing else of their own crate.
 use Rattle.std.proofs.Common.{ℕ, zero, suc, ◌≡◌, ◌+◌, ◌++◌, ◌∷◌, ◌∙◌, [], Bool, false, List, length, take, drop, map, refl, sym, ap, arith, append-nil, append_assoc, length-append, drop-drop, take_all}
-use Rattle.std.proofs.lemmas.List.{map-append}
+use Rattle.std.proofs.lemmas.List.{map-append, drop_all}
 use Rattle.resil_decor.specs.declared.permitter.Asked.{Asked}
 use Rattle.resil_decor.specs.Listed.{ListedView, AreNextAnswers, answers_left, first_answers}
-
--- nothing is left of no answers
-drop_nothing : (n : ℕ) → ◌≡◌ {A = List Bool} (drop n []) []
-drop_nothing zero = refl
-drop_nothing (suc n) = refl
 
 -- as many of a list are used up as are taken for it
 drop_taken : (given : List Asked) (answers : List Bool) → drop (length (take (length answers) given)) answers ≡ drop (length given) answers
@@ -30,7 +25,7 @@ first_answers_both : (front back : List Asked) (answers : List Bool)
     → first_answers (length (front ++ back)) answers ≡ first_answers (length front) answers ++ first_answers (length back) (drop (length front) answers)
 first_answers_both [] back answers = refl
 first_answers_both (x ∷ xs) back [] =
-    ap (λ l. false ∷ l) (first_answers_both xs back [] ∙ ap (λ l. first_answers (length xs) [] ++ first_answers (length back) l) (drop_nothing (length xs)))
+    ap (λ l. false ∷ l) (first_answers_both xs back [] ∙ ap (λ l. first_answers (length xs) [] ++ first_answers (length back) l) (drop_all (length xs) [] (omega arith)))
 first_answers_both (x ∷ xs) back (y ∷ ys) = ap (λ l. y ∷ l) (first_answers_both xs back ys)
 
 -- no answer

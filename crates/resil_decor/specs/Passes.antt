@@ -1,6 +1,6 @@
 -- What contracts see of the permitter of real bulkheads: its passes.
 use Rattle.std.specs.Prelude.{ℕ, ◌≡◌, ◌≢◌, Bool, true, false, List, [], ◌∷◌, Option, Some, None, length, map, slice_get}
-use Rattle.std.specs.List.{filter_map}
+use Rattle.std.specs.List.{AllZip, filter_map}
 use Rattle.resil_bulkhead.specs.PermitEvent.{PermitEvent}
 use Rattle.resil_bulkhead.specs.PermitEvent.TheVariants.{Took, Gave, Refused, Retired, Raised}
 use Rattle.resil_bulkhead.specs.Passes.{PassView, Source, own_events, held_by}
@@ -67,7 +67,4 @@ pub record IsSplitFrom (old new : PassView) : Type 0 where
 
 -- each pass is split from the one at its index
 abbrev pub AreSplitFrom : List PassView → List PassView → Type 0
-AreSplitFrom [] [] = Unit {0}
-AreSplitFrom [] (new ∷ more) = ⊥
-AreSplitFrom (old ∷ olds) [] = ⊥
-AreSplitFrom (old ∷ olds) (new ∷ news) = IsSplitFrom old new × AreSplitFrom olds news
+AreSplitFrom = AllZip IsSplitFrom

@@ -4,7 +4,7 @@ use Rattle.std.proofs.Common.{◌++◌, ◌∙◌, [], List, refl}
 use Rattle.resil_bulkhead.specs.Passes.{PassView}
 use Rattle.resil_decor.specs.declared.permitter.Asked.{Asked}
 use Rattle.resil_decor.specs.Passes.{answers_of, GaveAnswers}
-use Rattle.resil_decor.specs.PermitterLaws.{AreAnswered-append}
+use Rattle.resil_decor.specs.Permitter.{AreAnswered-append}
 
 -- no answer
 pub none_between : (passes : List PassView) → GaveAnswers passes [] passes

@@ -22,6 +22,12 @@ abbrev pub AreAnswered : PermitterAnswers → List Asked → PermitterAnswers �
 AreAnswered before [] after = after ≡ before
 AreAnswered before (asked ∷ more) after = (next : PermitterAnswers) × IsAnswered before asked next × AreAnswered next more after
 
+-- answers given one after the other; the proof stands here since the ghost members of an `impl` may name nothing else of their
+-- own crate
+pub AreAnswered-append : (a b c : PermitterAnswers) (xs ys : List Asked) → AreAnswered a xs b → AreAnswered b ys c → AreAnswered a (xs ++ ys) c
+AreAnswered-append a b c [] ys h k = rw h at k
+AreAnswered-append a b c (x ∷ xs) ys h k = (h.0, h.1, AreAnswered-append h.0 b c xs ys h.2 k)
+
 -- after an answer of an id, one more permit of it is held where the answer is yes
 abbrev pub held_with : Bool → ℕ → ℕ
 held_with true held = held + 1

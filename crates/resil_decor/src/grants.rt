@@ -7,8 +7,7 @@
 ghost use Rattle.std.specs.Prelude.{◌≡◌, ◌<◌, ◌≤◌, ◌+◌, length, drop, option_map};
 ghost use Rattle.resil_retry.specs.Retry.{as_call, retried};
 ghost use Rattle.resil_decor.specs.Chain.{through_bulkhead};
-ghost use Rattle.resil_decor.specs.Grants.{permits_of, is_bulkhead, held_inside, under_permit};
-ghost use Rattle.resil_decor.specs.Recount.{call_at, outcome_and_rest};
+ghost use Rattle.resil_decor.specs.Grants.{permits_of, is_bulkhead, held_inside, under_permit, call_at, outcome_and_rest};
 
 use crate::layer::Layer;
 use crate::layer_calls::fallback_outcome;

@@ -3,18 +3,18 @@ use Rattle.std.proofs.lemmas.List.{nil_from_length}
 use Rattle.resil_decor.specs.declared.course.Course.{Course}
 use Rattle.resil_decor.specs.RunLog.{HasRoom}
 use Rattle.resil_decor.proofs.RunLogLaws.{HasWritten-none, HasWritten-both}
-use Rattle.resil_decor.proofs.ChainLimitLaws.{outermost_first}
-use Rattle.resil_decor.proofs.LayerCallLaws.{IsCallThrough-innermost, IsCallThrough-refused, IsCallThrough-granted, IsCallThrough-fallback, some_inside, room_to_ask, room_permitted, room_in_fallback}
+use Rattle.resil_decor.proofs.ChainLimitLaws.{outermost_first, max_calls-cons, max_permit_requests-bulkhead}
+use Rattle.resil_decor.proofs.LayerCallLaws.{IsCallThrough-innermost, IsCallThrough-refused, IsCallThrough-granted, IsCallThrough-fallback, room_permitted, room_in_fallback}
 use Rattle.resil_decor.proofs.RetryCallLaws.{CanTry-through, accepted, gave_up}
 use Rattle.resil_decor.proofs.layer_calls.+calls.Goals as goal
 
 pub call_with_bulkhead-push_answer-requires : goal.call_with_bulkhead-push_answer-requires
-call_with_bulkhead-push_answer-requires g t c = room_to_ask c.args.id (reverse c.args.inside.now) c.args.log.now c.requires
+call_with_bulkhead-push_answer-requires g t c = let asked = rw max_permit_requests-bulkhead at c.requires.asked in omega (arith, asked)
 
 pub call_with_bulkhead-returns-then-not-granted-clause-ran : goal.call_with_bulkhead-returns-then-not-granted-clause-ran
 call_with_bulkhead-returns-then-not-granted-clause-ran g t c =
-    IsCallThrough-refused c.args.id (reverse c.args.inside.now) c.args.player.now _ _ c.args.log.now c.push_answer.new.self
-    (some_inside c.args.id (reverse c.args.inside.now) c.args.log.now c.requires)
+    let some_call = rw max_calls-cons at c.requires.some_call in
+    IsCallThrough-refused c.args.id (reverse c.args.inside.now) c.args.player.now _ _ c.args.log.now c.push_answer.new.self (omega (arith, some_call))
     (rw c.if-not-granted.true at c.enter-granted.ensures.answered)
     (rw c.if-not-granted.true at c.push_answer.ensures)
 
@@ -82,18 +82,10 @@ pub call_with_retry-returns-in-Accepted : goal.call_with_retry-returns-in-Accept
 call_with_retry-returns-in-Accepted g t c =
     let done = accepted g.P.Permitter.answers g.P.Permitter.held g.P.Permitter.AnsweredBetween c.args.config.now (reverse c.args.inside.now) g.met.P.Permitter.none_between g.met.P.Permitter.append_between _ _ _
     (rw c.policy.ensures.value at c.policy.ensures.least) (rw c.policy.ensures.value at c.retry_sharing-tried.ensures) c.in-Accepted.is in
-    record {
-      ran = search (rules, sym done.player, sym done.permitter, sym done.log, done.ran);
-      held = search (rules, sym done.permitter, done.held_after);
-      given = search (rules, sym done.permitter, sym done.log, done.given);
-    }
+    search (rules, sym done.player, sym done.permitter, sym done.log, done.ran, done.held_after, done.given)
 
 pub call_with_retry-returns-in-Exhausted : goal.call_with_retry-returns-in-Exhausted
 call_with_retry-returns-in-Exhausted g t c =
     let done = gave_up g.P.Permitter.answers g.P.Permitter.held g.P.Permitter.AnsweredBetween c.args.config.now (reverse c.args.inside.now) g.met.P.Permitter.none_between g.met.P.Permitter.append_between _ _ _
     (rw c.policy.ensures.value at c.policy.ensures.least) (rw c.policy.ensures.value at c.retry_sharing-tried.ensures) c.in-Exhausted.is in
-    record {
-      ran = search (rules, sym done.player, sym done.permitter, sym done.log, done.ran);
-      held = search (rules, sym done.permitter, done.held_after);
-      given = search (rules, sym done.permitter, sym done.log, done.given);
-    }
+    search (rules, sym done.player, sym done.permitter, sym done.log, done.ran, done.held_after, done.given)

@@ -1,7 +1,6 @@
 use Rattle.std.proofs.Common.{◌≡◌, ◌≤◌, ◌<◌, ◌-◌, ◌∙◌, ap, sym, arith, option_map, Some}
 use Rattle.std.proofs.lemmas.Grind.{common_steps}
-use Rattle.resil_decor.specs.Grants.{permits_of}
-use Rattle.resil_decor.specs.Recount.{call_at, outcome_and_rest}
+use Rattle.resil_decor.specs.Grants.{permits_of, call_at, outcome_and_rest}
 use Rattle.resil_decor.proofs.RecountLaws.{at_innermost, at_retry, at_bulkhead, at_fallback, fallback_answer, fallback_answer-none, no_answer, retry_answer-none, retry_answer-stopped, retry_answer-exhausted, retry_answer-again}
 use Rattle.resil_decor.proofs.grants.Recount.+recount.Goals as goal
 

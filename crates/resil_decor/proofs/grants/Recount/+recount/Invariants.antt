@@ -1,7 +1,6 @@
 use Rattle.std.proofs.Common.{◌≡◌, ◌-◌, ◌+◌, ◌*◌}
 use Rattle.resil_retry.specs.Retry.{retry_from, retried}
-use Rattle.resil_decor.specs.Grants.{permits_of}
-use Rattle.resil_decor.specs.Recount.{call_at}
+use Rattle.resil_decor.specs.Grants.{permits_of, call_at}
 use Rattle.resil_decor.proofs.RecountLaws.{answer_of}
 use Rattle.resil_decor.proofs.grants.Recount.+recount.Given as goal
 
