@@ -84,7 +84,8 @@ SoFar-start settings start waits some = record {
 
 module _ (settings : RetryConfigView) (start now : List Outcome) (old new : WaitsView) (k : ℕ) (so_far : SoFar settings start now old new k) (o : Outcome) (given : first now ≡ Some o) where
   -- after the retry ends
-  ended : (outcome : Outcome) (ending : Ending) → retry_from settings scripted (settings.max_attempts - k) k now ≡ Some (record { outcome = outcome; ending = ending; calls = 1; waits = []; after = rest now })
+  ended : (outcome : Outcome) (ending : Ending)
+      → retry_from settings scripted (settings.max_attempts - k) k now ≡ Some (record { outcome = outcome; ending = ending; calls = 1; waits = []; after = rest now })
       → Done settings start (rest now) old new (outcome, ending)
   ended outcome ending last =
       let whole = so_far.to_do ∙ ap (option_map (prepend (length so_far.recorded) so_far.recorded)) last in

@@ -1,4 +1,4 @@
-use Rattle.std.proofs.Common.{◌+◌, ◌∙◌, refl, arith}
+use Rattle.std.proofs.Common.{◌≡◌, ◌+◌, ◌-◌, ◌∙◌, refl, arith}
 use Rattle.resil_retry.specs.Interval.{uncapped_wait}
 use Rattle.resil_retry.proofs.GrowthLaws.{uncapped_wait-more, uncapped_wait-rises, uncapped_wait-kept}
 use Rattle.resil_retry.proofs.interval.capped_wait.Goals as goal
@@ -12,7 +12,8 @@ pub returns-then-next-cap : goal.returns-then-next-cap
 returns-then-next-cap c =
     let a = c.args in
     let next = uncapped_wait-more a.first a.numerator a.denominator c.loop-step.step in
-    let later = uncapped_wait-rises a.first a.numerator a.denominator (c.loop-step.step + 1) a.steps (omega arith) c.requires.multiplier.0 c.requires.multiplier.1 in
+    let sum : c.loop-step.step + 1 + (a.steps - (c.loop-step.step + 1)) ≡ a.steps = omega arith in
+    let later = rw sum at (uncapped_wait-rises a.first a.numerator a.denominator c.requires.multiplier.0 c.requires.multiplier.1 (c.loop-step.step + 1) (a.steps - (c.loop-step.step + 1))) in
     let reached = rw (c.loop-step.invariant.grown_so_far, ← next) at c.if-next-cap.true in
     omega (arith, later, reached)
 
@@ -22,7 +23,8 @@ returns-then-next-wait c =
     let a = c.args in
     let next = uncapped_wait-more a.first a.numerator a.denominator c.loop-step.step in
     let same = next ∙ (rw c.loop-step.invariant.grown_so_far at c.if-next-wait.true) in
-    let last = uncapped_wait-kept a.first a.numerator a.denominator c.loop-step.step a.steps (omega arith) same in
+    let sum : c.loop-step.step + (a.steps - c.loop-step.step) ≡ a.steps = omega arith in
+    let last = rw sum at (uncapped_wait-kept a.first a.numerator a.denominator c.loop-step.step (a.steps - c.loop-step.step) same) in
     omega (arith, last, c.loop-step.invariant.grown_so_far, c.loop-step.invariant.within)
 
 pub loop-step-preserved : goal.loop-step-preserved

@@ -1,10 +1,6 @@
 -- What the prover finds by itself, written down because edits that must fail open it.
-use Rattle.std.proofs.Common.{rules, arith}
-use Rattle.std.proofs.lemmas.Grind.{common_steps}
+use Rattle.std.proofs.Common.{rules}
 use Rattle.resil_retry.proofs.recorded.RecordedPause.pause.Goals as goal
-
-pub returns-then-room-gt0-clause-paused : goal.returns-then-room-gt0-clause-paused
-returns-then-room-gt0-clause-paused c = grind (arith, common_steps)
 
 pub returns-else-room-gt0-clause-paused : goal.returns-else-room-gt0-clause-paused
 returns-else-room-gt0-clause-paused c = search rules
