@@ -1,7 +1,7 @@
 -- The limits of what a run through layers does.
-use Rattle.std.proofs.Common.{◌≡◌, ◌≤◌, ◌+◌, ◌*◌, ◌∷◌, [], ◌++◌, ◌∙◌, ℕ, ℤ, zero, suc, List, length, reverse, refl, sym, ap, arith, length-append}
+use Rattle.std.proofs.Common.{◌≡◌, ◌≤◌, ◌+◌, ◌*◌, ◌∷◌, [], ◌++◌, ◌∙◌, ℕ, ℤ, zero, suc, List, length, reverse, refl, ap, arith, length-append}
 use Rattle.std.proofs.lemmas.List.{reverse-append, length-reverse}
-use Rattle.std.proofs.Math.Nat.{mul-one, one-mul, mul_comm, mul_assoc, mul-le-mul_left}
+use Rattle.std.proofs.Math.Nat.{mul_comm, mul_assoc, mul-le-mul_left}
 use Rattle.std.proofs.lemmas.Nat.{mul-le}
 use Rattle.resil_retry.specs.Config.{RetryConfigView}
 use Rattle.resil_retry.specs.ErrorTest.{ErrorTestView}
@@ -33,15 +33,12 @@ pub max_calls-none : max_calls [] ≡ 1
 unfolding max_calls
 max_calls-none = refl
 
-pub max_calls-append : (xs ys : List Layer) → max_calls (xs ++ ys) ≡ max_calls xs * max_calls ys
-unfolding max_calls
-max_calls-append [] ys = sym (one-mul (max_calls ys))
-max_calls-append (x ∷ xs) ys = rw (max_calls-append xs ys) (sym (mul_assoc (attempts_of x) (max_calls xs) (max_calls ys)))
-
 pub max_calls-last : (layers : List Layer) (layer : Layer) → max_calls (layers ++ layer ∷ []) ≡ attempts_of layer * max_calls layers
 unfolding max_calls
-max_calls-last layers layer =
-    max_calls-append layers (layer ∷ []) ∙ rw (mul-one (attempts_of layer)) (mul_comm (max_calls layers) (attempts_of layer))
+max_calls-last [] layer = refl
+max_calls-last (x ∷ xs) layer =
+    rw (max_calls-last xs layer, ← mul_assoc (attempts_of x) (attempts_of layer) (max_calls xs), mul_comm (attempts_of x) (attempts_of layer))
+    (mul_assoc (attempts_of layer) (attempts_of x) (max_calls xs))
 
 -- the order of the layers doesn't matter
 pub max_calls-reverse : (layers : List Layer) → max_calls (reverse layers) ≡ max_calls layers

@@ -1,16 +1,16 @@
 -- The value of a run within the permits of its bulkheads is that of its chain.
-use Rattle.std.proofs.Common.{◌≡◌, ◌-◌, subst, reverse, ◌∷◌, [], ◌++◌, refl, ℕ, zero, suc, Bool, true, false, List, Option, Some, None, option_map, option_and_then, if◌then◌else◌, nat_lt, ◌==◌}
+use Rattle.std.proofs.Common.{◌≡◌, ◌-◌, reverse, ◌∷◌, [], ◌++◌, refl, ℕ, zero, suc, Bool, true, false, List, Option, Some, None, option_map, option_and_then, if◌then◌else◌, nat_lt, ◌==◌}
 use Rattle.std.specs.Prelude.{◌↔◌, IsSome, IsSomeAnd}
 use Rattle.resil_bulkhead.specs.Bulkhead.{BulkheadView}
 use Rattle.resil_retry.specs.Config.{RetryConfigView, again, wait_after}
-use Rattle.resil_retry.specs.Retry.{CallResult, as_call, attempt, last_attempt, prepend, retry_from, stopped}
+use Rattle.resil_retry.specs.Retry.{CallResult, as_call, last_attempt, prepend, retry_from}
 use Rattle.resil_retry.specs.declared.outcome.Outcome.{Outcome}
 use Rattle.resil_decor.specs.declared.permitter.Asked.{Asked}
 use Rattle.resil_decor.specs.declared.layer.Layer.{Layer}
 use Rattle.resil_decor.specs.declared.layer.Layer.TheVariants.{Retry, Bulkhead, Fallback}
-use Rattle.resil_decor.specs.Chain.{Remaining, through, through_bulkhead, through_fallback, refused}
+use Rattle.resil_decor.specs.Chain.{Remaining, through, through_bulkhead, through_fallback}
 use Rattle.resil_decor.specs.Run.{RunView, IsValue}
-use Rattle.resil_decor.specs.Grants.{permits_of, held_inside, under_permit, through_within, IsWithin}
+use Rattle.resil_decor.specs.Grants.{permits_of, held_inside, through_within, IsWithin}
 
 -- where the first option has a value, the second has the same
 abbrev Gives : {A : Type 0} → Option A → Option A → Type 0
@@ -40,7 +40,8 @@ unfolding retry_from
 retry_gives settings call other gives zero k s = map_gives (last_attempt settings k) (call s) (other s) (gives s)
 retry_gives settings call other gives (suc left) k s =
     and_then_gives _ _ (call s) (other s) (gives s)
-    (λ c. if_gives (again settings c.outcome) _ _ _ (map_gives (prepend c.calls (c.waits ++ wait_after settings k ∷ [])) _ _ (retry_gives settings call other gives left (suc k) c.after)))
+    (λ c. if_gives (again settings c.outcome) _ _ _
+    (map_gives (prepend c.calls (c.waits ++ wait_after settings k ∷ [])) _ _ (retry_gives settings call other gives left (suc k) c.after)))
 
 -- a bulkhead around a call that has the value of another
 bulkhead_gives : (id : ℕ) (call other : Remaining → Option (CallResult Remaining)) → ((left : Remaining) → Gives (call left) (other left))
@@ -51,13 +52,15 @@ bulkhead_gives id call other gives script (answer ∷ answers) c h =
 
 -- the call through layers within the permits of their bulkheads has the value of the call through
 -- the layers
-pub through_within-through : (permits : ℕ → ℕ) (layers around : List Layer) (left : Remaining) → Gives (through_within permits around layers left) (through layers left)
+pub through_within-through : (permits : ℕ → ℕ) (layers around : List Layer) (left : Remaining)
+    → Gives (through_within permits around layers left) (through layers left)
 unfolding through through_within
 through_within-through permits [] around left c h = h
 through_within-through permits (Retry settings ∷ inside) around left c h =
     map_gives as_call _ _ (retry_gives settings _ _ (through_within-through permits inside (Retry settings ∷ around)) (settings.max_attempts - 1) 1 left) c h
 through_within-through permits (Bulkhead id ∷ inside) around left c h =
-    bulkhead_gives id _ _ (λ later. if_true_gives (nat_lt (held_inside id around) (permits id)) _ _ (through_within-through permits inside (Bulkhead id ∷ around) later))
+    bulkhead_gives id _ _
+    (λ later. if_true_gives (nat_lt (held_inside id around) (permits id)) _ _ (through_within-through permits inside (Bulkhead id ∷ around) later))
     left.script left.asked c h
 through_within-through permits (Fallback catch value ∷ inside) around left c h =
     map_gives (through_fallback catch value) _ _ (through_within-through permits inside (Fallback catch value ∷ around) left) c h

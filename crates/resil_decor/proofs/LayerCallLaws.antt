@@ -1,5 +1,5 @@
 -- What a call through a layer is, by what the call inside it is.
-use Rattle.std.proofs.Common.{◌≡◌, ◌≢◌, ◌≤◌, ◌<◌, ◌+◌, ◌*◌, ◌==◌, ◌∷◌, [], ◌++◌, ◌∙◌, ℕ, ℤ, suc, List, length, Some, option_map, ◌-◌, true, false, refl, sym, ap, arith, add-one, append_assoc, append-nil, length-append}
+use Rattle.std.proofs.Common.{◌≡◌, ◌≤◌, ◌+◌, ◌*◌, ◌∷◌, [], ◌++◌, ◌∙◌, ℕ, ℤ, suc, List, length, Some, option_map, ◌-◌, true, false, refl, sym, ap, arith, add-one, append_assoc, append-nil, length-append}
 use Rattle.std.proofs.lemmas.Bool.Decides.{Decides-eqb}
 use Rattle.resil_retry.specs.declared.outcome.Ending.{Ending}
 use Rattle.resil_retry.specs.declared.outcome.Ending.TheVariants.{Exhausted}
@@ -40,9 +40,6 @@ IsCallThrough-innermost script left answers old new o given dropped written = re
   few_asked = rw max_permit_requests-none (omega arith);
 }
 
-same_id : (id : ℕ) → (id == id) ≡ true
-same_id id = (Decides-eqb id id).1 refl
-
 -- no permit: the call inside isn't made
 pub IsCallThrough-refused : (id : ℕ) (inside : List Layer) (script : List Outcome) (before after : PermitterAnswers) (old new : RunLogView)
     → 1 ≤ max_calls inside → IsAnswered before (record { id = id; granted = false }) after → IsAnswerWritten old (record { id = id; granted = false }) new
@@ -52,7 +49,7 @@ IsCallThrough-refused id inside script before after old new some answered writte
   calls = 0;
   waits = [];
   asked = record { id = id; granted = false } ∷ [];
-  value = λ later. rw same_id refl;
+  value = λ later. rw ((Decides-eqb id id).1 refl) refl;
   answered = (after, answered, refl);
   new_calls = omega (arith, written.calls);
   new_waits = written.waits.0 ∙ sym (append-nil old.waits);
@@ -73,7 +70,7 @@ IsCallThrough-granted id inside script left before between after old middle new 
   calls = ran.calls;
   waits = ran.waits;
   asked = record { id = id; granted = true } ∷ ran.asked;
-  value = λ later. rw same_id (ran.value later);
+  value = λ later. rw ((Decides-eqb id id).1 refl) (ran.value later);
   answered = (between, answered, ran.answered);
   new_calls = ran.new_calls ∙ ap (λ n. n + ran.calls) written.calls;
   new_waits = ran.new_waits ∙ ap (λ waits. waits ++ ran.waits) written.waits.0;
@@ -201,7 +198,8 @@ module _ (settings : RetryConfigView) (inside : List Layer) (start now : List Ou
         → (newer.asked ≡ new.asked) × (newer.asked_room ≡ new.asked_room)
         → SoFar settings inside start left before after old newer (k + 1)
     SoFar-again more later one_more newer waits room calls asked =
-        let step = λ (answers : List Asked). retry_from-again settings (through inside) later k (record { script = now; asked = ran.asked ++ answers }) (called answers) (ran.value answers) more in
+        let step = λ (answers : List Asked). retry_from-again settings (through inside) later k (record { script = now; asked = ran.asked ++ answers })
+        (called answers) (ran.value answers) more in
         let sum_waits = length-append so_far.waits (ran.waits ++ wait_after settings k ∷ []) in
         let one_wait = length-append ran.waits (wait_after settings k ∷ []) in
         let sum_asked = length-append so_far.asked ran.asked in
@@ -214,7 +212,8 @@ module _ (settings : RetryConfigView) (inside : List Layer) (start now : List Ou
           attempt = omega (arith, so_far.attempt);
           attempts = omega (arith, so_far.attempts, one_more);
           to_do = λ answers. rw (append_assoc so_far.asked ran.asked answers, so_far.to_do (ran.asked ++ answers), one_more, step answers, add-one k)
-              (prepend-prepend so_far.calls ran.calls so_far.waits (ran.waits ++ wait_after settings k ∷ []) (retry_from settings (through inside) later (suc k) (record { script = left; asked = answers })));
+              (prepend-prepend so_far.calls ran.calls so_far.waits (ran.waits ++ wait_after settings k ∷ [])
+              (retry_from settings (through inside) later (suc k) (record { script = left; asked = answers })));
           answered = AreAnswered-append before between after so_far.asked ran.asked so_far.answered ran.answered;
           new_calls = omega (arith, calls, ran.new_calls, so_far.new_calls);
           new_waits = rw (waits, ran.new_waits, so_far.new_waits, append_assoc (old.waits ++ so_far.waits) ran.waits (wait_after settings k ∷ []))

@@ -1,5 +1,5 @@
 -- What becomes of passes where one of them acquires or releases a permit.
-use Rattle.std.proofs.Common.{◌≡◌, ◌≢◌, ◌<◌, ◌+◌, ◌++◌, ◌∷◌, [], ◌∙◌, ℕ, zero, suc, Bool, true, false, List, length, map, Some, slice_get, take, inl, ⊎_elim, refl, add-one, sym, ap, arith, append-nil}
+use Rattle.std.proofs.Common.{◌≡◌, ◌≢◌, ◌<◌, ◌+◌, ◌++◌, ◌∷◌, [], ◌∙◌, ℕ, Bool, true, false, List, length, map, Some, slice_get, take, inl, ⊎_elim, refl, add-one, sym, ap, arith, append-nil}
 use Rattle.std.specs.List.{filter_map, slice_set, slice_index_or}
 use Rattle.std.proofs.lemmas.Bool.{cases_eq}
 use Rattle.std.proofs.lemmas.Grind.{common_steps}
@@ -100,23 +100,16 @@ some_held passes i p at inside h = rw (slice_get-get_or passes i p inside ∙ ap
 pub held_inside : (passes : List PassView) (id : ℕ) → 0 < held_of passes id → id < length passes
 held_inside passes id h = grind (arith, common_steps, gets, h)
 
--- passes split one by one, up to an index; the old ones stay as they are
-pub record SplitSoFar (olds now news : List PassView) (index : ℕ) : Type 0 where
-  pub unchanged : now ≡ olds
-  pub split : AreSplitFrom (take index olds) news
+-- a pass that is put back as it was changes nothing
+pub put_back : (passes : List PassView) (i : ℕ) (p kept : PassView) → p ≡ slice_index_or passes i p → kept ≡ p → slice_set passes i kept ≡ passes
+put_back passes i p kept at same = ap (slice_set passes i) (same ∙ at) ∙ set-get_or passes i p
 
-pub SplitSoFar-start : (olds now : List PassView) → now ≡ olds → SplitSoFar olds now [] 0
-SplitSoFar-start olds now same = record { unchanged = same; split = tt }
-
-pub SplitSoFar-more : (olds now news : List PassView) (index : ℕ) (p q kept : PassView) → SplitSoFar olds now news index → index < length now
-    → p ≡ slice_index_or now index p → kept ≡ p → IsSplitFrom p q → SplitSoFar olds (slice_set now index kept) (news ++ q ∷ []) (index + 1)
-SplitSoFar-more olds now news index p q kept so_far inside at same split =
-    let stays : slice_set now index kept ≡ now = ap (slice_set now index) (same ∙ at) ∙ set-get_or now index p in
-    let next : take (suc index) olds ≡ take index olds ++ p ∷ [] = rw so_far.unchanged at (take-suc now index p inside ∙ ap (λ x. take index now ++ x ∷ []) (sym at)) in
-    record {
-      unchanged = stays ∙ so_far.unchanged;
-      split = rw (add-one, next) (all_zipped_more IsSplitFrom (take index olds) news p q so_far.split split);
-    }
+-- one more of the passes is split
+pub AreSplitFrom-more : (olds news : List PassView) (i : ℕ) (p q : PassView) → AreSplitFrom (take i olds) news
+    → i < length olds → p ≡ slice_index_or olds i p → IsSplitFrom p q
+    → AreSplitFrom (take (i + 1) olds) (news ++ q ∷ [])
+AreSplitFrom-more olds news i p q so_far inside at split =
+    rw (add-one, take-suc olds i p inside, ← at) (all_zipped_more IsSplitFrom (take i olds) news p q so_far split)
 
 -- split passes have the same sources
 pub sources_of-split : (olds news : List PassView) → AreSplitFrom olds news → sources_of news ≡ sources_of olds

@@ -126,7 +126,8 @@ module _ {P : Type 0} (answers : P → PermitterAnswers) (held : P → ℕ → �
         let more_left : kept.so_far.left ≡ suc (kept.so_far.left - 1) = omega (arith, kept.so_far.attempt, kept.so_far.attempts, before_last) in
         let items = rw is_wait at waited.3.waits in
         let more = SoFar-again settings inside old.player.now now.player.now (answers old.permitter.now) (answers now.permitter.now) old.log.now now.log.now k kept.so_far
-        between.player.now (answers between.permitter.now) between.log.now outcome one.ran (sym verdict) (kept.so_far.left - 1) more_left later.log.now items waited.3.room waited.3.calls waited.3.asked in
+        between.player.now (answers between.permitter.now) between.log.now outcome one.ran (sym verdict)
+        (kept.so_far.left - 1) more_left later.log.now items waited.3.room waited.3.calls waited.3.asked in
         let given = HasWritten-both _ _ (λ asked. Between old.permitter.now asked between.permitter.now) old.log.now now.log.now between.log.now
         (append old.permitter.now now.permitter.now between.permitter.now) kept.given one.given in
         record {

@@ -1,6 +1,6 @@
 -- The laws of a permitter, for one that answers by a list: proofs that must be in specs/, since the
 -- ghost members of an `impl` may name nothing else of their own crate.
-use Rattle.std.proofs.Common.{ℕ, zero, suc, ◌≡◌, ◌+◌, ◌++◌, ◌∷◌, ◌∙◌, [], Bool, false, List, length, take, drop, map, refl, sym, ap, arith, append-nil, append_assoc, length-append, drop-drop, take_all}
+use Rattle.std.proofs.Common.{◌≡◌, ◌++◌, ◌∷◌, ◌∙◌, [], Bool, false, List, length, take, drop, refl, sym, ap, arith, append-nil, append_assoc, length-append, drop-drop, take_all}
 use Rattle.std.proofs.lemmas.List.{map-append, drop_all}
 use Rattle.resil_decor.specs.declared.permitter.Asked.{Asked}
 use Rattle.resil_decor.specs.Listed.{ListedView, AreNextAnswers, answers_left, first_answers}
@@ -39,12 +39,8 @@ none_between l = record {
 -- what is left after some answers
 left_after : (x y : ListedView) (given : List Asked) → AreNextAnswers x given y → answers_left y ≡ drop (length given) (answers_left x)
 left_after x y given gave =
-    let kept = take (length (answers_left x)) given in
-    let so_many : length y.asked ≡ length x.asked + length kept = ap length gave.asked ∙ length-append x.asked kept in
-    ap (λ n. drop n y.answers) so_many
-    ∙ ap (drop (length x.asked + length kept)) gave.answers
-    ∙ sym (drop-drop (length kept) (length x.asked) x.answers)
-    ∙ drop_taken given (answers_left x)
+    rw (gave.asked, gave.answers, length-append x.asked (take (length (answers_left x)) given), ← drop-drop (length (take (length (answers_left x)) given)) (length x.asked) x.answers)
+    (drop_taken given (answers_left x))
 
 -- answers after others
 pub append_between : (x y z : ListedView) (front back : List Asked) → AreNextAnswers x front y → AreNextAnswers y back z → AreNextAnswers x (front ++ back) z
@@ -52,13 +48,7 @@ append_between x y z front back gave later =
     let left = left_after x y front gave in
     record {
       answers = later.answers ∙ gave.answers;
-      in_order = map-append (λ (a : Asked). a.granted) front back
-          ∙ ap (λ l. l ++ map (λ (a : Asked). a.granted) back) gave.in_order
-          ∙ ap (λ l. first_answers (length front) (answers_left x) ++ l) (later.in_order ∙ ap (first_answers (length back)) left)
-          ∙ sym (first_answers_both front back (answers_left x));
-      asked = later.asked
-          ∙ ap (λ l. l ++ take (length (answers_left y)) back) gave.asked
-          ∙ append_assoc x.asked (take (length (answers_left x)) front) (take (length (answers_left y)) back)
-          ∙ ap (λ l. x.asked ++ (take (length (answers_left x)) front ++ take (length l) back)) left
-          ∙ ap (λ l. x.asked ++ l) (sym (take_both front back (answers_left x)));
+      in_order = rw (map-append (λ (a : Asked). a.granted) front back, gave.in_order, later.in_order, left) (sym (first_answers_both front back (answers_left x)));
+      asked = rw (later.asked, left, gave.asked, append_assoc x.asked (take (length (answers_left x)) front) (take (length (drop (length front) (answers_left x))) back))
+          (ap (λ l. x.asked ++ l) (sym (take_both front back (answers_left x))));
     }

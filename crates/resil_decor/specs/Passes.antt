@@ -1,5 +1,5 @@
 -- What contracts see of the permitter of real bulkheads: its passes.
-use Rattle.std.specs.Prelude.{ℕ, ◌≡◌, ◌≢◌, Bool, true, false, List, [], ◌∷◌, Option, Some, None, length, map, slice_get}
+use Rattle.std.specs.Prelude.{ℕ, ◌≡◌, ◌≢◌, Bool, true, false, List, [], Option, Some, None, length, map, slice_get}
 use Rattle.std.specs.List.{AllZip, filter_map}
 use Rattle.resil_bulkhead.specs.PermitEvent.{PermitEvent}
 use Rattle.resil_bulkhead.specs.PermitEvent.TheVariants.{Took, Gave, Refused, Retired, Raised}

@@ -4,10 +4,8 @@
 //! bulkhead the answer that it got. A permit is held while the call inside runs, and is given back
 //! whatever the outcome is.
 
-ghost use Rattle.std.specs.Prelude.{ℕ, ◌≡◌, ◌<◌, ◌+◌, reverse, ◌∷◌, Some};
-ghost use Rattle.resil_retry.specs.Script.{first, rest};
+ghost use Rattle.std.specs.Prelude.{ℕ, ◌≡◌, reverse, ◌∷◌};
 ghost use Rattle.resil_decor.specs.Chain.{fallback_outcome};
-ghost use Rattle.resil_decor.specs.ChainLimits.{call_limit};
 ghost use Rattle.resil_decor.specs.RunLog.{HasRoom, HasWritten, IsCallThrough};
 ghost use Rattle.resil_decor.specs.declared.layer.Layer.TheVariants.{Retry, Bulkhead};
 
@@ -32,7 +30,8 @@ pub(crate) fn call_through<P: Permitter>(
     ensures given { HasWritten (λ asked. P.AnsweredBetween permitter.old asked permitter.new) log.old log.new }
 {
     let Some((outermost, inside)) = layers.split_last() else {
-        return call_innermost(player, log);
+        log.count_call();
+        return player.call();
     };
     match outermost {
         Layer::Retry(config) => call_with_retry(config, inside, player, permitter, log),
@@ -104,17 +103,6 @@ fn call_with_bulkhead<P: Permitter>(
     let outcome = call_through(inside, player, permitter, log);
     permitter.leave(id);
     outcome
-}
-
-// One call of the function itself.
-fn call_innermost(player: &mut Player<'_>, log: &mut RunLog) -> Outcome
-    requires { log.old.calls < call_limit }
-    ensures first { first player.old ≡ Some result }
-    ensures rest { player.new ≡ rest player.old }
-    ensures counted { log.new ≡ record log.old { calls = log.old.calls + 1 } }
-{
-    log.count_call();
-    player.call()
 }
 
 // The outcome of a fallback around a call with this outcome.

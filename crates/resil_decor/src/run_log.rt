@@ -59,35 +59,6 @@ impl Model for RunLists {
     } };
 }
 
-impl RunLists {
-    // Empty lists with room for these numbers of waits and answers. Errors: memory runs out.
-    fn new(alloc: Global, waits: usize, asked: usize) -> Result<RunLists, AllocError>
-        ensures { IfOk result (λ lists. lists ≡ record { calls = 0; waits = []; wait_room = waits; asked = []; asked_room = asked }) }
-    {
-        Ok(RunLists {
-            calls: 0,
-            waits: Vec::with_capacity(alloc, waits)?,
-            asked: Vec::with_capacity(alloc, asked)?,
-        })
-    }
-
-    // Records one more wait, in milliseconds.
-    fn push_wait(&mut self, wait: u64)
-        requires { 0 < self.old.wait_room }
-        ensures { IsWaitWritten self.old wait self.new }
-    {
-        self.waits.push_reserved(wait);
-    }
-
-    // Records one more answer.
-    fn push_answer(&mut self, asked: Asked)
-        requires { 0 < self.old.asked_room }
-        ensures { IsAnswerWritten self.old asked self.new }
-    {
-        self.asked.push_reserved(asked);
-    }
-}
-
 impl RunLog {
     // An empty one with room for these numbers of waits and answers. Errors: memory runs out.
     pub(crate) fn new(alloc: Global, waits: usize, asked: usize) -> Result<RunLog, AllocError>
@@ -98,7 +69,11 @@ impl RunLog {
                 written: Written::Calls(0),
             });
         }
-        let lists = RunLists::new(alloc, waits, asked)?;
+        let lists = RunLists {
+            calls: 0,
+            waits: Vec::with_capacity(alloc, waits)?,
+            asked: Vec::with_capacity(alloc, asked)?,
+        };
         match Box::new(alloc, lists) {
             Ok(lists) => Ok(RunLog {
                 written: Written::Lists(lists),
@@ -154,7 +129,7 @@ impl RunLog {
         ensures { IsWaitWritten self.old wait self.new }
     {
         if let Written::Lists(lists) = &mut self.written {
-            lists.push_wait(wait);
+            lists.waits.push_reserved(wait);
         }
     }
 
@@ -164,7 +139,7 @@ impl RunLog {
         ensures { IsAnswerWritten self.old asked self.new }
     {
         if let Written::Lists(lists) = &mut self.written {
-            lists.push_answer(asked);
+            lists.asked.push_reserved(asked);
         }
     }
 }

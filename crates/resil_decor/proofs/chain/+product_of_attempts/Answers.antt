@@ -1,4 +1,4 @@
-use Rattle.std.proofs.Common.{◌≡◌, ◌*◌, arith, refl, ◌∙◌, ap}
+use Rattle.std.proofs.Common.{arith, refl}
 use Rattle.std.proofs.Math.Nat.{one-le-mul}
 use Rattle.std.proofs.lemmas.List.{nil_from_length}
 use Rattle.resil_decor.specs.ChainLimits.{max_calls, attempts_of}
@@ -12,17 +12,14 @@ returns-in_default t c =
 
 pub returns-in_err-calls : goal.returns-in_err-calls
 returns-in_err-calls t c =
-    let product : max_calls c.args.layers.now ≡ attempts_of c.in-Some.layer.now * max_calls c.in-Some.others.now = ap max_calls c.in-Some.ensures.cases.0 ∙ max_calls-cons c.in-Some.layer.now c.in-Some.others.now in
     let more = factor-le (attempts_of c.in-Some.layer.now) (max_calls c.in-Some.others.now) (omega (arith, c.attempts.ensures.value, c.attempts.ensures.least)) in
-    rw c.from_residual.ensures (omega (arith, product, more, c.in_err-calls.ensures))
+    rw (c.from_residual.ensures, c.in-Some.ensures.cases.0, max_calls-cons) (omega (arith, more, c.in_err-calls.ensures))
 
 pub returns-then-calls-gt-MAX_CALLS : goal.returns-then-calls-gt-MAX_CALLS
 returns-then-calls-gt-MAX_CALLS t c =
-    let product : max_calls c.args.layers.now ≡ attempts_of c.in-Some.layer.now * max_calls c.in-Some.others.now = ap max_calls c.in-Some.ensures.cases.0 ∙ max_calls-cons c.in-Some.layer.now c.in-Some.others.now in
     let above = rw (c.attempts.ensures.value, c.in_ok-calls.ensures.0) at c.if-calls-gt-MAX_CALLS.true in
-    omega (arith, product, above)
+    rw (c.in-Some.ensures.cases.0, max_calls-cons) (omega (arith, above))
 
 pub returns : goal.returns
 returns t c =
-    let product : max_calls c.args.layers.now ≡ attempts_of c.in-Some.layer.now * max_calls c.in-Some.others.now = ap max_calls c.in-Some.ensures.cases.0 ∙ max_calls-cons c.in-Some.layer.now c.in-Some.others.now in
-    (rw (product, c.attempts.ensures.value, c.in_ok-calls.ensures.0) refl, one-le-mul c.attempts.ensures.least c.in_ok-calls.ensures.1, omega (arith, c.if-calls-gt-MAX_CALLS.false))
+    (rw (c.in-Some.ensures.cases.0, max_calls-cons, c.attempts.ensures.value, c.in_ok-calls.ensures.0) refl, one-le-mul c.attempts.ensures.least c.in_ok-calls.ensures.1, omega (arith, c.if-calls-gt-MAX_CALLS.false))

@@ -14,7 +14,8 @@ call_with_bulkhead-push_answer-requires g t c = let asked = rw max_permit_reques
 pub call_with_bulkhead-returns-then-not-granted-clause-ran : goal.call_with_bulkhead-returns-then-not-granted-clause-ran
 call_with_bulkhead-returns-then-not-granted-clause-ran g t c =
     let some_call = rw max_calls-cons at c.requires.some_call in
-    IsCallThrough-refused c.args.id (reverse c.args.inside.now) c.args.player.now _ _ c.args.log.now c.push_answer.new.self (omega (arith, some_call))
+    IsCallThrough-refused c.args.id (reverse c.args.inside.now) c.args.player.now
+    (g.P.Permitter.answers c.args.permitter.now) (g.P.Permitter.answers c.enter-granted.new.self) c.args.log.now c.push_answer.new.self (omega (arith, some_call))
     (rw c.if-not-granted.true at c.enter-granted.ensures.answered)
     (rw c.if-not-granted.true at c.push_answer.ensures)
 
@@ -37,6 +38,9 @@ call_with_bulkhead-returns-clause-ran g t c =
     (rw c.if-not-granted.false at c.push_answer.ensures)
     c.call_through-outcome.ensures.ran)
 
+pub call_with_bulkhead-returns-clause-held : goal.call_with_bulkhead-returns-clause-held
+call_with_bulkhead-returns-clause-held g t c = search rules
+
 pub call_with_bulkhead-returns-clause-given : goal.call_with_bulkhead-returns-clause-given
 call_with_bulkhead-returns-clause-given g t c =
     HasWritten-both _ _ _ c.args.log.now c.push_answer.new.self c.call_through-outcome.new.log
@@ -51,13 +55,14 @@ call_with_bulkhead-returns-clause-given g t c =
 
 pub call_through-returns-in_default-clause-given : goal.call_through-returns-in_default-clause-given
 call_through-returns-in_default-clause-given g t c =
-    HasWritten-none _ c.args.log.now c.call_innermost.new.log (g.met.P.Permitter.none_between c.args.permitter.now) (ap (λ w. w.asked) c.call_innermost.ensures.counted)
+    HasWritten-none _ c.args.log.now c.count_call.new.self (g.met.P.Permitter.none_between c.args.permitter.now) (ap (λ w. w.asked) c.count_call.ensures)
 
 pub call_through-returns-in_default-clause-ran : goal.call_through-returns-in_default-clause-ran
 call_through-returns-in_default-clause-ran g t c =
     let none = nil_from_length c.args.layers.now c.in_default.ensures.cases in
     rw none
-    (IsCallThrough-innermost c.args.player.now c.call_innermost.new.player _ c.args.log.now c.call_innermost.new.log c.call_innermost.result c.call_innermost.ensures.first c.call_innermost.ensures.rest c.call_innermost.ensures.counted)
+    (IsCallThrough-innermost c.args.player.now c.call.new.self _ c.args.log.now c.count_call.new.self c.call.result
+    c.call.ensures.answer.0 c.call.ensures.answer.1 c.count_call.ensures)
 
 pub call_through-call_through-outcome-requires : goal.call_through-call_through-outcome-requires
 call_through-call_through-outcome-requires g t c κs within =
