@@ -40,8 +40,7 @@ module _ {C : Type 0} (script : C → List Outcome) (IsAnswer : C → Outcome �
       let items = rw p.1.is_wait at p.1.paused.0 in
       let called = answers x.call p.0.call o p.1.called in
       let more = SoFar-again settings start (script x.call) old x.pause x.attempt so_far o called.0 (sym p.1.again) before_last p.0.pause items p.1.paused.1 in
-      let here = subst (λ s. SoFar settings start s old p.0.pause p.0.attempt) (sym called.1) (subst (λ k. SoFar settings start (rest (script x.call)) old p.0.pause k) (sym next) more) in
-      SoFar-folds start old before p.0 last here p.2 few
+      SoFar-folds start old before p.0 last (rw (called.1, next) more) p.2 few
 
   module _ (call after : C) (old later : WaitsView) (tried : Tried Outcome) (least : 1 ≤ settings.max_attempts)
       (retried : IsRetried IsAnswer Verdict Waiting Recorded settings.max_attempts call after old later tried) where
