@@ -26,7 +26,7 @@ first_removed id xs i found =
     let passes = passes_at_first (λ x. x == id) xs 0 inside in
     let counted : (other : ℕ) → count (remove xs first) other + cond (get_or xs first 0 == other) 1 0 ≡ count xs other =
     λ other. rw (length-filter (λ x. x == other) xs, length-filter (λ x. x == other) (remove xs first))
-        (sum_by-remove (λ x. cond (x == other) 1 0) xs first 0 inside) in
+    (sum_by-remove (λ x. cond (x == other) 1 0) xs first 0 inside) in
     rw (← parts.1) (
       inside,
       record {

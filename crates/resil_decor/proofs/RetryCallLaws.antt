@@ -131,8 +131,7 @@ module _ {P : Type 0} (answers : P → PermitterAnswers) (held : P → ℕ → �
         let given = HasWritten-both _ _ (λ asked. Between old.permitter.now asked between.permitter.now) old.log.now now.log.now between.log.now
         (append old.permitter.now now.permitter.now between.permitter.now) kept.given one.given in
         record {
-          so_far = subst (λ (p : MutBor (List Outcome)). SoFar settings inside old.player.now p.now (answers old.permitter.now) (answers later.permitter.now) old.log.now later.log.now (k + 1)) (sym waited.0)
-              (subst (λ (p : MutBor P). SoFar settings inside old.player.now between.player.now (answers old.permitter.now) (answers p.now) old.log.now later.log.now (k + 1)) (sym waited.1) more);
+          so_far = rw (waited.0, waited.1) more;
           held_after = λ id. ap (λ (p : MutBor P). held p.now id) waited.1 ∙ one.held_after id ∙ kept.held_after id;
           given = rw waited.1 (record { more = given.more; written = waited.3.asked.0 ∙ given.written; holds = given.holds });
           player = ap (λ (p : MutBor (List Outcome)). p.ghost_name) waited.0 ∙ one.player ∙ kept.player;

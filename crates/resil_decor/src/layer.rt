@@ -74,16 +74,9 @@ impl Layer {
         match (self, other) {
             (Layer::Retry(a), Layer::Retry(b)) => a.same(b),
             (Layer::Bulkhead(a), Layer::Bulkhead(b)) => a == b,
-            (
-                Layer::Fallback {
-                    catch: a,
-                    value: one,
-                },
-                Layer::Fallback {
-                    catch: b,
-                    value: two,
-                },
-            ) => one == two && a.same(b),
+            (Layer::Fallback { catch: a, value: x }, Layer::Fallback { catch: b, value: y }) => {
+                x == y && a.same(b)
+            }
             _ => false,
         }
     }

@@ -87,10 +87,10 @@ pub call_with_retry-returns-in-Accepted : goal.call_with_retry-returns-in-Accept
 call_with_retry-returns-in-Accepted g t c =
     let done = accepted g.P.Permitter.answers g.P.Permitter.held g.P.Permitter.AnsweredBetween c.args.config.now (reverse c.args.inside.now) g.met.P.Permitter.none_between g.met.P.Permitter.append_between _ _ _
     (rw c.policy.ensures.value at c.policy.ensures.least) (rw c.policy.ensures.value at c.retry_sharing-tried.ensures) c.in-Accepted.is in
-    search (rules, sym done.player, sym done.permitter, sym done.log, done.ran, done.held_after, done.given)
+    search (rules, sym done.player, sym done.permitter, sym done.log, done.ran, done.held_after, done.given) depth 2
 
 pub call_with_retry-returns-in-Exhausted : goal.call_with_retry-returns-in-Exhausted
 call_with_retry-returns-in-Exhausted g t c =
     let done = gave_up g.P.Permitter.answers g.P.Permitter.held g.P.Permitter.AnsweredBetween c.args.config.now (reverse c.args.inside.now) g.met.P.Permitter.none_between g.met.P.Permitter.append_between _ _ _
     (rw c.policy.ensures.value at c.policy.ensures.least) (rw c.policy.ensures.value at c.retry_sharing-tried.ensures) c.in-Exhausted.is in
-    search (rules, sym done.player, sym done.permitter, sym done.log, done.ran, done.held_after, done.given)
+    search (rules, sym done.player, sym done.permitter, sym done.log, done.ran, done.held_after, done.given) depth 2
