@@ -8,20 +8,18 @@ use resil_call::Call;
 use resil_retry::{Callee, Outcome};
 use std::sync::Wait;
 
+const ERRORS: &str = "a name is 1 to 64 ASCII letters, digits, '-', '_' and '.'
+a bulkhead lets at most 65535 calls in at once
+out of memory";
+
 #[test]
 fn error_texts(rt: HostRuntime) {
     let errors = [
-        (
-            BulkheadError::BadName,
-            "a name is 1 to 64 ASCII letters, digits, '-', '_' and '.'",
-        ),
-        (
-            BulkheadError::TooManyPermits,
-            "a bulkhead lets at most 65535 calls in at once",
-        ),
-        (BulkheadError::Memory, "out of memory"),
+        BulkheadError::BadName,
+        BulkheadError::TooManyPermits,
+        BulkheadError::Memory,
     ];
-    assert_all_shown(&rt, rt.alloc(), &errors);
+    assert_all_shown(&rt, rt.alloc(), &errors, ERRORS);
 }
 
 // A function that sees, while it is called, how many permits of its bulkhead are free.

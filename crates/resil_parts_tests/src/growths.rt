@@ -8,16 +8,14 @@
 ghost use Rattle.std.specs.Prelude.{◌≡◌, map};
 ghost use Rattle.resil_decor.specs.Passes.{sources_of};
 
-use crate::shared::{
-    Sketch, answer, config, job_of, limits, listed, number, opened, part, plan_of, script,
-};
-use resil_admission::{AdmitError, Event, Id, Machine, Reply, Row, Verdict, audit};
+use crate::shared::{Sketch, answer, config, job_of, listed, plan_of, script};
+use resil_admission::{AdmitError, Event, Id, Limits, Machine, Reply, Row, Verdict, audit};
 use resil_bulkhead::{Bulkhead, BulkheadError, Pass};
-use resil_decor::{DecorError, Job, Listed, Passes, Permitter, Plan, Run};
+use resil_decor::{DecorError, Job, Passes, Permitter, Plan, Run};
 use resil_permit::{PermitError, PermitEvent, Permits, Shown, Step, WeaveError, weave};
 use resil_registry::{Registry, RegistryError};
 use resil_retry::{Kind, Outcome, RetryConfig, RetryError, Script, Waits};
-use std::alloc::{AllocError, Global};
+use std::alloc::Global;
 use std::process::Abort;
 use std::sync::Wait;
 use std::test::Fail;
@@ -45,10 +43,8 @@ fn are_made(alloc: Global, script: &Script, config: &RetryConfig) -> Result<bool
 // The same of a configuration whose test names these kinds.
 fn makes_retry(alloc: Global, named: &[Kind]) -> Result<bool, RetryError> {
     let script = script(alloc, &[Outcome::Error(Kind::Code(1)), V7])?;
-    match config(alloc, 3, named, &[Kind::Code(2)]) {
-        Ok(config) => are_made(alloc, &script, &config),
-        Err(error) => Err(error),
-    }
+    let config = config(alloc, 3, named, &[Kind::Code(2)])?;
+    are_made(alloc, &script, &config)
 }
 
 // A copy of a test that names more than 64 kinds has a table of all kinds, whose growth may be refused too.
@@ -126,43 +122,26 @@ fn is_run(run: &Run, value: i64, calls: u32) -> bool {
         && run.asked().len() == 3
 }
 
-// Whether a job has that plan, and its run shows what the permitter grants at last.
-fn has_plan_and_run(job: Job, same: &Plan, permitter: &mut Listed) -> bool {
-    job.plan().same(same) && is_run(&job.run(permitter), 7, 1)
-}
-
-// The same of a second job with its plan, and with a permitter that says no twice and then yes.
+// Whether a second job with its plan has that plan, and its run shows what a permitter grants at last, which says no twice.
 fn is_job(alloc: Global, job: &Job, same: &Plan) -> Result<bool, DecorError> {
     let mut permitter = at_last!(listed(alloc, &[false, false, true]), DecorError::Memory)?;
     let plan = job.shared_plan()?;
-    match at_last!(Job::sharing(alloc, &plan), DecorError::Memory) {
-        Ok(second) => Ok(has_plan_and_run(second, same, &mut permitter)),
-        Err(error) => Err(error),
-    }
+    let second = at_last!(Job::sharing(alloc, &plan), DecorError::Memory)?;
+    Ok(second.plan().same(same) && is_run(&second.run(&mut permitter), 7, 1))
 }
 
 // The same of a job that is made of a copy of a plan.
 fn makes_job(rt: &impl Abort, alloc: Global, same: &Plan) -> Result<bool, DecorError> {
     let copy = at_last!(same.copy(alloc), DecorError::Memory)?;
-    match job_at_last(rt, alloc, copy, same) {
-        Ok(job) => is_job(alloc, &job, same),
-        Err(error) => Err(error),
-    }
+    let job = job_at_last(rt, alloc, copy, same)?;
+    is_job(alloc, &job, same)
 }
 
 #[test]
 fn refused_growth_of_a_job(rt: HostRuntime) -> Result<(), Fail> {
-    let made = match plan(rt.alloc()) {
-        Ok(plan) => makes_job(&rt, rt.alloc(), &plan),
-        Err(error) => Err(error),
-    };
-    assert!(rt; made?);
+    let plan = plan(rt.alloc())?;
+    assert!(rt; makes_job(&rt, rt.alloc(), &plan)?);
     Ok(())
-}
-
-// Whether two callers get a permit each of two bulkheads, of which the first has no other.
-fn share<P: Permitter>(first: &mut P, second: &mut P) -> bool {
-    first.enter(0) && second.enter(1) && !second.enter(0)
 }
 
 // Whether one permit of the first bulkhead can be taken, and no more. It is given back.
@@ -190,7 +169,7 @@ fn split_at_last<'a, R: Wait + Abort>(
     }
 }
 
-// Whether two callers share the passes of two bulkheads, which are split at last.
+// Whether two callers, who share the passes of two bulkheads, get a permit of each, of which the first has no other.
 fn share_at_last<R: Wait + Abort>(
     rt: &R,
     alloc: Global,
@@ -200,10 +179,8 @@ fn share_at_last<R: Wait + Abort>(
     requires { sources_of passes.items ≡ map (λ b. b.permits) bulkheads.now }
 {
     let mut first = Passes::new(rt, bulkheads, passes);
-    match split_at_last(rt, alloc, &mut first) {
-        Ok(mut second) => Ok(share(&mut first, &mut second)),
-        Err(error) => Err(error),
-    }
+    let mut second = split_at_last(rt, alloc, &mut first)?;
+    Ok(first.enter(0) && second.enter(1) && !second.enter(0))
 }
 
 #[test]
@@ -213,8 +190,7 @@ fn refused_growth_of_split_passes(rt: HostRuntime) -> Result<(), Fail> {
     let (web, of_web) = Bulkhead::new(rt.alloc(), "web", 2)?;
     passes.push_reserved(of_db);
     passes.push_reserved(of_web);
-    let share = share_at_last(&rt, rt.alloc(), &[db, web], passes);
-    assert!(rt; share?);
+    assert!(rt; share_at_last(&rt, rt.alloc(), &[db, web], passes)?);
     Ok(())
 }
 
@@ -239,14 +215,10 @@ fn refused_growth_of_an_audit(rt: HostRuntime) -> Result<(), Fail> {
         submission(2, Reply::Queued),
         submission(3, Reply::Queued),
     ];
-    let limits = limits("1 1 1")?;
+    let limits = Limits::new(1, 1, 1)?;
     let verdict = at_last!(audit(rt.alloc(), &limits, &history), AdmitError::Memory);
     assert!(rt; verdict? == Verdict::FirstIllegal(3));
     Ok(())
-}
-
-fn events_of(alloc: Global, machine: &Machine) -> Result<Vec<Event>, AllocError> {
-    Vec::from_slice(alloc, machine.history())
 }
 
 // The reply to a submission, which is made once more where memory ran out. The refused one wrote no
@@ -255,8 +227,7 @@ fn reply_at_last(
     rt: &impl Abort,
     alloc: Global,
     machine: &mut Machine,
-    number: u64,
-    job: Job,
+    (number, job): (u64, Job),
     (before, plan): (&[Event], &Plan),
 ) -> Result<Reply, AdmitError> {
     match machine.submit(alloc, id(number), job) {
@@ -275,15 +246,10 @@ fn submit_at_last(
     machine: &mut Machine,
     number: u64,
     plan: &Plan,
-) -> Result<(), AdmitError> {
-    let before = events_of(alloc, machine)?;
-    let Ok(copy) = plan.copy(alloc) else {
-        return Err(AdmitError::Memory);
-    };
-    let Ok(job) = job_of(alloc, copy) else {
-        return Err(AdmitError::Memory);
-    };
-    let reply = reply_at_last(rt, alloc, machine, number, job, (&before, plan))?;
+) -> Result<(), Fail> {
+    let before = Vec::from_slice(alloc, machine.history())?;
+    let job = job_of(alloc, plan.copy(alloc)?)?;
+    let reply = reply_at_last(rt, alloc, machine, (number, job), (&before, plan))?;
     assert!(rt; machine.history().last() == Some(&submission(number, reply)));
     Ok(())
 }
@@ -325,72 +291,77 @@ fn run_last(rt: &impl Wait, alloc: Global, machine: &mut Machine, others: u32) -
     }
 }
 
-// Makes a call that takes no memory, such as `run 2`. Whether it has its effect.
-fn does(rt: &impl Wait, alloc: Global, machine: &mut Machine, call: &str, count: u32) -> bool {
-    match call {
-        "run" => run_many(rt, alloc, machine, count),
-        "run-last" => run_last(rt, alloc, machine, count),
-        "close" => machine.close() && machine.closed(),
-        "idle-end" => machine.idle_end(),
-        _ => false,
-    }
+// Calls of a machine.
+#[derive(Clone, Copy)]
+enum Calls {
+    // Submits jobs of one plan with the numbers from the first to the second.
+    Submit(u64, u64),
+    // So many resizes to 1 and 1.
+    Resize(u32),
+    Close,
+    // Picks, runs and finishes this many jobs, one after the other.
+    Run(u32),
+    // Picks a job, and finishes it after this many others.
+    RunLast(u32),
+    IdleEnd,
 }
 
-// Makes calls, parted by commas: `submit 1 4` for four submissions of a plan, `resize`, or such as take no memory.
-fn calls(
+// Makes these calls. All but submissions and resizes take no memory, and have their effect.
+fn make(
     rt: &(impl Wait + Abort),
     alloc: Global,
     machine: &mut Machine,
     plan: &Plan,
-    steps: &str,
-) -> Result<(), AdmitError> {
-    for step in steps.split(", ") {
-        let first = number(part(step, " ", 1));
-        match part(step, " ", 0) {
-            "resize" => resize_at_last(rt, machine)?,
-            "submit" => {
-                for number in first..=number(part(step, " ", 2)) {
-                    submit_at_last(rt, alloc, machine, number.into(), plan)?;
-                }
+    calls: Calls,
+) -> Result<(), Fail> {
+    let has_effect = match calls {
+        Calls::Submit(first, last) => {
+            for number in first..=last {
+                submit_at_last(rt, alloc, machine, number, plan)?;
             }
-            call => assert!(rt; does(rt, alloc, machine, call, first), "{step}"),
+            true
         }
-    }
+        Calls::Resize(count) => {
+            for _ in 0..count {
+                resize_at_last(rt, machine)?;
+            }
+            true
+        }
+        Calls::Close => machine.close() && machine.closed(),
+        Calls::Run(count) => run_many(rt, alloc, machine, count),
+        Calls::RunLast(others) => run_last(rt, alloc, machine, others),
+        Calls::IdleEnd => machine.idle_end(),
+    };
+    assert!(rt; has_effect);
     Ok(())
 }
 
-// The history and the results of a new machine after these calls.
+// The history and the results of a new machine of these limits after these calls, with jobs of a plan that was made, if it was.
 fn parts_after(
     rt: &(impl Wait + Abort),
     alloc: Global,
-    plan: &Plan,
-    (sizes, steps): (&str, &str),
-) -> Result<(Vec<Event>, Vec<Row>), AdmitError> {
-    let mut machine = at_last!(opened(alloc, sizes), AdmitError::Memory)?;
-    match calls(rt, alloc, &mut machine, plan, steps) {
-        Ok(()) => answer(machine.into_parts()),
-        Err(error) => Err(error),
-    }
-}
-
-// The same with jobs of a plan that was made, if it was.
-fn parts_of(
-    rt: &(impl Wait + Abort),
-    alloc: Global,
     plan: Result<Plan, DecorError>,
-    steps: (&str, &str),
-) -> Result<(Vec<Event>, Vec<Row>), AdmitError> {
-    match plan {
-        Ok(plan) => parts_after(rt, alloc, &plan, steps),
-        Err(_) => Err(AdmitError::Memory),
+    (core, max, queue): (u32, u32, u32),
+    all: &[Calls],
+) -> Result<(Vec<Event>, Vec<Row>), Fail> {
+    let (plan, limits) = (plan?, Limits::new(core, max, queue)?);
+    let mut machine = at_last!(Machine::new(alloc, limits), AdmitError::Memory)?;
+    for calls in all {
+        make(rt, alloc, &mut machine, &plan, *calls)?;
     }
+    Ok(answer(machine.into_parts())?)
 }
 
 // Four submissions, of which the last is refused, and resizes.
 #[test]
 fn refused_growth_of_a_submission(rt: HostRuntime) -> Result<(), Fail> {
-    let steps = "submit 1 4, close, resize, resize, resize, resize, run 3";
-    let (history, rows) = parts_of(&rt, rt.alloc(), plan(rt.alloc()), ("1 2 1", steps))?;
+    let calls = [
+        Calls::Submit(1, 4),
+        Calls::Close,
+        Calls::Resize(4),
+        Calls::Run(3),
+    ];
+    let (history, rows) = parts_after(&rt, rt.alloc(), plan(rt.alloc()), (1, 2, 1), &calls)?;
     let submissions = [
         submission(1, Reply::Core),
         submission(2, Reply::Queued),
@@ -419,8 +390,8 @@ fn are_thirty(rows: &[Row]) -> bool {
 #[test]
 fn refused_growth_of_submissions(rt: HostRuntime) -> Result<(), Fail> {
     let plan = plan_of(rt.alloc(), &[], &[V7]);
-    let steps = ("2 2 30", "submit 1 30, run-last 29");
-    let (_, rows) = parts_of(&rt, rt.alloc(), plan, steps)?;
+    let calls = [Calls::Submit(1, 30), Calls::RunLast(29)];
+    let (_, rows) = parts_after(&rt, rt.alloc(), plan, (2, 2, 30), &calls)?;
     assert!(rt; are_thirty(&rows));
     Ok(())
 }
@@ -439,8 +410,14 @@ fn are_two_nines(rows: &[Row]) -> bool {
 // line of the test is the first that meets it.
 #[test]
 fn refused_growth_none_after_acceptance(rt: HostRuntime) -> Result<(), Fail> {
-    let steps = "submit 1 2, close, submit 3 3, run 2, idle-end";
-    let (history, rows) = parts_of(&rt, rt.alloc(), plan(rt.alloc()), ("1 1 1", steps))?;
+    let calls = [
+        Calls::Submit(1, 2),
+        Calls::Close,
+        Calls::Submit(3, 3),
+        Calls::Run(2),
+        Calls::IdleEnd,
+    ];
+    let (history, rows) = parts_after(&rt, rt.alloc(), plan(rt.alloc()), (1, 1, 1), &calls)?;
     let two_runs = [
         submission(1, Reply::Core),
         submission(2, Reply::Queued),

@@ -88,12 +88,8 @@ fn a_budget_ends_a_retry(rt: HostRuntime) {
 fn a_deadline_bars_what_passes_it(rt: HostRuntime) {
     let policy = policy(9, SameWait(7_200_000));
     let mut deadline = Deadline::after(&rt, Duration::from_secs(3_600));
-    let tried = retry_within(
-        &policy,
-        &mut deadline,
-        &mut Failing(0),
-        &mut Sleep::new(&rt),
-    );
+    let mut sleep = Sleep::new(&rt);
+    let tried = retry_within(&policy, &mut deadline, &mut Failing(0), &mut sleep);
     assert!(rt; tried.answer == Err(1) && tried.attempts == 1 && tried.end == End::OutOfTime);
 }
 
@@ -102,12 +98,8 @@ fn a_deadline_bars_what_passes_it(rt: HostRuntime) {
 fn a_deadline_comes_by_the_clock(rt: HostRuntime) {
     let policy = policy(1_000_000, SameWait(5));
     let mut deadline = Deadline::after(&rt, Duration::from_millis(50));
-    let tried = retry_within(
-        &policy,
-        &mut deadline,
-        &mut Failing(0),
-        &mut Sleep::new(&rt),
-    );
+    let mut sleep = Sleep::new(&rt);
+    let tried = retry_within(&policy, &mut deadline, &mut Failing(0), &mut sleep);
     assert!(rt; tried.end == End::OutOfTime && tried.attempts <= 11);
 }
 

@@ -7,11 +7,10 @@ use resil_layers::{
     BulkheadsText, CallCounts, CallTimes, CallsText, Count, Counted, Decorate, Observe, Observer,
     OwnCounts, PoolText, RetriesText, RetryCounts, TimesText, Timing, counts_by_name,
 };
-use std::alloc::{AllocError, Global};
+use std::alloc::Global;
 use std::cell::Cell;
 use std::process::Abort;
 use std::sync::{Arc, Wait};
-use std::thread::Threads;
 use std::time::{Clock, Duration};
 use std::{io, thread};
 
@@ -58,39 +57,24 @@ fn call_all<R: Wait>(rt: &R, full: &Bulkhead, counts: &CallCounts, times: u32) {
     let _refused = refused.call();
 }
 
-// The same from eight threads.
-fn call_from_eight<R: Threads + Wait + Sync>(
-    rt: &R,
-    alloc: Global,
-    full: &Bulkhead,
-    counts: &CallCounts,
-) -> Result<Vec<()>, AllocError> {
-    thread::map_indices(rt, alloc, 8, &|_| call_all(rt, full, counts, 100))
-}
-
 #[test]
 fn threads_count_together(rt: HostRuntime) {
     let (full, _pass) = Bulkhead::new(rt.alloc(), "full", 0).expect(&rt, "a bulkhead");
     let counts = CallCounts::new("prices");
-    let ran = call_from_eight(&rt, rt.alloc(), &full, &counts).is_ok();
-    assert!(rt; ran && counts.count(Counted::Called) == 808);
+    let ran = thread::map_indices(&rt, rt.alloc(), 8, &|_| call_all(&rt, &full, &counts, 100));
+    assert!(rt; ran.is_ok() && counts.count(Counted::Called) == 808);
     assert!(rt; counts.count(Counted::Value) == 800 && counts.count(Counted::Refused) == 8);
     assert!(rt; counts.count(Counted::Error) == 0);
-}
-
-// What the counts of a chain of one's own are after one call of a full bulkhead.
-fn own_counts<R: Wait>(rt: &R, full: &Bulkhead) -> OwnCounts {
-    let mut call = FromFn(|| -> Result<u8, NoPermit> { Ok(1) })
-        .inside(full, rt)
-        .counted(OwnCounts::default());
-    let _refused = call.call();
-    call.observer.0
 }
 
 #[test]
 fn counts_of_ones_own(rt: HostRuntime) {
     let (full, _pass) = Bulkhead::new(rt.alloc(), "full", 0).expect(&rt, "a bulkhead");
-    let own = own_counts(&rt, &full);
+    let mut call = FromFn(|| -> Result<u8, NoPermit> { Ok(1) })
+        .inside(&full, &rt)
+        .counted(OwnCounts::default());
+    let _refused = call.call();
+    let own = call.observer.0;
     assert!(rt; own.called == 1 && own.refused == 1 && own.values == 0 && own.errors == 0);
 }
 

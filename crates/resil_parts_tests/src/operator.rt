@@ -41,12 +41,6 @@ fn visit(rt: &impl Wait, bulkhead: &Bulkhead, gauge: &Gauge) {
     }
 }
 
-fn visit_often(rt: &impl Wait, bulkhead: &Bulkhead, gauge: &Gauge) {
-    for _ in 0..100u32 {
-        visit(rt, bulkhead, gauge);
-    }
-}
-
 // Whether there were never more free than the lowered limit.
 fn stays_low(bulkhead: &Bulkhead) -> bool {
     let mut low = true;
@@ -77,7 +71,9 @@ fn act<R: Clock + Wait>(rt: &R, bulkhead: &Bulkhead, gauge: &Gauge, place: usize
         if place == 0 {
             low &= operate(rt, bulkhead, gauge);
         } else {
-            visit_often(rt, bulkhead, gauge);
+            for _ in 0..100u32 {
+                visit(rt, bulkhead, gauge);
+            }
         }
     }
     low
@@ -97,6 +93,7 @@ fn lowered_under_load(rt: HostRuntime) {
         4,
         &|place| act(&rt, &bulkhead, &gauge, place),
     );
-    assert!(rt; acted.is_ok_and(|acted| acted.iter().all(|low| *low)));
+    let acted = acted.expect(&rt, "room for the answers");
+    assert!(rt; !acted.contains(&false));
     assert!(rt; !gauge.crowded.load(SeqCst) && free(&bulkhead) == MAX);
 }

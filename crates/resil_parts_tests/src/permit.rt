@@ -12,35 +12,25 @@ use std::sync::atomic::Ordering::SeqCst;
 use std::sync::atomic::{AtomicBool, AtomicU32};
 use std::thread;
 
+const ERRORS: &str = "there are more than 65535 permits
+out of memory";
+
+const WEAVE_ERRORS: &str = "step 3: the caller has loaded nothing to exchange
+step 4: the caller holds no permit
+step 5: the caller has loaded a number and must exchange it first
+step 6: the caller has retired no permit";
+
 #[test]
 fn error_texts(rt: HostRuntime) {
+    let errors = [PermitError::TooManyPermits, PermitError::Memory];
+    assert_all_shown(&rt, rt.alloc(), &errors, ERRORS);
     let errors = [
-        (
-            PermitError::TooManyPermits,
-            "there are more than 65535 permits",
-        ),
-        (PermitError::Memory, "out of memory"),
+        WeaveError::NotLoaded(3),
+        WeaveError::NotHolding(4),
+        WeaveError::StillLoaded(5),
+        WeaveError::NotRetired(6),
     ];
-    assert_all_shown(&rt, rt.alloc(), &errors);
-    let errors = [
-        (
-            WeaveError::NotLoaded(3),
-            "step 3: the caller has loaded nothing to exchange",
-        ),
-        (
-            WeaveError::NotHolding(4),
-            "step 4: the caller holds no permit",
-        ),
-        (
-            WeaveError::StillLoaded(5),
-            "step 5: the caller has loaded a number and must exchange it first",
-        ),
-        (
-            WeaveError::NotRetired(6),
-            "step 6: the caller has retired no permit",
-        ),
-    ];
-    assert_all_shown(&rt, rt.alloc(), &errors);
+    assert_all_shown(&rt, rt.alloc(), &errors, WEAVE_ERRORS);
 }
 
 // Permits with a pass of theirs.
@@ -52,59 +42,33 @@ struct Desk<'a> {
 }
 
 impl Desk<'_> {
-    // Takes a permit, by one try or by as many as it needs. Whether there was one.
-    fn takes(&mut self, rt: &impl Wait, call: &str) -> bool {
+    // Makes a call, where the pass holds a permit to be given, or has retired one to be raised. Whether it succeeds.
+    fn answers(&mut self, rt: &impl Wait, call: &str) -> bool {
         match call {
-            "try" => self.permits.try_once(&mut self.pass) == Attempt::Taken,
-            "acquire" => self.permits.try_acquire(rt, &mut self.pass) == Acquire::Taken,
-            _ => false,
-        }
-    }
-
-    // Gives a permit back or retires it, where the pass holds one.
-    fn gives(&mut self, call: &str) -> bool {
-        if self.pass.held() == 0 {
-            return false;
-        }
-        match call {
-            "give" => self.permits.release(&mut self.pass),
-            "give-quietly" => self.permits.release_without_wake(&mut self.pass),
-            "retire" => self.permits.retire(&mut self.pass),
+            "try" => return self.permits.try_once(&mut self.pass) == Attempt::Taken,
+            "acquire" => return self.permits.try_acquire(rt, &mut self.pass) == Acquire::Taken,
+            "give" if self.pass.held() > 0 => self.permits.release(&mut self.pass),
+            "give-quietly" if self.pass.held() > 0 => {
+                self.permits.release_without_wake(&mut self.pass);
+            }
+            "retire" if self.pass.held() > 0 => self.permits.retire(&mut self.pass),
+            "raise" if self.pass.retired() > 0 => self.permits.raise(&mut self.pass),
+            "raise-quietly" if self.pass.retired() > 0 => {
+                self.permits.raise_without_wake(&mut self.pass);
+            }
+            "join" => {
+                let other = self.permits.split(&mut self.pass);
+                self.permits.join(&mut self.pass, other);
+            }
             _ => return false,
         }
         true
-    }
-
-    // Raises a permit, where the pass has retired one.
-    fn raises(&mut self, call: &str) -> bool {
-        if self.pass.retired() == 0 {
-            return false;
-        }
-        match call {
-            "raise" => self.permits.raise(&mut self.pass),
-            "raise-quietly" => self.permits.raise_without_wake(&mut self.pass),
-            _ => return false,
-        }
-        true
-    }
-
-    // Splits a pass off, and joins it away.
-    fn joins(&mut self, call: &str) -> bool {
-        if call == "join" {
-            let other = self.permits.split(&mut self.pass);
-            self.permits.join(&mut self.pass, other);
-        }
-        call == "join"
     }
 
     // How many permits the pass holds and has retired, and how many are free.
     fn counts(&mut self) -> (u32, u32, u32) {
         let free = self.permits.available(&mut self.pass);
         (self.pass.held(), self.pass.retired(), free)
-    }
-
-    fn answers(&mut self, rt: &impl Wait, call: &str) -> bool {
-        self.takes(rt, call) || self.gives(call) || self.raises(call) || self.joins(call)
     }
 }
 

@@ -4,30 +4,23 @@
 //! `examples/chain`.
 
 use crate::shared::{assert_all_shown, config, script};
-use resil_retry::{
-    Interval, Kind, MAX_INTERVAL, Outcome, Player, RetryConfig, RetryError, Script, Waits, retry,
-};
+use resil_retry::{Interval, Kind, MAX_INTERVAL, Outcome, Player, RetryError, Waits, retry};
 use std::alloc::Global;
 
-// Plays a script with just enough room for its waits. Answers the outcome, the ending, the waits
-// and the room that is left, as one text.
-fn played(alloc: Global, config: &RetryConfig, script: &Script) -> Result<String, RetryError> {
+// Three attempts, half a second apart, at a call that fails and then gives 7, with just enough room for their waits. Answers
+// the outcome, the ending, the waits and the room that is left, as one text.
+fn played_later(alloc: Global) -> Result<String, RetryError> {
+    let error = Outcome::Error(Kind::Code(1));
+    let script = script(alloc, &[error, Outcome::Value(7)])?;
+    let config = config(alloc, 3, &[], &[Kind::Code(2)])?;
     let mut waits = Waits::new(alloc, config.max_attempts() as usize - 1)?;
-    let (outcome, ending) = retry(config, &mut Player::new(script), &mut waits);
+    let (outcome, ending) = retry(&config, &mut Player::new(&script), &mut waits);
     let text = format!(in alloc;
         "{outcome:?} {ending:?} {:?} {}",
         waits.items(),
         waits.room()
     )?;
     Ok(text)
-}
-
-// Three attempts, half a second apart, at a call that fails and then gives 7.
-fn played_later(alloc: Global) -> Result<String, RetryError> {
-    let error = Outcome::Error(Kind::Code(1));
-    let script = script(alloc, &[error, Outcome::Value(7)])?;
-    let config = config(alloc, 3, &[], &[Kind::Code(2)])?;
-    played(alloc, &config, &script)
 }
 
 #[test]
@@ -53,24 +46,22 @@ fn last_waits(rt: HostRuntime) {
     assert!(rt; last_wait(1_000, 1_000, 999, MAX_INTERVAL) == Some(31_536_000_000));
 }
 
+const ERRORS: &str = "an interval is longer than 31,536,000,000 ms
+the cap is below the initial interval
+the script has no outcome
+a retry needs at least one attempt
+a retry has at most 1,000 attempts
+out of memory";
+
 #[test]
 fn refusals_as_text(rt: HostRuntime) {
     let errors = [
-        (
-            RetryError::IntervalTooLong,
-            "an interval is longer than 31,536,000,000 ms",
-        ),
-        (
-            RetryError::CapBelowInitial,
-            "the cap is below the initial interval",
-        ),
-        (RetryError::EmptyScript, "the script has no outcome"),
-        (RetryError::NoAttempts, "a retry needs at least one attempt"),
-        (
-            RetryError::TooManyAttempts,
-            "a retry has at most 1,000 attempts",
-        ),
-        (RetryError::Memory, "out of memory"),
+        RetryError::IntervalTooLong,
+        RetryError::CapBelowInitial,
+        RetryError::EmptyScript,
+        RetryError::NoAttempts,
+        RetryError::TooManyAttempts,
+        RetryError::Memory,
     ];
-    assert_all_shown(&rt, rt.alloc(), &errors);
+    assert_all_shown(&rt, rt.alloc(), &errors, ERRORS);
 }

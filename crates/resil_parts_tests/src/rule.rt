@@ -3,9 +3,9 @@
 //! Steps and answers are texts, which were worked out by hand from the rule of admission. The helpers
 //! have no contracts, so a test rests on what it asserts.
 
-use crate::shared::{assert_all_shown, assert_text, id, limits, part, reply_word, yes_no};
+use crate::shared::{assert_all_shown, assert_text, id, part, reply_word, yes_no};
 use resil_rule::{
-    AllEvents, Event, Id, LastEvents, NoRecord, Origin, Picked, Record, Refusal, Rule,
+    AllEvents, Event, Id, LastEvents, Limits, NoRecord, Origin, Picked, Record, Refusal, Rule,
 };
 use std::alloc::{AllocError, Global};
 use std::mem::size_of;
@@ -102,7 +102,7 @@ const DRAINED: &str =
 
 #[test]
 fn rule_by_hand(rt: HostRuntime) {
-    let limits = limits("1 2 2").expect(&rt, "limits");
+    let limits = Limits::new(1, 2, 2).expect(&rt, "limits");
     let mut rule = Rule::new(rt.alloc(), limits, 2).expect(&rt, "a rule");
     played(&rt, &mut rule, BUSY);
     assert!(rt; counts(&rule) == ([1, 2, 2], [1, 1, 2, 0], 4) && rule.owed() == 8);
@@ -113,12 +113,14 @@ fn rule_by_hand(rt: HostRuntime) {
 #[test]
 fn refusals_as_text(rt: HostRuntime) {
     let refusals = [
-        (Refusal::NoSuchCaller, "no such caller"),
-        (Refusal::WrongNumber, "not the caller's next number"),
-        (Refusal::Full, "the pool is full"),
-        (Refusal::Closed, "the pool is closed"),
+        Refusal::NoSuchCaller,
+        Refusal::WrongNumber,
+        Refusal::Full,
+        Refusal::Closed,
     ];
-    assert_all_shown(&rt, rt.alloc(), &refusals);
+    let texts =
+        "no such caller\nnot the caller's next number\nthe pool is full\nthe pool is closed";
+    assert_all_shown(&rt, rt.alloc(), &refusals, texts);
 }
 
 const THREE: [Event; 3] = [

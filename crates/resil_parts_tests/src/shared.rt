@@ -4,7 +4,7 @@
 
 ghost use Rattle.std.specs.Prelude.{◌≡◌};
 
-use resil_admission::{AdmitError, Id, Limits, Machine, Reply};
+use resil_admission::{Id, Reply};
 use resil_bulkhead::{Bulkhead, Pass};
 use resil_decor::{Chain, DecorError, Job, Layer, Listed, Plan};
 use resil_permit::{Pass as PermitPass, Permits};
@@ -159,24 +159,6 @@ pub fn part<'a>(text: &'a str, mark: &str, place: usize) -> &'a str {
     text.split(mark).nth(place).unwrap_or("")
 }
 
-/// The number that a text is, or the greatest one.
-pub fn number(text: &str) -> u32 {
-    text.parse().unwrap_or(u32::MAX)
-}
-
-/// The limits of a text such as `1 2 1`: the core size, the greatest size and the capacity of the
-/// queue.
-pub fn limits(text: &str) -> Result<Limits, AdmitError> {
-    let core = number(part(text, " ", 0));
-    let max = number(part(text, " ", 1));
-    Limits::new(core, max, number(part(text, " ", 2)))
-}
-
-/// A machine of such sizes.
-pub fn opened(alloc: Global, sizes: &str) -> Result<Machine, AdmitError> {
-    Machine::new(alloc, limits(sizes)?)
-}
-
 /// The id of a text such as `1-2`, which is submission 2 of caller 1. What is no number is the
 /// greatest one.
 pub fn id(text: &str) -> Id {
@@ -213,9 +195,11 @@ pub fn assert_shown(rt: &impl Abort, alloc: Global, value: &impl Display, wanted
     assert!(rt; shown.as_str() == wanted, "{shown}");
 }
 
-/// The same of each of these values.
-pub fn assert_all_shown<T: Display>(rt: &impl Abort, alloc: Global, values: &[(T, &str)]) {
-    for (value, wanted) in values {
-        assert_shown(rt, alloc, value, wanted);
+/// Asserts what is displayed of these values, each in a line.
+pub fn assert_all_shown<T: Display>(rt: &impl Abort, alloc: Global, values: &[T], wanted: &str) {
+    let mut lines = wanted.lines();
+    for value in values {
+        assert_shown(rt, alloc, value, lines.next().unwrap_or(""));
     }
+    assert!(rt; lines.next().is_none());
 }

@@ -12,7 +12,6 @@ use std::sync::Wait;
 use std::sync::atomic::AtomicU32;
 use std::sync::atomic::Ordering::SeqCst;
 use std::thread;
-use std::thread::Threads;
 use std::time::{Clock, Duration, Instant};
 
 // How many have a permit or have retired one, and how many are about to wait.
@@ -51,15 +50,20 @@ fn is_early(rt: &impl Clock, start: Option<Instant>) -> bool {
     }
 }
 
+// Tells that a permit is had or retired, until this many are about to wait for one, and some time longer.
+fn hold(rt: &impl Clock, stage: &Stage, waits: u32) {
+    stage.having.fetch_add(1, SeqCst);
+    await_number(rt, &stage.waiting, waits);
+    thread::sleep(rt, Duration::from_millis(20));
+}
+
 // Has a permit until this many are about to wait for one, and some time longer.
 fn release_late<R: Clock + Wait>(rt: &R, bulkhead: &Bulkhead, stage: &Stage, waits: u32) -> bool {
     let mut pass = bulkhead.new_pass();
     if !bulkhead.enter(rt, &mut pass) {
         return false;
     }
-    stage.having.fetch_add(1, SeqCst);
-    await_number(rt, &stage.waiting, waits);
-    thread::sleep(rt, Duration::from_millis(20));
+    hold(rt, stage, waits);
     bulkhead.leave(&mut pass);
     true
 }
@@ -71,9 +75,7 @@ fn raise_late<R: Clock + Wait>(rt: &R, bulkhead: &Bulkhead, stage: &Stage) -> bo
         return false;
     }
     bulkhead.retire(&mut pass);
-    stage.having.fetch_add(1, SeqCst);
-    await_number(rt, &stage.waiting, 1);
-    thread::sleep(rt, Duration::from_millis(20));
+    hold(rt, stage, 1);
     bulkhead.raise(&mut pass);
     true
 }
@@ -121,36 +123,24 @@ fn ends_by_a_raise(rt: HostRuntime) {
     assert!(rt; ends == (true, true));
 }
 
-// Two who release.
-fn release_two<R: Clock + Sync + Threads + Wait>(rt: &R, two: &Bulkhead, stage: &Stage) -> bool {
-    let ends = thread::join(
-        rt,
-        || release_late(rt, two, stage, 2),
-        || release_late(rt, two, stage, 2),
-    );
-    ends == (true, true)
-}
-
-// Two who wait.
-fn enter_two<R: Clock + Sync + Threads + Wait>(rt: &R, two: &Bulkhead, stage: &Stage) -> bool {
-    let ends = thread::join(
-        rt,
-        || enter_late(rt, two, stage, 2),
-        || enter_late(rt, two, stage, 2),
-    );
-    ends == (true, true)
-}
-
 #[test]
 fn two_and_two(rt: HostRuntime) {
     let (two, _pass) = bulkhead(&rt, rt.alloc(), 2);
     let stage = Stage::new();
-    let ends = thread::join(
+    let ends = thread::map_indices(
         &rt,
-        || release_two(&rt, &two, &stage),
-        || enter_two(&rt, &two, &stage),
+        rt.alloc(),
+        4,
+        &|place| {
+            if place < 2 {
+                release_late(&rt, &two, &stage, 2)
+            } else {
+                enter_late(&rt, &two, &stage, 2)
+            }
+        },
     );
-    assert!(rt; ends == (true, true));
+    let ends = ends.expect(&rt, "room for the ends");
+    assert!(rt; !ends.contains(&false));
     assert!(rt; two.available(&mut two.new_pass()) == 0);
 }
 
