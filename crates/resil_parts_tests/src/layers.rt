@@ -1,8 +1,8 @@
 //! Layers: a permit is held while the function runs, and a full bulkhead is tried again.
 
-use crate::shared::{bulkhead, free};
+use crate::shared::{Always, bulkhead, free};
 use resil_bulkhead::{Bulkhead, DEFAULT_MAX_CALLS, NoPermit, Permit};
-use resil_call::{Call, EveryError, FromFn, NoPause, RetryPolicy, SameWait};
+use resil_call::{Call, EveryError, NoPause, RetryPolicy, SameWait};
 use resil_layers::Decorate;
 use resil_retry::{Interval, Recorded, Waits};
 use std::alloc::Global;
@@ -22,21 +22,9 @@ impl From<NoPermit> for Refusal {
     }
 }
 
-// A function that always gives this answer.
-#[derive(Drop)]
-struct Always(Result<u8, Refusal>);
-
-impl Call for Always {
-    type Output = Result<u8, Refusal>;
-
-    fn call(&mut self) -> Result<u8, Refusal> {
-        self.0
-    }
-}
-
 // One call under two permits of the same bulkhead.
 fn call_under_two<R: Wait>(rt: &R, bulkhead: &Bulkhead) -> Result<u8, Refusal> {
-    Always(Ok(1))
+    Always(Ok::<u8, Refusal>(1))
         .inside_by(bulkhead, rt, bulkhead.new_pass())
         .inside(bulkhead, rt)
         .call()
@@ -63,7 +51,7 @@ fn free_in_scope(bulkhead: &Bulkhead) -> Result<u32, NoPermit> {
 
 // What one try of a call comes to.
 fn tried_once(bulkhead: &Bulkhead) -> Result<u8, NoPermit> {
-    bulkhead.call_once(&mut bulkhead.new_pass(), &mut FromFn(|| 3))
+    bulkhead.call_once(&mut bulkhead.new_pass(), &mut Always(3))
 }
 
 // Whether a scope gets a permit.
@@ -89,7 +77,7 @@ fn tried_in<R: Abort + Wait>(
         backoff: Interval::exponential(10, 2, 1, 1_000).expect(rt, "an interval"),
         retry_on: EveryError,
     };
-    Always(Ok(1))
+    Always(Ok::<u8, Refusal>(1))
         .inside(bulkhead, rt)
         .retried(&policy, Recorded(waits))
         .call()
@@ -110,7 +98,7 @@ fn recovered(error: Refusal) -> Result<u8, Refusal> {
         backoff: SameWait(0),
         retry_on: EveryError,
     };
-    Always(Err(error))
+    Always(Err::<u8, Refusal>(error))
         .retried(&policy, NoPause)
         .or_else_if(
             |error: &Refusal| *error == Refusal::Code(503),

@@ -1,8 +1,8 @@
 //! Observers: in which order they are told, what threads count together, what a clock measures, and the texts.
 
-use crate::shared::{Digits, assert_shown};
+use crate::shared::{Always, Digits, assert_shown};
 use resil_bulkhead::{Bulkhead, NoPermit};
-use resil_call::{Call, End, FromFn, Tried};
+use resil_call::{Call, End, Tried};
 use resil_layers::{
     BulkheadsText, CallCounts, CallTimes, CallsText, Count, Counted, Decorate, Observe, Observer,
     OwnCounts, PoolText, RetriesText, RetryCounts, TimesText, Timing, counts_by_name,
@@ -47,8 +47,8 @@ fn told_before_and_after_each_call(rt: HostRuntime) {
 
 // Calls by turns a function that gives a value and one that fails, so often each, and a full bulkhead once.
 fn call_all<R: Wait>(rt: &R, full: &Bulkhead, counts: &CallCounts, times: u32) {
-    let mut value = FromFn(|| -> Result<u8, NoPermit> { Ok(1) }).counted(counts);
-    let mut refused = FromFn(|| -> Result<u8, NoPermit> { Ok(1) })
+    let mut value = Always(Ok::<u8, NoPermit>(1)).counted(counts);
+    let mut refused = Always(Ok::<u8, NoPermit>(1))
         .inside(full, rt)
         .counted(counts);
     for _ in 0..times {
@@ -70,7 +70,7 @@ fn threads_count_together(rt: HostRuntime) {
 #[test]
 fn counts_of_ones_own(rt: HostRuntime) {
     let (full, _pass) = Bulkhead::new(rt.alloc(), "full", 0).expect(&rt, "a bulkhead");
-    let mut call = FromFn(|| -> Result<u8, NoPermit> { Ok(1) })
+    let mut call = Always(Ok::<u8, NoPermit>(1))
         .inside(&full, &rt)
         .counted(OwnCounts::default());
     let _refused = call.call();
@@ -97,7 +97,7 @@ impl Clock for Ticks {
 #[test]
 fn calls_are_measured_by_the_clock(rt: HostRuntime) {
     let (times, clock) = (CallTimes::new("prices"), Ticks(Cell::new(0)));
-    let mut call = FromFn(|| 7_u8).observed(Timing::new(&times, &clock));
+    let mut call = Always(7_u8).observed(Timing::new(&times, &clock));
     assert!(rt; call.call() == 7 && call.call() == 7);
     assert!(rt; times.total() == Duration::from_millis(6));
     assert!(rt; times.longest() == Duration::from_millis(3));

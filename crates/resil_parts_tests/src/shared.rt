@@ -6,6 +6,7 @@ ghost use Rattle.std.specs.Prelude.{◌≡◌};
 
 use resil_admission::{Id, Reply};
 use resil_bulkhead::{Bulkhead, Pass};
+use resil_call::Call;
 use resil_decor::{Chain, DecorError, Job, Layer, Listed, Plan};
 use resil_permit::{Pass as PermitPass, Permits};
 use resil_retry::{
@@ -54,6 +55,18 @@ impl Digits {
     /// All digits, as one number.
     pub fn all(&self) -> u64 {
         self.0.get()
+    }
+}
+
+/// A function that always gives this answer.
+#[derive(Drop)]
+pub struct Always<T>(pub T);
+
+impl<T: Copy + Drop> Call for Always<T> {
+    type Output = T;
+
+    fn call(&mut self) -> T {
+        self.0
     }
 }
 

@@ -4,7 +4,7 @@
 //! Who waits for others here waits for what they did, and 20 s at most. A wait of 60 s that nobody wakes would take all of
 //! them, and one that is woken is over long before its half.
 
-use crate::shared::bulkhead;
+use crate::shared::{Always, bulkhead};
 use resil_bulkhead::{Bulkhead, NoPermit, Permit};
 use resil_call::{Call, FromFn};
 use resil_layers::Decorate;
@@ -43,9 +43,7 @@ fn await_number(rt: &impl Clock, number: &AtomicU32, wanted: u32) {
 // Whether less than half a minute has gone.
 fn is_early(rt: &impl Clock, start: Option<Instant>) -> bool {
     match start {
-        Some(start) => start
-            .elapsed(rt)
-            .is_ok_and(|spent| spent < Duration::from_secs(30)),
+        Some(start) => matches!(start.elapsed(rt), Ok(spent) if spent < Duration::from_secs(30)),
         None => false,
     }
 }
@@ -149,10 +147,8 @@ fn waits_in_vain<R: Clock + Wait>(rt: &R, bulkhead: &Bulkhead, longest: Duration
     let Ok(start) = Instant::now(rt) else {
         return false;
     };
-    let answer = bulkhead
-        .client()
-        .call_within(rt, longest, &mut FromFn(|| 7));
-    answer == Err(NoPermit::Full) && start.elapsed(rt).is_ok_and(|spent| spent >= longest)
+    let answer = bulkhead.client().call_within(rt, longest, &mut Always(7));
+    answer == Err(NoPermit::Full) && matches!(start.elapsed(rt), Ok(spent) if spent >= longest)
 }
 
 #[test]
@@ -173,7 +169,7 @@ fn never_waits_for_no_permits(rt: HostRuntime) {
 
 // What a chain answers that waits 10 ms at most, called so often.
 fn answers_in_chain<R: Clock + Wait>(rt: &R, bulkhead: &Bulkhead, calls: u32) -> u32 {
-    let mut chain = FromFn(|| -> Result<u32, NoPermit> { Ok(1) })
+    let mut chain = Always(Ok::<u32, NoPermit>(1))
         .inside_within(bulkhead, rt, Duration::from_millis(10))
         .or_else(|_full| 0);
     let mut answers: u32 = 0;
@@ -205,13 +201,10 @@ fn lent_while_held(rt: HostRuntime) {
 fn clients_in_turn(rt: HostRuntime) {
     let (one, _pass) = bulkhead(&rt, rt.alloc(), 1);
     for mut client in one.clients(rt.alloc(), 2).expect(&rt, "two clients") {
-        assert!(rt; client.call(&rt, &mut FromFn(|| 7)) == Ok(7));
-        assert!(rt; client.call_once(&mut FromFn(|| 8)) == Ok(8));
+        assert!(rt; client.call(&rt, &mut Always(7)) == Ok(7));
+        assert!(rt; client.call_once(&mut Always(8)) == Ok(8));
     }
     let mut client = one.client();
-    let inner = client.call(
-        &rt,
-        &mut FromFn(|| one.client().call(&rt, &mut FromFn(|| 9))),
-    );
+    let inner = client.call(&rt, &mut FromFn(|| one.client().call(&rt, &mut Always(9))));
     assert!(rt; inner == Ok(Err(NoPermit::Full)));
 }
