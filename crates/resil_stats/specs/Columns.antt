@@ -1,8 +1,13 @@
--- The columns of a history that is too long for each event to be drawn: this many events each, with the greatest of each number.
-use Rattle.std.specs.Prelude.{ℕ, ◌≡◌, ◌≤◌, ◌<◌, ◌+◌, ◌-◌, ◌*◌, ◌∷◌, [], List, Some, count_by, drop, fold, length, map, max, min, slice_get, take}
+-- The columns of a history that is too long for each event to be drawn: this many events each, with the greatest of each number,
+-- and what runs in them: the bars that go over a place, by how their jobs started.
+use Rattle.std.specs.Prelude.{ℕ, ◌≡◌, ◌≤◌, ◌<◌, ◌+◌, ◌-◌, ◌*◌, ◌∷◌, ◌&&◌, [], Bool, true, false, List, Some, count_by, drop, fold, length, map, max, min, nat_le, nat_lt, slice_get, take}
 use Rattle.resil_rule.specs.declared.event.Event.{Event}
 use Rattle.resil_stats.specs.Stats.{is_closed_reply, is_full_reply}
+use Rattle.resil_stats.specs.declared.bars.Bar.{Bar}
+use Rattle.resil_stats.specs.declared.bars.Start.{Start}
+use Rattle.resil_stats.specs.declared.bars.Start.TheVariants.{Core, Extra, Queued}
 use Rattle.resil_stats.specs.declared.columns.Column.{Column}
+use Rattle.resil_stats.specs.declared.columns.Running.{Running}
 use Rattle.resil_stats.specs.declared.depth.Level.{Level}
 
 -- How many events make a column: the least number that gives 350 columns at most.
@@ -56,3 +61,23 @@ AreColumnsOf events levels width columns = AreColumnsFrom events levels width 0 
 pub record AreGathered (events : List Event) (levels : List Level) (columns : List Column) : Type 0 where
   pub few : length events ≤ 4000 → columns ≡ []
   pub many : 4000 < length events → (width : ℕ) × IsWidth (length events) width × AreColumnsOf events levels width columns
+
+-- ---- What runs in them.
+
+abbrev pub is_same_start : Start → Start → Bool
+is_same_start Core Core = true
+is_same_start Extra Extra = true
+is_same_start Queued Queued = true
+is_same_start _ _ = false
+
+-- a bar of a job that started so and runs after the event at a place: it begins there or before, and ends later
+abbrev pub runs_by : Start → ℕ → Bar → Bool
+runs_by start place bar = is_same_start start bar.start && (nat_le bar.from place && nat_lt place bar.to)
+
+-- the jobs that run after the event at a place
+abbrev pub running_at : List Bar → ℕ → Running
+running_at bars place = record {
+  core = count_by (runs_by Core place) bars;
+  extra = count_by (runs_by Extra place) bars;
+  queued = count_by (runs_by Queued place) bars;
+}

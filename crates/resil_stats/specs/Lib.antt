@@ -1,7 +1,6 @@
 pub mod Stats
 pub mod Text
 pub mod Results
-pub mod Areas
 pub mod Bars
 pub mod Marks
 pub mod Depth

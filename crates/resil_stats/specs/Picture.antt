@@ -5,9 +5,8 @@ use Rattle.resil_rule.specs.declared.event.Event.{Event}
 use Rattle.resil_rule.specs.declared.verdict.Verdict.{Verdict}
 use Rattle.resil_rule.specs.declared.verdict.Verdict.TheVariants.{Legal, FirstIllegal}
 use Rattle.resil_stats.specs.Stats.{IsStatsOf, legal_part}
-use Rattle.resil_stats.specs.Areas.{running_at}
 use Rattle.resil_stats.specs.Bars.{AreBarsOf}
-use Rattle.resil_stats.specs.Columns.{AreGathered}
+use Rattle.resil_stats.specs.Columns.{AreGathered, running_at}
 use Rattle.resil_stats.specs.Depth.{AreLevelsOf}
 use Rattle.resil_stats.specs.Marks.{marks_in}
 use Rattle.resil_stats.specs.declared.picture.Picture.{Picture}

@@ -14,7 +14,7 @@ use resil_rule::{Event, Id, Reply};
 use std::alloc::{AllocError, Global};
 
 /// How a job started.
-#[derive(Clone, Copy, Debug, PartialEq, Eq)]
+#[derive(Clone, Copy, PartialEq, Eq)]
 pub enum Start {
     /// With a new worker below the core size.
     Core,
@@ -25,7 +25,7 @@ pub enum Start {
 }
 
 /// The bar of a job that started.
-#[derive(Clone, Copy, Debug, PartialEq, Eq)]
+#[derive(Clone, Copy)]
 pub struct Bar {
     /// The job.
     pub id: Id,

@@ -1,12 +1,13 @@
 //! The columns of a history that is too long for each event to be drawn.
 //!
 //! So many events make a column that there are 350 at most. A column has the greatest of each number,
-//! since a peak is what one looks for.
+//! since a peak is what one looks for, and in place of its bars how many jobs run, by how they started.
 
 ghost use Rattle.std.specs.Prelude.{◌≡◌, ◌≤◌, ◌+◌, ◌<◌, IfOk, count_by, length, map};
 ghost use Rattle.resil_stats.specs.Stats.{has_reply};
-ghost use Rattle.resil_stats.specs.Columns.{AreColumnsOf, HasLastSizes, IsColumnOf, IsPeakAmong, IsWidth, greatest};
+ghost use Rattle.resil_stats.specs.Columns.{AreColumnsOf, HasLastSizes, IsColumnOf, IsPeakAmong, IsWidth, greatest, running_at, runs_by};
 
+use crate::bars::{Bar, Start};
 use crate::depth::Level;
 use resil_rule::{Event, Reply};
 use std::alloc::{AllocError, Global};
@@ -18,7 +19,7 @@ pub(crate) const MOST_DRAWN: usize = 4000;
 pub(crate) const MOST_COLUMNS: usize = 350;
 
 /// Events that are drawn together.
-#[derive(Clone, Copy, Debug, PartialEq, Eq)]
+#[derive(Clone, Copy)]
 pub struct Column {
     /// The place of its first event.
     pub from: usize,
@@ -38,6 +39,25 @@ pub struct Column {
     pub core: u32,
     /// The greatest size after its last event, in workers.
     pub max: u32,
+}
+
+/// The jobs that run, by how they started.
+#[derive(Clone, Copy, Default)]
+pub struct Running {
+    /// With a new worker below the core size.
+    pub core: usize,
+    /// With a new worker above the core size.
+    pub extra: usize,
+    /// Taken from the queue.
+    pub queued: usize,
+}
+
+impl Running {
+    /// All of them.
+    pub fn all(&self) -> usize {
+        let own = self.core.saturating_add(self.extra);
+        own.saturating_add(self.queued)
+    }
 }
 
 /// How many events make a column: the least number that gives no more columns than there may be.
@@ -142,4 +162,44 @@ pub(crate) fn columns_of(
         done = end;
     }
     Ok(columns)
+}
+
+// Whether a bar is of a job that started so and runs after the event at a place.
+fn runs_by(start: Start, place: usize, bar: &Bar) -> bool
+    ensures { result ≡ runs_by start place bar.now }
+{
+    bar.start == start && bar.from <= place && place < bar.to
+}
+
+// How many such jobs there are.
+fn count_at(bars: &[Bar], start: Start, place: usize) -> usize
+    ensures { result ≡ count_by (runs_by start place) bars.now }
+{
+    bars.iter().filter(|bar| runs_by(start, place, bar)).count()
+}
+
+// The jobs that run after the event at a place.
+fn running_at(bars: &[Bar], place: usize) -> Running
+    ensures { result ≡ running_at bars.now place }
+{
+    Running {
+        core: count_at(bars, Start::Core, place),
+        extra: count_at(bars, Start::Extra, place),
+        queued: count_at(bars, Start::Queued, place),
+    }
+}
+
+/// What runs in each column: after its peak.
+/// Errors: `AllocError` where memory runs out.
+pub(crate) fn areas_of(
+    alloc: Global,
+    bars: &[Bar],
+    columns: &[Column],
+) -> Result<Vec<Running>, AllocError>
+    ensures { IfOk result (λ areas. areas.items ≡ map (λ column. running_at bars.now column.peak) columns.now) }
+{
+    columns
+        .iter()
+        .map(|column| running_at(bars, column.peak))
+        .collect(alloc)
 }

@@ -12,7 +12,7 @@ use resil_rule::{Event, Limits};
 use std::alloc::{AllocError, Global};
 
 /// How full the pool is after an event, and its sizes.
-#[derive(Clone, Copy, Debug, PartialEq, Eq)]
+#[derive(Clone, Copy)]
 pub struct Level {
     /// The place of the event in the history, from 1.
     pub at: usize,

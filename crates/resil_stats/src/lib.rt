@@ -6,30 +6,27 @@
 //! run came to.
 //!
 //! `picture` draws the same events: a bar for each job that ran, marks, and how full the pool was after each event,
-//! or in columns where there are many. `specs/Bars.antt`, `specs/Marks.antt`, `specs/Depth.antt`, `specs/Columns.antt`
-//! and `specs/Areas.antt` say what is drawn. `svg` writes it, with what came of the jobs from `outcomes`:
-//! `specs/Svg.antt` says which elements stand in the text, and its templates how it looks.
+//! or in columns where there are many. `specs/Bars.antt`, `specs/Marks.antt`, `specs/Depth.antt` and `specs/Columns.antt`
+//! say what is drawn. `svg` writes it, with what came of the jobs: `specs/Svg.antt` says which elements stand in the
+//! text, and its templates how it looks.
 #![tactic(auto)]
 
-mod areas;
 mod bars;
 mod columns;
 mod depth;
 mod marks;
-mod outcomes;
 mod picture;
 pub mod results;
 mod stats;
 mod svg;
 mod text;
 
-pub use areas::Running;
 pub use bars::{Bar, Start};
-pub use columns::{Column, column_width};
+pub use columns::{Column, Running, column_width};
 pub use depth::Level;
 pub use marks::{Mark, Sign};
-pub use outcomes::Outcomes;
 pub use picture::{Illegal, Picture, picture_of};
+pub use results::Outcomes;
 pub use stats::{CallerStats, Counts, Load, Stats, count};
 pub use svg::svg_text;
 pub use text::stats_text;

@@ -7,7 +7,7 @@ use resil_rule::{Event, Id, Reply};
 use std::alloc::{AllocError, Global};
 
 /// What a mark stands for.
-#[derive(Clone, Copy, Debug, PartialEq, Eq)]
+#[derive(Clone, Copy)]
 pub enum Sign {
     /// The job was refused, since the pool was full.
     Full(Id),
@@ -20,7 +20,7 @@ pub enum Sign {
 }
 
 /// A mark, and where it stands.
-#[derive(Clone, Copy, Debug, PartialEq, Eq)]
+#[derive(Clone, Copy)]
 pub struct Mark {
     /// The place of its event in the history, from 1.
     pub at: usize,

@@ -2,16 +2,14 @@
 
 ghost use Rattle.std.specs.Prelude.{◌≡◌, IfOk, length, map, option_map};
 ghost use Rattle.resil_stats.specs.Stats.{IsStatsOf};
-ghost use Rattle.resil_stats.specs.Areas.{running_at};
 ghost use Rattle.resil_stats.specs.Bars.{AreBarsOf};
-ghost use Rattle.resil_stats.specs.Columns.{AreGathered};
+ghost use Rattle.resil_stats.specs.Columns.{AreGathered, running_at};
 ghost use Rattle.resil_stats.specs.Depth.{AreLevelsOf};
 ghost use Rattle.resil_stats.specs.Marks.{marks_in};
 ghost use Rattle.resil_stats.specs.Picture.{drawn_part, first_illegal};
 
-use crate::areas::{Running, areas_of};
 use crate::bars::{Bar, bars_of};
-use crate::columns::{Column, MOST_DRAWN, column_width, columns_of};
+use crate::columns::{Column, MOST_DRAWN, Running, areas_of, column_width, columns_of};
 use crate::depth::{Level, levels_of};
 use crate::marks::{Mark, marks_of};
 use crate::stats::{Stats, count, legal_part};

@@ -17,6 +17,7 @@ use resil_input::outcome_text::parse_outcome;
 use resil_retry::Outcome;
 use resil_rule::Id;
 use std::alloc::{AllocError, Global};
+use std::collections::BTreeMap;
 
 /// What a job of a run came to.
 #[derive(Clone, Copy)]
@@ -180,4 +181,30 @@ pub fn read_results(alloc: Global, text: &[u8]) -> Result<Vec<JobResult>, BodyEr
     ensures { MatchResult result (λ rows. AreResults text.now rows.items) (IsResultsError text.now) }
 {
     csv_rows::read_rows(alloc, &Rows, text)
+}
+
+/// How jobs ended, by their ids. Of two results for one job the first counts.
+#[derive(Drop)]
+pub struct Outcomes {
+    by_id: BTreeMap<(u16, u64), Outcome>,
+}
+
+impl Outcomes {
+    /// How the jobs ended that have results.
+    ///
+    /// # Errors
+    ///
+    /// `AllocError` where memory runs out.
+    pub fn of(alloc: Global, results: &[JobResult]) -> Result<Outcomes, AllocError> {
+        let mut by_id = BTreeMap::new(alloc);
+        for result in results.iter().rev() {
+            by_id.insert((result.id.caller, result.id.number), result.outcome)?;
+        }
+        Ok(Outcomes { by_id })
+    }
+
+    /// How a job ended, where that is known.
+    pub(crate) fn get(&self, id: Id) -> Option<Outcome> {
+        self.by_id.get(&(id.caller, id.number)).copied()
+    }
 }

@@ -21,7 +21,7 @@ use std::alloc::{AllocError, Global};
 use std::collections::BTreeMap;
 
 /// How often each kind of event happened.
-#[derive(Clone, Copy, Debug, Default, PartialEq, Eq)]
+#[derive(Clone, Copy, Default)]
 pub struct Counts {
     /// The submissions, refused ones too.
     pub submissions: usize,
@@ -86,7 +86,7 @@ impl Counts {
 }
 
 /// How many jobs wait and run, and how many workers there are.
-#[derive(Clone, Copy, Debug, Default, PartialEq, Eq)]
+#[derive(Clone, Copy, Default)]
 pub struct Load {
     /// The jobs in the queue.
     pub waiting: usize,
@@ -118,7 +118,7 @@ impl Load {
 ///     println!(rt; "caller {caller}: {} of {} refused", numbers.refused, numbers.submissions)?;
 /// }
 /// ```
-#[derive(Clone, Copy, Debug, Default, PartialEq, Eq)]
+#[derive(Clone, Copy, Default)]
 pub struct CallerStats {
     /// Its submissions, refused ones too.
     pub submissions: usize,

@@ -18,19 +18,16 @@ macro_rules! line {
 }
 
 mod bands;
-mod draft;
 mod elements;
 mod frame;
 mod jobs;
-mod outline;
 mod over;
 mod page;
 mod sheet;
 
 use crate::Picture;
-use crate::outcomes::Outcomes;
+use crate::results::Outcomes;
 use bands::write_bands;
-use draft::Draft;
 use elements::push_elements;
 use frame::{ending_text, opening_text, write_frame};
 use jobs::{write_labels, write_rows, write_running};
@@ -38,6 +35,45 @@ use over::write_over;
 use page::Page;
 use sheet::{Sheet, points_of};
 use std::alloc::{AllocError, Global};
+use std::fmt::Display;
+
+/// A text that `put!` and `line!` add to. Where memory runs out the rest is left out, and its end tells so, so that nobody asks in between.
+#[derive(Drop)]
+pub(crate) struct Draft {
+    text: Result<String, AllocError>,
+}
+
+impl Draft {
+    /// A text without a letter.
+    pub(crate) fn new(alloc: Global) -> Draft {
+        Draft {
+            text: Ok(String::new(alloc)),
+        }
+    }
+
+    /// Adds a template with its values.
+    pub(crate) fn put<D: Display + Drop>(&mut self, template: D) {
+        if let Ok(text) = &mut self.text {
+            if text.write_fmt(template).is_err() {
+                self.text = Err(AllocError);
+            }
+        }
+    }
+
+    /// What was made to be written, or that memory ran out for it.
+    pub(crate) fn made(&mut self, made: Result<String, AllocError>) -> Option<String> {
+        if made.is_err() {
+            self.text = Err(AllocError);
+        }
+        made.ok()
+    }
+
+    /// The whole text.
+    /// Errors: `AllocError` where memory ran out.
+    pub(crate) fn finish(self) -> Result<String, AllocError> {
+        self.text
+    }
+}
 
 // Adds a part to a text, where it could be made. Errors: `AllocError` where memory runs out, or ran out for the part.
 fn push_part(text: &mut String, part: Result<String, AllocError>) -> Result<(), AllocError>

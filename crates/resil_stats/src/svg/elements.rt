@@ -3,11 +3,10 @@
 ghost use Rattle.std.specs.Prelude.{ℕ, ◌≡◌, ◌++◌, IfOk, List, OnOk, string_bytes};
 ghost use Rattle.resil_stats.specs.Svg.{IsAddition, IsMadeOf, refusal_opening};
 
-use super::draft::Draft;
 use super::jobs::{JobName, Style, style_of, write_result};
 use super::page::{GREY, PAPER, Pixels, REFUSED, RIGHT};
-use super::push_part;
 use super::sheet::Sheet;
+use super::{Draft, push_part};
 use crate::{Bar, Column, Mark, Sign};
 use resil_rule::Id;
 use std::alloc::{AllocError, Global};

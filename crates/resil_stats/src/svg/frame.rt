@@ -3,7 +3,7 @@
 ghost use Rattle.std.specs.Prelude.{◌≡◌, IfOk, string_bytes};
 ghost use Rattle.resil_stats.specs.Svg.{opening};
 
-use super::draft::Draft;
+use super::Draft;
 use super::jobs::JobName;
 use super::page::{CORE, EXTRA, GREY, GRID, INK, PAPER, Page, QUEUED, REFUSED};
 use super::sheet::Sheet;

@@ -3,9 +3,8 @@
 ghost use Rattle.std.specs.Prelude.{◌≡◌};
 ghost use Rattle.resil_stats.specs.Svg.{start_class};
 
-use super::bands::{write_ends, write_number};
-use super::draft::Draft;
-use super::outline::write_area;
+use super::Draft;
+use super::bands::{write_area, write_ends, write_number};
 use super::page::{CORE, EXTRA, GREY, GROUND, INK, LETTER, PAPER, Page, QUEUED, Scale};
 use super::sheet::{Measure, Sheet};
 use crate::{Bar, Picture, Start};

@@ -1,6 +1,6 @@
 //! The marks over all bands: the closing, the resizes, and the first illegal event. The bars are drawn over their lines.
 
-use super::draft::Draft;
+use super::Draft;
 use super::page::{INK, LEFT, LETTER, Page, Pixels, REFUSED, RESIZE, RIGHT};
 use crate::{Picture, Sign, column_width};
 

@@ -5,8 +5,6 @@
 //! group that begins below the rows. All share one axis of places. Letters are 16 pixels high, so that they can
 //! be read where the picture is half as wide; what has no room for them has no label.
 
-ghost use Rattle.std.specs.Prelude.{◌≤◌};
-
 use crate::Picture;
 use std::fmt;
 
@@ -81,10 +79,8 @@ pub(crate) const RIGHT: Pixels = Pixels(78_600);
 /// How wide a letter is, at most on the whole.
 pub(crate) const LETTER: Pixels = Pixels(1020);
 
-// The length of the axis, and more events than an input may have.
+// The length of the axis.
 const SPAN: u32 = 69_400;
-
-const MOST: usize = 1_000_000;
 
 // The top of the first row, how far it is from the next one, at least and at most, and how high many rows are together.
 const ROWS_TOP: u32 = 10_800;
@@ -108,6 +104,15 @@ const BANDS_END: u32 = 198;
 
 const PAGE_END: u32 = 276;
 
+// So many of the equal parts of a length, and no more than all of them.
+fn share(length: u32, parts: usize, all: usize) -> u32 {
+    let parts = parts.min(all) as u64;
+    let share = parts
+        .saturating_mul(u64::from(length))
+        .checked_div(all as u64);
+    u32::try_from(share.unwrap_or(0)).unwrap_or(length)
+}
+
 /// The page of a picture.
 #[derive(Clone, Copy)]
 pub(crate) struct Page {
@@ -117,9 +122,6 @@ pub(crate) struct Page {
     pub rows: u32,
     // The distance of a row from the next one, in hundredths of a pixel.
     pitch: u32,
-    ghost events_in_range: { (1 ≤ events) × (events ≤ 1000000) },
-    ghost rows_in_range: { (1 ≤ rows) × (rows ≤ 64) },
-    ghost pitch_in_range: { (600 ≤ pitch) × (pitch ≤ 2400) },
 }
 
 impl Page {
@@ -130,20 +132,18 @@ impl Page {
         } else {
             AREA_ROWS
         };
+        let pitch = ROWS_HEIGHT.checked_div(rows).unwrap_or(PITCH);
         Page {
-            events: picture.levels.len().max(1).min(MOST),
+            events: picture.levels.len().max(1),
             rows,
-            pitch: (ROWS_HEIGHT / rows).max(LEAST_PITCH).min(PITCH),
+            pitch: pitch.max(LEAST_PITCH).min(PITCH),
         }
     }
 
     /// Where a place stands on the axis: place p at left + (p - 1) (right - left) / n.
-    pub(crate) fn x(&self, place: usize) -> Pixels
-        ensures { (9200 ≤ result.0) × (result.0 ≤ 78600) }
-    {
-        let before = place.saturating_sub(1).min(self.events) as u64;
-        let along = before * u64::from(SPAN) / (self.events as u64);
-        Pixels(LEFT.0 + along.min(u64::from(SPAN)) as u32)
+    pub(crate) fn x(&self, place: usize) -> Pixels {
+        let along = share(SPAN, place.saturating_sub(1), self.events);
+        Pixels(LEFT.0.saturating_add(along))
     }
 
     /// The length of the axis from one place to another.
@@ -169,12 +169,12 @@ impl Page {
     /// The top of a row, which count from 1.
     pub(crate) fn row_top(&self, row: usize) -> Pixels {
         let above = row.saturating_sub(1).min(64) as u32;
-        Pixels(ROWS_TOP + self.pitch * above)
+        Pixels(self.pitch.saturating_mul(above).saturating_add(ROWS_TOP))
     }
 
     /// The end of the last row, from which what stands below is measured.
     pub(crate) fn rows_end(&self) -> Pixels {
-        Pixels(ROWS_TOP + self.pitch * self.rows)
+        self.row_top((self.rows as usize).saturating_add(1))
     }
 
     /// The end of the last band.
@@ -196,8 +196,6 @@ pub(crate) struct Scale {
     /// The line of the greatest number.
     pub top: Pixels,
     most: usize,
-    ghost most_in_range: { (1 ≤ most) × (most ≤ 1000000) },
-    ghost top_above: { top.0 ≤ bottom.0 },
 }
 
 impl Scale {
@@ -206,15 +204,13 @@ impl Scale {
         Scale {
             bottom,
             top: Pixels(top.0.min(bottom.0)),
-            most: most.max(1).min(MOST),
+            most: most.max(1),
         }
     }
 
     /// The height of a number, up to that of the greatest one.
     pub(crate) fn y(&self, number: usize) -> Pixels {
-        let height = self.bottom.0 - self.top.0;
-        let number = number.min(self.most) as u64;
-        let up = number * u64::from(height) / (self.most as u64);
-        Pixels(self.bottom.0 - up.min(u64::from(height)) as u32)
+        let height = self.bottom.behind(self.top).0;
+        self.bottom.behind(Pixels(share(height, number, self.most)))
     }
 }

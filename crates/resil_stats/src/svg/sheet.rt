@@ -2,7 +2,7 @@
 //! came of its jobs.
 
 use super::page::Page;
-use crate::outcomes::Outcomes;
+use crate::results::Outcomes;
 use crate::{Column, Level, Picture, Running, Start};
 use std::alloc::{AllocError, Global};
 
@@ -17,11 +17,7 @@ pub(crate) struct Sheet<'a> {
 
 /// The numbers that hold from the first place of a column on, and what runs in it. An event that is drawn by itself is a column
 /// of one event.
-#[derive(Clone, Copy)]
-pub(crate) struct Point {
-    pub column: Column,
-    pub running: Running,
-}
+pub(crate) type Point = (Column, Running);
 
 /// What an outline shows of points.
 #[derive(Clone, Copy)]
@@ -45,8 +41,7 @@ pub(crate) enum Measure {
 impl Measure {
     /// The number of a point.
     pub(crate) fn of(self, point: &Point) -> usize {
-        let column = point.column;
-        let running = point.running;
+        let (column, running) = *point;
         match self {
             Measure::Waiting => column.waiting,
             Measure::IsFull(capacity) => (column.waiting >= capacity) as usize,
@@ -63,24 +58,20 @@ impl Measure {
     }
 }
 
-impl Point {
-    // The numbers after an event, which is drawn by itself.
-    fn of_level(level: Level) -> Point {
-        Point {
-            column: Column {
-                from: level.at,
-                to: level.at,
-                waiting: level.waiting,
-                workers: level.workers,
-                peak: level.at,
-                full: 0,
-                closed: 0,
-                core: level.core,
-                max: level.max,
-            },
-            running: Running::default(),
-        }
-    }
+// The numbers after an event, which is drawn by itself.
+fn point_of(level: Level) -> Point {
+    let column = Column {
+        from: level.at,
+        to: level.at,
+        waiting: level.waiting,
+        workers: level.workers,
+        peak: level.at,
+        full: 0,
+        closed: 0,
+        core: level.core,
+        max: level.max,
+    };
+    (column, Running::default())
 }
 
 /// The points of a picture: of each event, or of each column where there are columns.
@@ -88,13 +79,10 @@ impl Point {
 pub(crate) fn points_of(alloc: Global, picture: &Picture) -> Result<Vec<Point>, AllocError> {
     if picture.columns.is_empty() {
         let levels = picture.levels.iter();
-        return levels.map(|level| Point::of_level(*level)).collect(alloc);
+        return levels.map(|level| point_of(*level)).collect(alloc);
     }
-    let drawn = picture.columns.iter().zip(&picture.areas);
-    drawn
-        .map(|(column, running)| Point {
-            column: *column,
-            running: *running,
-        })
+    let columns = picture.columns.iter().zip(&picture.areas);
+    columns
+        .map(|(column, running)| (*column, *running))
         .collect(alloc)
 }
