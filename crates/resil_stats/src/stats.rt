@@ -47,7 +47,7 @@ pub struct Counts {
 
 impl Counts {
     /// Counts one more event.
-    #[tactic(auto, using(crate::proofs::CountLaws::filter_few, crate::proofs::CountLaws::made_few))]
+    #[tactic(auto, using(crate::proofs::CountLaws::filter_few, crate::proofs::CountLaws::made_few, crate::proofs::CountLaws::filter_more, crate::proofs::CountLaws::made_more))]
     pub fn record(&mut self, event: Event)
         requires { MayGrow self.old }
         ensures { (history : List Event) → AreCountsOf history self.old → AreCountsOf (history ++ event ∷ []) self.new }

@@ -54,11 +54,13 @@ fn push_callers(
 fn push_verdict(alloc: Global, text: &mut String, verdict: Verdict) -> Result<(), AllocError>
     ensures { OnOk result (IsExtended (string_bytes text.old) (string_bytes text.new) (record_text (verdict_fields verdict))) }
 {
-    let record = match verdict {
-        Verdict::Legal => format!(in alloc; "verdict,,legal\n")?,
-        Verdict::FirstIllegal(position) => format!(in alloc; "verdict,,illegal {position}\n")?,
-    };
-    text.push_str(record.as_str())
+    match verdict {
+        Verdict::Legal => text.push_str("verdict,,legal\n"),
+        Verdict::FirstIllegal(position) => {
+            let record = format!(in alloc; "verdict,,illegal {position}\n")?;
+            text.push_str(record.as_str())
+        }
+    }
 }
 
 // Writes all numbers. Errors: `AllocError` where memory runs out.

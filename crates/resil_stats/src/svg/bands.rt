@@ -108,8 +108,7 @@ fn write_queue(draft: &mut Draft, sheet: &Sheet, picture: &Picture) {
     }
     if greatest == capacity {
         let top = scale.top;
-        put!(draft; r#"<path class="capacity" d="M{LEFT} {top}H{RIGHT}" fill="none" "#);
-        line!(draft; r#"stroke="{REFUSED}" stroke-dasharray="5 3"/>"#);
+        line!(draft; r#"<path class="capacity" d="M{LEFT} {top}H{RIGHT}" fill="none" stroke="{REFUSED}" stroke-dasharray="5 3"/>"#);
         write_ends(draft, &scale, "", capacity, REFUSED);
     } else if most > 0 {
         write_number(draft, "", most, scale.y(most).and(20), GREY);

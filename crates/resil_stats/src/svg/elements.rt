@@ -95,8 +95,7 @@ impl Element for Mark {
             tick
         };
         let width = if page.width(1, 2).0 < 160 { "1.2" } else { "2" };
-        put!(draft; r#"d="M{x} {way}" fill="none" stroke="{stroke}" stroke-width="{width}">"#);
-        line!(draft; "<title>job {job} refused at event {at}: {reason}</title></path>");
+        line!(draft; r#"d="M{x} {way}" fill="none" stroke="{stroke}" stroke-width="{width}"><title>job {job} refused at event {at}: {reason}</title></path>"#);
     }
 }
 

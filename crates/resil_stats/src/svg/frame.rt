@@ -83,10 +83,8 @@ fn write_legend(draft: &mut Draft, page: &Page, picture: &Picture) {
     } else {
         ("|", "&#305;")
     };
-    put!(draft; r#"<text x="6" y="78"><tspan fill="{CORE}">&#9632;</tspan> core {core}"#);
-    put!(draft; r#"<tspan dx="10" fill="{EXTRA}">&#9632;</tspan> extra {extra}"#);
-    put!(draft; r#"<tspan dx="10" fill="{QUEUED}">&#9632;</tspan> from the queue {taken}"#);
-    put!(draft; r#"<tspan dx="10" fill="{REFUSED}">&#9644;</tspan> queue full"#);
+    put!(draft; r#"<text x="6" y="78"><tspan fill="{CORE}">&#9632;</tspan> core {core}<tspan dx="10" fill="{EXTRA}">&#9632;</tspan> extra {extra}"#);
+    put!(draft; r#"<tspan dx="10" fill="{QUEUED}">&#9632;</tspan> from the queue {taken}<tspan dx="10" fill="{REFUSED}">&#9644;</tspan> queue full"#);
     put!(draft; r#"<tspan dx="10">refused:</tspan><tspan dx="6" fill="{REFUSED}" font-weight="bold">{cross}</tspan> full {full}"#);
     line!(draft; r#"<tspan dx="10" fill="{GREY}" font-weight="bold">{diamond}</tspan> closed {closed}</text>"#);
 }
@@ -109,8 +107,7 @@ fn write_grid_line(draft: &mut Draft, page: &Page, place: usize) {
     let (x, end) = (page.x(place), page.bands_end());
     let base = end.and(20);
     let anchor = if x.0 > 77_000 { "end" } else { "middle" };
-    put!(draft; r#"<path d="M{x} 104V{end}" stroke="{GRID}"/>"#);
-    line!(draft; r#"<text x="{x}" y="{base}" fill="{GREY}" text-anchor="{anchor}">{place}</text>"#);
+    line!(draft; r#"<path d="M{x} 104V{end}" stroke="{GRID}"/><text x="{x}" y="{base}" fill="{GREY}" text-anchor="{anchor}">{place}</text>"#);
 }
 
 // Writes the grid and its axis, up to this many events.
