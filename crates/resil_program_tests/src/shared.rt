@@ -4,8 +4,14 @@ use resil_driver::{drive, drive_single};
 use resil_input::io::FailureTracking;
 use std::alloc::Global;
 use std::io::{Read, Write};
+use std::process::Abort;
 use std::sync::Wait;
 use std::thread::Threads;
+
+/// What a test runs by: it may end the process, wait and start threads, and gives memory.
+pub trait Host: Abort + Threads + Wait + Sync + AllocGlobal {}
+
+impl<R: Abort + Threads + Wait + Sync + AllocGlobal> Host for R {}
 
 /// How a call of the program ended, and its reader and its writer after it.
 #[derive(Drop)]
@@ -23,8 +29,8 @@ pub struct ProgramEnd<S, W> {
 }
 
 /// Runs the program from this reader to this writer.
-pub fn run_program<R: Threads + Wait + Sync + AllocGlobal, S: Read, W: Write>(
-    rt: &R,
+pub fn run_program<S: Read, W: Write>(
+    rt: &impl Host,
     words: &[&str],
     reader: S,
     writer: W,
@@ -57,13 +63,7 @@ pub fn run_single<'a>(
 }
 
 /// Whether the program gives this status for an input, and writes this text.
-pub fn answers<R: Threads + Wait + Sync + AllocGlobal>(
-    rt: &R,
-    words: &[&str],
-    input: &[u8],
-    status: u8,
-    text: &str,
-) -> bool {
+pub fn answers(rt: &impl Host, words: &[&str], input: &[u8], status: u8, text: &str) -> bool {
     let ended = run_program(rt, words, input, Vec::new(rt.alloc()));
     ended.status == status && ended.writer.as_slice() == text.as_bytes()
 }

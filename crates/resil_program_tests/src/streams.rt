@@ -1,14 +1,11 @@
 //! The program over readers and writers of pieces, and over such as fail.
 
-use crate::shared::{run_program, run_single};
+use crate::shared::{Host, run_program, run_single};
 use resil_input::io::MAX_INPUT_LEN;
 use std::alloc::Global;
 use std::io;
 use std::io::{ErrorKind, Read, Write};
-use std::process::Abort;
-use std::sync::Wait;
 use std::test::Fail;
-use std::thread::Threads;
 
 const WEAVE: [&str; 2] = ["resil", "weave"];
 
@@ -110,11 +107,7 @@ impl Write for FailingWriter {
 }
 
 // Whether the program ends at a read that fails after this many reads, and writes nothing.
-fn ends_after<R: Threads + Wait + Sync + AllocGlobal>(
-    rt: &R,
-    words: &[&str],
-    reads_left: usize,
-) -> bool {
+fn ends_after(rt: &impl Host, words: &[&str], reads_left: usize) -> bool {
     let mut pieces = PieceReader::new(INPUT, 7);
     pieces.reads_left = reads_left;
     let ended = run_program(rt, words, pieces, Vec::new(rt.alloc()));
@@ -125,37 +118,16 @@ fn ends_after<R: Threads + Wait + Sync + AllocGlobal>(
 fn ends_at_the_first_read_that_fails(rt: HostRuntime) {
     for words in [&WEAVE, &RUN] {
         for reads_left in 0..6 {
-            assert!(rt;
-                ends_after(&rt, words, reads_left),
-                "after {reads_left} reads"
-            );
+            let ends = ends_after(&rt, words, reads_left);
+            assert!(rt; ends, "after {reads_left} reads");
         }
     }
 }
 
-// Whether an input, in pieces of a size, is refused by this line, when this number of bytes of it
-// is left unread.
-fn is_refused<R: Threads + Wait + Sync + AllocGlobal>(
-    rt: &R,
-    words: &[&str],
-    input: &[u8],
-    size: usize,
-    line: &[u8],
-    left: usize,
-) -> bool {
-    let ended = run_program(
-        rt,
-        words,
-        PieceReader::new(input, size),
-        Vec::new(rt.alloc()),
-    );
-    ended.status == 1 && ended.writer.as_slice() == line && ended.reader.rest.len() == left
-}
-
-// Asserts how an input of one byte again and again is refused, in pieces of a size, when this many bytes of it are left
-// unread.
-fn refuses_repeated<R: Abort + Threads + Wait + Sync + AllocGlobal>(
-    rt: &R,
+// Asserts how an input of one byte again and again is refused, in pieces of a size, by this line, when this many bytes of it
+// are left unread.
+fn refuses_repeated(
+    rt: &impl Host,
     (byte, count): (u8, usize),
     size: usize,
     line: &[u8],
@@ -163,7 +135,10 @@ fn refuses_repeated<R: Abort + Threads + Wait + Sync + AllocGlobal>(
 ) -> Result<(), Fail> {
     let input = vec![in rt.alloc(); byte; count]?;
     for words in [&WEAVE, &RUN] {
-        assert!(rt; is_refused(rt, words, &input, size, line, left));
+        let pieces = PieceReader::new(&input, size);
+        let ended = run_program(rt, words, pieces, Vec::new(rt.alloc()));
+        assert!(rt; ended.status == 1 && ended.writer.as_slice() == line);
+        assert!(rt; ended.reader.rest.len() == left);
     }
     Ok(())
 }
@@ -180,12 +155,7 @@ fn reads_a_mebibyte_and_no_more(rt: HostRuntime) -> Result<(), Fail> {
 
 // Whether a write that fails behind this number of bytes, or takes no more of them, ends the
 // program there.
-fn ends_behind<R: Threads + Wait + Sync + AllocGlobal>(
-    rt: &R,
-    input: &[u8],
-    prefix: &[u8],
-    is_full_silently: bool,
-) -> bool {
+fn ends_behind(rt: &impl Host, input: &[u8], prefix: &[u8], is_full_silently: bool) -> bool {
     let mut paper = FailingWriter::new(rt.alloc(), 3, prefix.len());
     paper.is_full_silently = is_full_silently;
     let ended = run_program(rt, &WEAVE, input, paper);
@@ -200,11 +170,10 @@ fn ends_at_the_first_write_that_fails(rt: HostRuntime) {
     ] {
         for room in 0..text.len() {
             let prefix = &text[..room];
-            assert!(rt;
-                ends_behind(&rt, input, prefix, false),
-                "after {room} bytes"
-            );
-            assert!(rt; ends_behind(&rt, input, prefix, true), "after {room} bytes");
+            for silently in [false, true] {
+                let ends = ends_behind(&rt, input, prefix, silently);
+                assert!(rt; ends, "after {room} bytes");
+            }
         }
     }
 }
@@ -218,11 +187,11 @@ fn needs_the_flush(rt: HostRuntime) {
     assert!(rt; has_failed && ended.writer.taken.as_slice() == TEXT);
 }
 
-// Whether the part of the program that starts no thread gives this status, reads nothing, and
-// writes this text.
-fn answers_without_reading(alloc: Global, words: &[&str], status: Option<u8>, text: &[u8]) -> bool {
-    let (given, unread, written) = run_single(alloc, words, INPUT, Vec::new(alloc));
-    given == status && unread == INPUT && written.as_slice() == text
+// Asserts of the part of the program that starts no thread that it gives this status, reads nothing, and writes this text.
+fn answers_without_reading(rt: &impl Host, words: &[&str], status: Option<u8>, text: &[u8]) {
+    let (given, unread, written) = run_single(rt.alloc(), words, INPUT, Vec::new(rt.alloc()));
+    let answers = given == status && unread == INPUT && written.as_slice() == text;
+    assert!(rt; answers, "at {words:?}");
 }
 
 #[test]
@@ -235,8 +204,7 @@ fn refused_words_read_nothing(rt: HostRuntime) {
         &["resil", "replay", "now"],
     ];
     for words in refused {
-        let answers = answers_without_reading(rt.alloc(), words, Some(2), b"refused usage\n");
-        assert!(rt; answers, "at {words:?}");
+        answers_without_reading(&rt, words, Some(2), b"refused usage\n");
     }
 }
 
@@ -248,7 +216,6 @@ fn words_of_run_are_left_to_threads(rt: HostRuntime) {
         &["resil", "run", "--callers", "64"],
     ];
     for words in run {
-        let answers = answers_without_reading(rt.alloc(), words, None, b"");
-        assert!(rt; answers, "at {words:?}");
+        answers_without_reading(&rt, words, None, b"");
     }
 }

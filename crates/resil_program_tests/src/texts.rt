@@ -80,22 +80,15 @@ fn greatest_caller_of_a_job(rt: HostRuntime) {
     assert!(rt; caller_of(&rt, rt.alloc(), b"caller,script\n65535,V7\n") == 65_535);
 }
 
-// Asserts the line of a refused run.
-fn assert_line(rt: &impl Abort, alloc: Global, why: RunRefusal, wanted: &str) {
-    let line = refusal_line(alloc, Refusal::Run(why)).expect(rt, "a line");
-    assert!(rt; line.as_str() == wanted, "{wanted}");
-}
-
 #[test]
 fn lines_of_refused_runs(rt: HostRuntime) {
-    let alloc = rt.alloc();
-    assert_line(&rt, alloc, RunRefusal::Stranger, "refused run Stranger\n");
-    assert_line(
-        &rt,
-        alloc,
-        RunRefusal::ReceiptsDiffer,
-        "refused run ReceiptsDiffer\n",
-    );
+    for (why, wanted) in [
+        (RunRefusal::Stranger, "refused run Stranger\n"),
+        (RunRefusal::ReceiptsDiffer, "refused run ReceiptsDiffer\n"),
+    ] {
+        let line = refusal_line(rt.alloc(), Refusal::Run(why)).expect(&rt, "a line");
+        assert!(rt; line.as_str() == wanted, "{wanted}");
+    }
 }
 
 // Asserts the message of an error.
@@ -104,27 +97,21 @@ fn assert_message(rt: &impl Abort, alloc: Global, error: &impl Display, wanted: 
     assert!(rt; text.as_str() == wanted, "{wanted}");
 }
 
+const HEAD_ERRORS: &str = "a required key of the head is missing
+the core size is not from 1 to 64
+a chain makes at most 1,000 calls
+there are more than 65535 permits";
+
 #[test]
 fn printed_errors_of_heads(rt: HostRuntime) {
-    for (error, wanted) in [
-        (
-            HeadError::MissingKey,
-            "a required key of the head is missing",
-        ),
-        (
-            HeadError::Limits(AdmitError::CoreOutOfRange),
-            "the core size is not from 1 to 64",
-        ),
-        (
-            HeadError::Chain(DecorError::TooManyCalls),
-            "a chain makes at most 1,000 calls",
-        ),
-        (
-            HeadError::TooManyPermits,
-            "there are more than 65535 permits",
-        ),
-    ] {
-        assert_message(&rt, rt.alloc(), &error, wanted);
+    let errors = [
+        HeadError::MissingKey,
+        HeadError::Limits(AdmitError::CoreOutOfRange),
+        HeadError::Chain(DecorError::TooManyCalls),
+        HeadError::TooManyPermits,
+    ];
+    for (error, wanted) in errors.iter().zip(HEAD_ERRORS.lines()) {
+        assert_message(&rt, rt.alloc(), error, wanted);
     }
 }
 
@@ -136,10 +123,6 @@ fn printed_errors(rt: HostRuntime) {
     assert_message(&rt, alloc, &ReadFailure, "a read failed");
     assert_message(&rt, alloc, &WriteError, "a write failed");
     assert_message(&rt, alloc, &UsageError::Usage, "the words are refused");
-    assert_message(
-        &rt,
-        alloc,
-        &CommandError::NoThread,
-        "a thread could not be started",
-    );
+    let no_thread = "a thread could not be started";
+    assert_message(&rt, alloc, &CommandError::NoThread, no_thread);
 }

@@ -1,11 +1,9 @@
 //! Runs of several callers on several workers. Their order may differ, so their histories are
 //! audited.
 
-use crate::shared::{answers, run_program};
+use crate::shared::{Host, answers, run_program};
 use std::alloc::{AllocError, Global};
-use std::sync::Wait;
 use std::test::Fail;
-use std::thread::Threads;
 
 // How many lines of a text end with one of these ends, which bars part.
 fn count(text: &str, ends: &str) -> usize {
@@ -15,11 +13,7 @@ fn count(text: &str, ends: &str) -> usize {
 }
 
 // What `run` writes for an input with this many callers, where it succeeds.
-fn report_of<R: Threads + Wait + Sync + AllocGlobal>(
-    rt: &R,
-    callers: &str,
-    input: &[u8],
-) -> Option<String> {
+fn report_of(rt: &impl Host, callers: &str, input: &[u8]) -> Option<String> {
     let words = ["resil", "run", "--callers", callers];
     let ended = run_program(rt, &words, input, Vec::new(rt.alloc()));
     if ended.status != 0 {
@@ -38,19 +32,9 @@ fn is_balanced(history: &str, results: &str, submissions: usize) -> bool {
         && count(history, "idle,,,") == count(history, ",core|,extra")
 }
 
-// Whether `audit` finds a history legal.
-fn is_legal<R: Threads + Wait + Sync + AllocGlobal>(
-    rt: &R,
-    head: &str,
-    history: &str,
-) -> Result<bool, Fail> {
-    let judged = format!(in rt.alloc(); "{head}---\n{history}\n")?;
-    Ok(answers(rt, &["resil", "audit"], judged.as_bytes(), 0, "legal\n"))
-}
-
-// The number of replies `core` in a report, where its history is legal and balanced.
-fn core_replies_in<R: Threads + Wait + Sync + AllocGlobal>(
-    rt: &R,
+// The number of replies `core` in a report, where its history is balanced, and legal by `audit`.
+fn core_replies_in(
+    rt: &impl Host,
     head: &str,
     report: &str,
     submissions: usize,
@@ -58,13 +42,15 @@ fn core_replies_in<R: Threads + Wait + Sync + AllocGlobal>(
     let Some((history, results)) = report.split_once("\n\n") else {
         return Ok(None);
     };
-    let is_sound = is_balanced(history, results, submissions) && is_legal(rt, head, history)?;
+    let judged = format!(in rt.alloc(); "{head}---\n{history}\n")?;
+    let is_sound = is_balanced(history, results, submissions)
+        && answers(rt, &["resil", "audit"], judged.as_bytes(), 0, "legal\n");
     Ok(is_sound.then_some(count(history, ",core")))
 }
 
 // The same of what `run` writes for these rows, where it succeeds.
-fn core_replies<R: Threads + Wait + Sync + AllocGlobal>(
-    rt: &R,
+fn core_replies(
+    rt: &impl Host,
     callers: &str,
     head: &str,
     rows: &str,
