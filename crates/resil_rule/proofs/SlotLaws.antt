@@ -1,12 +1,12 @@
 -- A job gets a place, and leaves it.
-use Rattle.std.proofs.Common.{◌≡◌, ◌≢◌, ◌<◌, ◌≤◌, ◌+◌, ◌∷◌, [], ◌++◌, ◌∙◌, ℕ, zero, suc, Bool, true, false, cond, List, Option, Some, None, length, position, replicate, get_or, slice_get, slice_set, refl, sym, ap, arith, length-append}
+use Rattle.std.proofs.Common.{◌≡◌, ◌≢◌, ◌<◌, ◌≤◌, ◌+◌, ◌∷◌, [], ◌++◌, ◌∙◌, ℕ, zero, suc, Bool, true, false, cond, List, Option, Some, None, length, position, is_none, replicate, get_or, slice_get, slice_set, refl, sym, ap, arith, length-append, length-set}
 use Rattle.std.specs.List.{position_from}
 use Rattle.std.proofs.lemmas.List.Quantifiers.{position-Some}
-use Rattle.std.proofs.lemmas.List.{length-replicate, get_or-replicate}
+use Rattle.std.proofs.lemmas.List.{length-replicate}
 use Rattle.std.proofs.lemmas.Option.{slice_get-get_or}
 use Rattle.std.proofs.lemmas.Iterator.Adapters.{position_from-zero}
 use Rattle.resil_rule.specs.History.{is_same_id, is_among, times}
-use Rattle.resil_rule.specs.Slots.{ids_out, is_of, places_to, IsNoneOf, AreFree}
+use Rattle.resil_rule.specs.Slots.{ids_out, is_of}
 use Rattle.resil_rule.specs.declared.event.Id.{Id}
 use Rattle.resil_rule.proofs.IdLaws.{same_id-equal, same_id-self}
 use Rattle.resil_rule.proofs.TimesLaws.{times-last, times-append}
@@ -72,56 +72,28 @@ nowhere-from id (Some y ∷ places) n h = go (nowhere-from id places (n + 1)) (i
 pub nowhere-out : (id : Id) (places : List (Option Id)) → position (is_of id) places ≡ None → is_among id (ids_out places) ≡ false
 nowhere-out id places h = nowhere-from id places 0 (sym (position_from-zero (is_of id) places) ∙ h)
 
--- each other place than one that was written
-set-other : (places : List (Option Id)) (i j : ℕ) (o : Option Id) → j ≢ i → slice_get (slice_set places i o) j ≡ slice_get places j
-set-other [] i j o other = refl
-set-other (x ∷ places) zero zero o other = absurd (other refl)
-set-other (x ∷ places) zero (suc j) o other = refl
-set-other (x ∷ places) (suc i) zero o other = refl
-set-other (x ∷ places) (suc i) (suc j) o other = set-other places i j o (λ same. other (ap suc same))
+-- where fewer jobs are out than there are places, one is free
+full-from : (places : List (Option Id)) (n : ℕ) → position_from is_none n places ≡ None → length (ids_out places) ≡ length places
+full-from [] n h = refl
+full-from (None ∷ places) n h = absurd (cc h)
+full-from (Some id ∷ places) n h = ap suc (full-from places (n + 1) h)
 
--- places that are free stay free while another one changes
-pub kept-free : (free : List ℕ) (places : List (Option Id)) (i : ℕ) (o : Option Id) → IsNoneOf i free → AreFree free places → AreFree free (slice_set places i o)
-kept-free [] places i o none all = tt
-kept-free (j ∷ free) places i o none all = (set-other places i j o none.0 ∙ all.0, all.1, kept-free free places i o none.1 all.2)
+pub free-found : (places : List (Option Id)) → length (ids_out places) < length places → (i : ℕ) × (position is_none places ≡ Some i) × (slice_get places i ≡ Some None)
+free-found places few = go (position is_none places) refl
+  where
+    free : (o : Option Id) → is_none o ≡ true → o ≡ None
+    free None h = refl
+    free (Some id) h = absurd (cc h)
 
--- a place with a job is none of those that are free
-taken-none : (free : List ℕ) (places : List (Option Id)) (i : ℕ) (id : Id) → slice_get places i ≡ Some (Some id) → AreFree free places → IsNoneOf i free
-taken-none [] places i id there all = tt
-taken-none (j ∷ free) places i id there all = ((λ same. let moved = ap (slice_get places) same in cc (there, moved, all.0)), taken-none free places i id there all.2)
-
--- one more place at the end
-none_of-last : (free : List ℕ) (i j : ℕ) → IsNoneOf j free → i ≢ j → IsNoneOf j (free ++ i ∷ [])
-none_of-last [] i j none other = (other, tt)
-none_of-last (k ∷ free) i j none other = (none.0, none_of-last free i j none.1 other)
-
-free-last : (free : List ℕ) (places : List (Option Id)) (i : ℕ) → AreFree free places → slice_get places i ≡ Some None → IsNoneOf i free → AreFree (free ++ i ∷ []) places
-free-last [] places i all is new = (is, tt, tt)
-free-last (j ∷ free) places i all is new = (all.0, none_of-last free i j all.1 (λ same. new.0 (sym same)), free-last free places i all.2 is new.1)
-
--- a place is free again
-pub free-clear : (free : List ℕ) (places : List (Option Id)) (i : ℕ) (id : Id) → AreFree free places → slice_get places i ≡ Some (Some id) → AreFree (free ++ i ∷ []) (slice_set places i None)
-free-clear free places i id all there =
-    let new = taken-none free places i id there all in
-    free-last free (slice_set places i None) i (kept-free free places i None new all) (cleared None places i (Some id) there).0 new
-
--- at first all places are free
-all-below : (n i : ℕ) → n ≤ i → IsNoneOf i (places_to n)
-all-below zero i above = tt
-all-below (suc n) i above = none_of-last (places_to n) n i (all-below n i (omega (arith, above))) (λ same. omega (arith, same, above))
-
-none-at : (count i : ℕ) → i < count → ◌≡◌ {A = Option (Option Id)} (slice_get (replicate count None) i) (Some None)
-none-at count i few = slice_get-get_or (replicate count None) i None (rw length-replicate few) ∙ ap Some (get_or-replicate count i None None few)
-
-pub free-first : (n count : ℕ) → n ≤ count → AreFree (places_to n) (replicate count None)
-free-first zero count few = tt
-free-first (suc n) count few =
-    free-last (places_to n) (replicate count None) n (free-first n count (omega (arith, few))) (none-at count n (omega (arith, few))) (all-below n n (omega arith))
-
-pub places-count : (n : ℕ) → length (places_to n) ≡ n
-places-count zero = refl
-places-count (suc n) = length-append (places_to n) (n ∷ []) ∙ (let so = places-count n in omega (arith, so))
+    go : (o : Option ℕ) → position is_none places ≡ o → (i : ℕ) × (position is_none places ≡ Some i) × (slice_get places i ≡ Some None)
+    go None h = let full = full-from places 0 (sym (position_from-zero is_none places) ∙ h) in absurd (omega (arith, few, full))
+    go (Some i) h =
+        let first = position-Some is_none places i None h in
+        (i, h, slice_get-get_or places i None first.0 ∙ ap Some (free (get_or places i None) first.1))
 
 pub none-out : (count : ℕ) → ids_out (replicate count None) ≡ []
 none-out zero = refl
 none-out (suc count) = none-out count
+
+-- how many jobs are out after each change, and that one more finds a place
+pub ruleset places = (put-length, clear-length, none-out, free-found, length-set, length-replicate)

@@ -8,5 +8,4 @@ pub mod RuleInvariant
 pub mod RuleState
 pub mod RuleView
 pub mod Slots
-pub mod SlotsInvariant
 pub mod Verdict

@@ -96,6 +96,7 @@ impl<W: Drop> Rule<W> {
     /// # Errors
     ///
     /// `Memory` where memory runs out.
+    #[tactic(auto, using(crate::proofs::SlotLaws::places))]
     pub fn new(alloc: Global, limits: Limits, callers: usize) -> Result<Rule<W>, AdmitError>
         ensures opened { IfOk result (λ c. c ≡ opened limits callers) }
         ensures history { IfOk result (IsStateOf []) }
@@ -221,6 +222,7 @@ impl<W: Drop> Rule<W> {
     /// The oldest work with a worker of its own that wasn't picked yet. Where there is none, and fewer jobs
     /// run than there are workers, it takes the work at the front of the queue. It says which of the two it
     /// was, and the place that the job has until it is finished.
+    #[tactic(auto, using(crate::proofs::SlotLaws::places))]
     pub fn pick(&mut self) -> Option<Picked<W>>
         ensures picked { IfSome result (λ p. IsPicked self.old p self.new) }
         ensures some { HasOneToPick self.old → IfNone result ⊥ }
@@ -254,6 +256,7 @@ impl<W: Drop> Rule<W> {
     /// assert!(rt; rule.finish(picked.slot));
     /// assert!(rt; !rule.finish(picked.slot));
     /// ```
+    #[tactic(auto, using(crate::proofs::SlotLaws::places))]
     pub fn finish(&mut self, slot: Slot) -> bool
         ensures out { IsTrue result ↔ (slice_get self.old.out slot.place ≡ Some (Some slot.id)) }
         ensures event { OnTrue result (self.new ≡ with_finish self.old slot) }

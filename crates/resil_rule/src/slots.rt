@@ -1,17 +1,15 @@
 //! The jobs that are out, each at a place of its own.
 //!
-//! A place is given by `put` and free again once it is cleared, so a job is found by its place at once.
-//! All places are there from the making on.
+//! `put` gives the first free place, and it is free again once it is cleared, so a job is found by its place
+//! at once. All places are there from the making on.
 
-ghost use Rattle.std.specs.Prelude.{◌≡◌, ◌↔◌, ◌<◌, List, Option, None as nothing, Some, false, length, position, replicate, slice_get, slice_set, IsTrue, IfOk, IfSome, IfNone};
+ghost use Rattle.std.specs.Prelude.{◌≡◌, ◌↔◌, ◌<◌, List, Option, None as nothing, Some, false, length, position, is_none, replicate, slice_get, slice_set, IsTrue, IfOk, IfSome, IfNone};
 ghost use Rattle.std.specs.Bool.{OnTrue, OnFalse};
 ghost use Rattle.resil_rule.specs.History.{is_among};
-ghost use Rattle.resil_rule.specs.Slots.{ids_out, is_of, places_to};
-ghost use Rattle.resil_rule.specs.SlotsInvariant.{SlotsInvariant};
+ghost use Rattle.resil_rule.specs.Slots.{ids_out, is_of};
 ghost use Rattle.resil_rule.specs.declared.event.Id.{Id as IdOf};
 
 use super::Id;
-use circular_buffer::HeapCircularBuffer;
 use std::alloc::{AllocError, Global};
 use std::marker::Model;
 
@@ -29,8 +27,8 @@ pub struct Slot {
 pub(crate) struct Slots {
     // The id of the job at each place.
     jobs: Vec<Option<Id>>,
-    // The places without a job.
-    free: HeapCircularBuffer<usize>,
+    // How many jobs are out.
+    count: usize,
 }
 
 impl Model for Slots {
@@ -38,17 +36,18 @@ impl Model for Slots {
 
     ghost view = { λ s. s.jobs.items };
 
-    ghost invariant = { SlotsInvariant };
+    ghost invariant = { λ s. s.count ≡ length (ids_out s.jobs.items) };
 }
 
 impl Slots {
     // So many places, each of them free. Errors: `AllocError` where memory runs out.
+    #[tactic(auto, using(crate::proofs::SlotLaws::places))]
     pub(crate) fn new(alloc: Global, count: usize) -> Result<Slots, AllocError>
         ensures { IfOk result (λ s. s ≡ replicate count nothing) }
     {
         Ok(Slots {
             jobs: vec![in alloc; None; count]?,
-            free: all_places(alloc, count)?,
+            count: 0,
         })
     }
 
@@ -56,17 +55,19 @@ impl Slots {
     pub(crate) fn len(&self) -> usize
         ensures { result ≡ length (ids_out self.now) }
     {
-        self.jobs.len() - self.free.len()
+        self.count
     }
 
-    // Gives a job a free place.
+    // Gives a job the first free place. It looks through the places before that.
+    #[tactic(auto, using(crate::proofs::SlotLaws::places))]
     pub(crate) fn put(&mut self, id: Id) -> usize
         requires { length (ids_out self.old) < length self.old }
         ensures free { slice_get self.old result ≡ Some nothing }
         ensures put { self.new ≡ slice_set self.old result (Some id) }
     {
-        let place = self.free.pop_front().unwrap();
+        let place = free_place(&self.jobs).unwrap();
         self.jobs[place] = Some(id);
+        self.count += 1;
         place
     }
 
@@ -81,6 +82,7 @@ impl Slots {
     }
 
     // Clears the place of a job, and says whether the job was there.
+    #[tactic(auto, using(crate::proofs::SlotLaws::places))]
     pub(crate) fn clear(&mut self, slot: Slot) -> bool
         ensures was_there { IsTrue result ↔ (slice_get self.old slot.place ≡ Some (Some slot.id)) }
         ensures cleared { OnTrue result (self.new ≡ slice_set self.old slot.place nothing) }
@@ -90,7 +92,7 @@ impl Slots {
             return false;
         }
         self.jobs[slot.place] = None;
-        self.free.try_push_back(slot.place).unwrap();
+        self.count -= 1;
         true
     }
 
@@ -120,13 +122,9 @@ fn is_of(job: Option<Id>, id: Id) -> bool
     }
 }
 
-// A ring of so many places.
-fn all_places(alloc: Global, count: usize) -> Result<HeapCircularBuffer<usize>, AllocError>
-    ensures { IfOk result (λ free. (free.items ≡ places_to count) × (free.capacity ≡ count)) }
+// The first place without a job.
+fn free_place(jobs: &[Option<Id>]) -> Option<usize>
+    ensures { result ≡ position is_none jobs.now }
 {
-    let mut free = HeapCircularBuffer::with_capacity(alloc, count)?;
-    for place in 0..count {
-        free.try_push_back(place).unwrap();
-    }
-    Ok(free)
+    jobs.iter().position(|job| job.is_none())
 }

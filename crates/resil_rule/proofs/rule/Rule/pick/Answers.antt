@@ -6,43 +6,12 @@ use Rattle.resil_rule.proofs.SlotLaws.{put-length}
 use Rattle.resil_rule.proofs.RuleLaws.{pick-stays, take-follows, empty-of}
 use Rattle.resil_rule.proofs.rule.Rule.pick.Goals as goal
 
-pub invariant_of-self : goal.invariant_of-self
-invariant_of-self g c =
-    let front = sym c.pop_front.ensures.value ∙ c.in-Some.is in
-    let long : length c.self.inside.unpicked.items ≡ length (drop 1 c.self.inside.unpicked.items) + 1 = ap length (front-is c.self.inside.unpicked.items (c.in-Some.id, c.in-Some.work) front) ∙ omega arith in
-    let more = put-length c.in-Some.id c.self.inside.out c.put-place.result c.put-place.ensures.free in
-    rw (c.pop_front.ensures.items, c.put-place.ensures.put) (record {
-      limits = c.self.invariant.limits;
-      queue = c.self.invariant.queue;
-      starts = c.self.invariant.starts;
-      places = length-set c.self.inside.out c.put-place.result (Some c.in-Some.id) ∙ c.self.invariant.places;
-      few = omega (arith, long, more, c.self.invariant.few);
-      most = c.self.invariant.most;
-      sizes = c.self.invariant.sizes;
-    })
-
 pub returns-in-Some-clause-picked : goal.returns-in-Some-clause-picked
 returns-in-Some-clause-picked g c =
     let front = sym c.pop_front.ensures.value ∙ c.in-Some.is in
     let slot : Slot = record { id = c.in-Some.id; place = c.put-place.result } in
     rw (← c.self.view_is, c.pop_front.ensures.items, c.put-place.ensures.put)
     (c.put-place.ensures.free, inl (refl, front, refl, pick-stays _ slot c.in-Some.work c.put-place.ensures.free front))
-
-pub invariant_of-self-2 : goal.invariant_of-self-2
-invariant_of-self-2 g c =
-    let none = empty-of c.self.inside.unpicked.items c.pop_front.result c.pop_front.ensures.value c.in_default.not-Some in
-    let idle : length c.self.inside.unpicked.items + length (ids_out c.self.inside.out) < c.self.inside.workers = omega (arith, ap length none, c.len.ensures, c.if-len-self.false) in
-    let same : drop 1 c.self.inside.unpicked.items ≡ c.self.inside.unpicked.items = ap (drop 1) none ∙ sym none in
-    let more = put-length c.in_ok-id.id c.self.inside.out c.put-place-2.result c.put-place-2.ensures.free in
-    rw (c.pop_front.ensures.items, same, c.pop_front-2.ensures.items, c.put-place-2.ensures.put) (record {
-      limits = c.self.invariant.limits;
-      queue = c.self.invariant.queue;
-      starts = c.self.invariant.starts;
-      places = length-set c.self.inside.out c.put-place-2.result (Some c.in_ok-id.id) ∙ c.self.invariant.places;
-      few = omega (arith, idle, more);
-      most = c.self.invariant.most;
-      sizes = c.self.invariant.sizes;
-    })
 
 pub returns-clause-picked : goal.returns-clause-picked
 returns-clause-picked g c =
