@@ -262,3 +262,6 @@ pub start-follows : {W : Type 0} (v : RuleView W) (id : Id) (work : W) (reply : 
     → Follows v (Submit id reply) (with_start v id work)
 start-follows v id work reply (inl core) next known is = rw core (submit-follows v id work Core next known (sym core ∙ is))
 start-follows v id work reply (inr extra) next known is = rw extra (submit-follows v id work Extra next known (sym extra ∙ is))
+
+-- the law of an idle end, under a name that code can cite
+pub ruleset steps = (idle-follows)

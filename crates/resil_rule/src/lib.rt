@@ -10,7 +10,6 @@
 //! if others are idle. Extra workers come only once the queue is full.
 #![tactic(auto)]
 
-mod callers;
 mod error;
 mod event;
 mod laws;

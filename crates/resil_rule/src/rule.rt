@@ -8,7 +8,7 @@
 //! `new` takes all room, and `reserve_caller` more of it for callers. No other call allocates, or looks
 //! through what came before.
 
-ghost use Rattle.std.specs.Prelude.{◌≡◌, ◌↔◌, ◌≤◌, ◌<◌, ◌-◌, ◌+◌, ℕ, None as nothing, Some, [], max, suc, true, false, length, option_map, slice_get, IsTrue, IsOk, IfOk, IfErr, IfSome, IfNone, OnOk, OnErr};
+ghost use Rattle.std.specs.Prelude.{◌≡◌, ◌↔◌, ◌≤◌, ◌<◌, ◌-◌, ◌+◌, ℕ, None as nothing, Some, [], max, suc, true, false, length, option_map, slice_get, slice_index_or, IsTrue, IsOk, IfOk, IfErr, IfSome, IfNone, OnOk, OnErr};
 ghost use Rattle.std.specs.Bool.{OnTrue, OnFalse};
 ghost use Rattle.resil_rule.specs.History.{is_among};
 ghost use Rattle.resil_rule.specs.Slots.{ids_out};
@@ -17,11 +17,10 @@ ghost use Rattle.resil_rule.specs.RuleInvariant.{RuleInvariant};
 ghost use Rattle.resil_rule.specs.RuleView.{RuleView, opened, busy, owed, next_reply, made_by, is_acceptance, with_submission, with_finish, with_close, with_idle_end, with_sizes, MayEndIdle, HasOneToPick};
 ghost use Rattle.resil_rule.specs.RuleState.{IsStateOf, Follows, StaysAt, IsPicked, HasNoneToPick, IsSubmitRefusal};
 
-use super::callers::Callers;
 use super::slots::{Slot, Slots};
 use super::{AdmitError, Event, Id, Limits, Refusal, Reply};
 use circular_buffer::HeapCircularBuffer;
-use std::alloc::Global;
+use std::alloc::{AllocError, Global};
 use std::marker::Model;
 
 /// Where a picked job came from. Only a take from the queue is an event.
@@ -76,14 +75,14 @@ pub struct Rule<W: Drop> {
     waiting: HeapCircularBuffer<(Id, W)>,
     // The jobs that are out.
     out: Slots,
-    // How many submissions each caller made.
-    made: Callers,
+    // How many submissions each caller made, by its number.
+    made: Vec<u64>,
 }
 
 impl<W: Drop> Model for Rule<W> {
     ghost Value = { RuleView W };
 
-    ghost view = { λ c. record { limits = c.limits; core = c.core; max = c.max; closed = c.closed; workers = c.workers; unpicked = c.unpicked.items; waiting = c.waiting.items; out = c.out; made = c.made } };
+    ghost view = { λ c. record { limits = c.limits; core = c.core; max = c.max; closed = c.closed; workers = c.workers; unpicked = c.unpicked.items; waiting = c.waiting.items; out = c.out; made = c.made.items } };
 
     ghost invariant = { RuleInvariant };
 }
@@ -113,7 +112,7 @@ impl<W: Drop> Rule<W> {
             unpicked: HeapCircularBuffer::with_capacity(alloc, max)?,
             waiting: HeapCircularBuffer::with_capacity(alloc, queue)?,
             out: Slots::new(alloc, max)?,
-            made: Callers::new(alloc, callers)?,
+            made: vec![in alloc; 0; callers]?,
         })
     }
 
@@ -137,7 +136,7 @@ impl<W: Drop> Rule<W> {
         ensures follows { StaysAt self.old self.new }
         ensures memory { IfErr result (λ e. e ≡ AdmitError.Memory) }
     {
-        self.made.grow_to(caller)?;
+        count_up_to(&mut self.made, caller)?;
         Ok(())
     }
 
@@ -189,14 +188,14 @@ impl<W: Drop> Rule<W> {
         ensures refused { IfErr result (λ e. IsSubmitRefusal self.old id e.0 self.new) }
         ensures work_back { IfErr result (λ e. e.1 ≡ work) }
     {
-        if !self.made.has(id.caller) {
+        if self.made.len() <= id.caller as usize {
             return Err((Refusal::NoSuchCaller, work));
         }
         if !self.is_next(id) {
             return Err((Refusal::WrongNumber, work));
         }
         let reply = self.next_reply();
-        self.made.count(id);
+        self.made[id.caller as usize] = id.number;
         match reply {
             Reply::Core | Reply::Extra => {
                 self.workers += 1;
@@ -216,7 +215,7 @@ impl<W: Drop> Rule<W> {
     pub fn is_next(&self, id: Id) -> bool
         ensures { IsTrue result ↔ (id.number ≡ suc (made_by self.now id.caller)) }
     {
-        id.number != 0 && id.number - 1 == self.made.made_by(id.caller)
+        id.number != 0 && id.number - 1 == self.submissions(id.caller)
     }
 
     /// The oldest work with a worker of its own that wasn't picked yet. Where there is none, and fewer jobs
@@ -303,6 +302,7 @@ impl<W: Drop> Rule<W> {
     /// ```
     /// while rule.idle_end() {}
     /// ```
+    #[tactic(auto, using(crate::proofs::RuleLaws::steps))]
     pub fn idle_end(&mut self) -> bool
         ensures ends { IsTrue result ↔ MayEndIdle self.old }
         ensures event { OnTrue result (self.new ≡ with_idle_end self.old) }
@@ -470,6 +470,21 @@ impl<W: Drop> Rule<W> {
     pub fn submissions(&self, caller: u16) -> u64
         ensures { result ≡ made_by self.now caller }
     {
-        self.made.made_by(caller)
+        self.made.get(caller as usize).copied().unwrap_or(0)
     }
+}
+
+// Counts the callers from 0 to this one, those that weren't counted yet from no submission. Errors: `AllocError` where
+// memory runs out, and then each caller made what it made.
+fn count_up_to(made: &mut Vec<u64>, caller: u16) -> Result<(), AllocError>
+    ensures reaches { OnOk result (caller < length made.new.items) }
+    ensures grows { length made.old.items ≤ length made.new.items }
+    ensures no_further { length made.new.items ≤ max (length made.old.items) (suc caller) }
+    ensures ready { caller < length made.old.items → IsOk result }
+    ensures same { (other : ℕ) → slice_index_or made.new.items other 0 ≡ slice_index_or made.old.items other 0 }
+{
+    while made.len() <= caller as usize {
+        made.push(0)?;
+    }
+    Ok(())
 }

@@ -1,5 +1,5 @@
 use Rattle.std.proofs.Common.{◌≡◌, ◌≤◌, ◌+◌, ◌-◌, ℕ, suc, max, List, length, slice_index_or}
-use Rattle.resil_rule.proofs.callers.Callers.grow_to.Given as goal
+use Rattle.resil_rule.proofs.rule.count_up_to.Given as goal
 
 -- each caller made what it made, and no caller goes or comes that need not
 pub record Grows (old new : List ℕ) (caller : ℕ) : Type 0 where
@@ -7,8 +7,8 @@ pub record Grows (old new : List ℕ) (caller : ℕ) : Type 0 where
   pub grows : length old ≤ length new
   pub no_further : length new ≤ max (length old) (suc caller)
 
-abbrev pub invariant-loop-self : goal.invariant-loop-self
-invariant-loop-self l = Grows l.initial.self l.self l.caller
+abbrev pub invariant-loop-made : goal.invariant-loop-made
+invariant-loop-made l = Grows l.initial.made.items l.made.items l.caller
 
-abbrev pub decreases-loop-self : goal.decreases-loop-self
-decreases-loop-self l = (l.caller + 1) - length l.self
+abbrev pub decreases-loop-made : goal.decreases-loop-made
+decreases-loop-made l = (l.caller + 1) - length l.made.items
