@@ -1,7 +1,7 @@
 -- In a legal history each accepted job waits, runs or is finished, and is one of these, once.
-use Rattle.std.proofs.Common.{◌≡◌, ◌≤◌, ◌+◌, ◌∷◌, [], ◌++◌, ◌∙◌, ℕ, Bool, true, false, cond, List, Option, Some, None, length, take, slice_get, refl, sym, ap, arith, length-append}
+use Rattle.std.proofs.Common.{◌≡◌, ◌≤◌, ◌+◌, ◌∷◌, [], ◌++◌, ◌∙◌, ℕ, Bool, true, false, cond, inl, inr, List, Option, Some, None, length, take, slice_get, refl, sym, ap, arith, length-append}
 use Rattle.std.specs.List.{cons_option}
-use Rattle.std.proofs.lemmas.Bool.{cond_both}
+use Rattle.std.proofs.lemmas.Bool.{cases_Bool}
 use Rattle.resil_rule.specs.Limits.{Sizes}
 use Rattle.resil_rule.specs.Admission.{IsAllowed, IsLegal, IsConserved, JobsConserved}
 use Rattle.resil_rule.specs.History.{is_same_id, is_among, times, started, queued, accepted, taken, finished, unfinished, running, waiting, next_number, started_id, accepted_id, taken_id, finished_id}
@@ -20,7 +20,7 @@ times-cons x id ids = times-append x (id ∷ []) ids
 
 one-most : (x : Id) (o : Option Id) → times x (cons_option o []) ≤ 1
 one-most x None = omega arith
-one-most x (Some id) = rw times-one (cond_both (is_same_id x id) 1 0 (λ (n : ℕ). n ≤ 1) (λ is. omega arith) (λ other. omega arith))
+one-most x (Some id) = grind (arith, times-one x id, cases_Bool (is_same_id x id))
 
 -- each accepted job was started or queued
 pub accepted-parts : (h : List Event) (x : Id) → times x (accepted h) ≡ times x (started h) + times x (queued h)
@@ -40,32 +40,26 @@ pub record IsTracked (h : List Event) (x : Id) : Type 0 where
 module _ (limits : Sizes) where
   module _ (x : Id) where
     accepted-few : (h : List Event) (e : Event) → IsLegal limits h → times x (accepted h) ≤ 1 → IsAllowed limits h e → times x (accepted h) + times x (accepted (e ∷ [])) ≤ 1
-    accepted-few h e legal once allowed = go (is_among x (accepted (e ∷ []))) refl
-      where
-        go : (b : Bool) → is_among x (accepted (e ∷ [])) ≡ b → times x (accepted h) + times x (accepted (e ∷ [])) ≤ 1
-        go true new =
+    accepted-few h e legal once allowed = elim (cases_Bool (is_among x (accepted (e ∷ [])))) [
+      | inl new ↦
             let none = nowhere x (accepted h) (next-fresh limits h x legal (new-number limits h e x allowed new).0) in
             let one = one-most x (accepted_id e) in
             omega (arith, none, one)
-        go false old = let none = nowhere x (accepted (e ∷ [])) old in omega (arith, once, none)
+      | inr old ↦ let none = nowhere x (accepted (e ∷ [])) old in omega (arith, once, none)
+    ]
 
     finished-few : (h : List Event) (e : Event) → times x (finished h) ≤ times x (started h) + times x (taken h) → IsAllowed limits h e
         → times x (finished h) + times x (finished (e ∷ [])) ≤ times x (started h) + times x (taken h) + times x (started (e ∷ [])) + times x (taken (e ∷ []))
-    finished-few h (Finish id) ran allowed = go (is_same_id x id) refl
-      where
-        -- what runs was started or taken, and isn't finished
-        runs : (f : Bool) (n : ℕ) → 1 ≤ cond f 0 n → (f ≡ false) × (1 ≤ n)
-        runs true n some = absurd (omega (arith, some))
-        runs false n some = (refl, some)
-
-        go : (b : Bool) → is_same_id x id ≡ b → times x (finished h) + times x (id ∷ []) ≤ times x (started h) + times x (taken h) + 0 + 0
-        go true same =
-            let some : 1 ≤ times x (running h) = somewhere x (running h) (ap (λ i. is_among i (running h)) (same_id-equal x id same) ∙ allowed) in
-            let out = runs (is_among x (finished h)) _ (rw (times-left (finished h) (started h) (taken h) x) at some) in
-            let none = nowhere x (finished h) out.0 in
-            let one = one-most x (Some id) in
-            omega (arith, none, one, out.1)
-        go false other = let none : times x (id ∷ []) ≡ 0 = times-one x id ∙ ap (λ b. cond b 1 0) other in omega (arith, ran, none)
+    finished-few h (Finish id) ran allowed =
+        let one = times-one x id in
+        let left = times-left (finished h) (started h) (taken h) x in
+        elim (cases_Bool (is_same_id x id)) [
+          -- what runs was started or taken, and isn't finished
+          | inl same ↦
+                let some : 1 ≤ times x (running h) = somewhere x (running h) (ap (λ i. is_among i (running h)) (same_id-equal x id same) ∙ allowed) in
+                grind (arith, one, same, some, left, nowhere x (finished h), cases_Bool (is_among x (finished h)))
+          | inr other ↦ let none = one ∙ ap (λ b. cond b 1 0) other in omega (arith, ran, none)
+        ]
     finished-few h e ran allowed = omega (arith, ran)
 
     -- what is kept event by event
@@ -91,19 +85,14 @@ module _ (limits : Sizes) where
 
     -- each job that was started or taken runs or is finished
     pub balance : (x : Id) → times x (running h) + times x (finished h) ≡ times x (started h) + times x (taken h)
-    balance x = go (is_among x (finished h)) refl
-      where
-        go : (f : Bool) → is_among x (finished h) ≡ f → times x (running h) + times x (finished h) ≡ times x (started h) + times x (taken h)
-        go true is =
-            let k = tracked x in
-            let parts = accepted-parts h x in
-            let runs : times x (running h) ≡ 0 = times-left (finished h) (started h) (taken h) x ∙ ap (λ b. cond b 0 (times x (started h) + times x (taken h))) is in
-            let some = somewhere x (finished h) is in
-            omega (arith, some, parts, runs, k.once, k.lined, k.ran)
-        go false is =
-            let runs : times x (running h) ≡ times x (started h) + times x (taken h) = times-left (finished h) (started h) (taken h) x ∙ ap (λ b. cond b 0 (times x (started h) + times x (taken h))) is in
-            let none = nowhere x (finished h) is in
-            omega (arith, none, runs)
+    balance x =
+        let k = tracked x in
+        let parts = accepted-parts h x in
+        let left = times-left (finished h) (started h) (taken h) x in
+        elim (cases_Bool (is_among x (finished h))) [
+          | inl is ↦ let runs = left ∙ ap (λ b. cond b 0 (times x (started h) + times x (taken h))) is in let some = somewhere x (finished h) is in omega (arith, some, parts, runs, k.once, k.lined, k.ran)
+          | inr is ↦ let runs = left ∙ ap (λ b. cond b 0 (times x (started h) + times x (taken h))) is in let none = nowhere x (finished h) is in omega (arith, none, runs)
+        ]
 
     pub as-many : length (running h) + length (finished h) ≡ length (started h) + length (taken h)
     as-many =

@@ -1,6 +1,6 @@
 -- Ids among ids, and those of them that aren't finished.
 use Rattle.std.proofs.Common.{◌≡◌, ◌++◌, ◌∙◌, ℕ, Bool, true, false, not, ◌&&◌, ◌||◌, ◌==◌, List, refl, sym, ap, arith, filter, take, drop}
-use Rattle.std.proofs.lemmas.Bool.{and_parts}
+use Rattle.std.proofs.lemmas.Bool.{and_parts, cases_Bool}
 use Rattle.std.proofs.lemmas.Grind.{common_steps}
 use Rattle.std.proofs.lemmas.List.Folds.{list_any-append}
 use Rattle.std.proofs.lemmas.List.{take-append-drop}
@@ -40,11 +40,7 @@ among-take n id xs h =
 -- a job that is out is running
 pub in_flight-running : (h : List Event) (picked : ℕ) (id : Id) → is_among id (unfinished h (take picked (started h) ++ taken h)) ≡ true → is_among id (running h) ≡ true
 in_flight-running h picked id out =
-    among-unfinished (finished h) (started h) (taken h) id
-    ∙ kept (not (is_among id (finished h))) _ _ (is_among id (taken h)) (among-take picked id (started h)) (sym (among-unfinished (finished h) (take picked (started h)) (taken h) id) ∙ out)
-  where
-    kept : (n a b c : Bool) → (a ≡ true → b ≡ true) → (n && (a || c)) ≡ true → (n && (b || c)) ≡ true
-    kept true true b c f h = rw (f refl) refl
-    kept true false true c f h = refl
-    kept true false false c f h = h
-    kept false a b c f h = h
+    let early = take picked (started h) in
+    let before = among-unfinished (finished h) early (taken h) id in
+    let all = among-unfinished (finished h) (started h) (taken h) id in
+    grind (arith, out, before, all, among-take picked id (started h), cases_Bool (is_among id (finished h)), cases_Bool (is_among id early), cases_Bool (is_among id (taken h)))
