@@ -1,6 +1,7 @@
 -- What is kept of a history, with one more event.
 use Rattle.std.proofs.Common.{◌≡◌, ◌≤◌, ◌+◌, ◌∷◌, [], ◌++◌, ◌∙◌, ◌||◌, ℕ, Bool, true, false, cond, List, Option, Some, None, length, filter, drop, slice_get, refl, sym, ap, arith, length-append}
 use Rattle.std.specs.List.{filter_map}
+use Rattle.std.proofs.lemmas.Bool.{or_right}
 use Rattle.std.proofs.lemmas.List.Elements.{filter-append, filter_map-append}
 use Rattle.std.proofs.lemmas.List.{drop-append-le, drop-drop}
 use Rattle.resil_rule.proofs.UnpickedLaws.{filtered-same}
@@ -42,7 +43,7 @@ module _ (h : List Event) (e : Event) (s : started_id e ≡ None) (q : queued_id
 
 pub front-is : {A : Type 0} (xs : List A) (x : A) → slice_get xs 0 ≡ Some x → xs ≡ x ∷ drop 1 xs
 front-is [] x h = absurd (cc h)
-front-is (y ∷ xs) x h = let e : y ≡ x = cc h in ap (λ z. z ∷ xs) e
+front-is (y ∷ xs) x h = cc h
 
 -- the front of the queue counts once more than the others
 pub times-front : (h : List Event) (id : Id) → slice_get (waiting h) 0 ≡ Some id → (x : Id) → times x (waiting h) ≡ times x (drop 1 (waiting h)) + cond (is_same_id x id) 1 0
@@ -56,5 +57,4 @@ pub not-among : (x : Id) (ids : List Id) → times x ids ≡ 0 → is_among x id
 not-among x ids none = among-times x ids ∙ ap is_positive none
 
 pub or-of : (a b : Bool) → b ≡ true → (a || b) ≡ true
-or-of true b h = refl
-or-of false b h = h
+or-of a b h = or_right a b h

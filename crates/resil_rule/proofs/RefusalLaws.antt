@@ -1,5 +1,6 @@
 -- What the rule refuses, no history that its state stands for allows.
 use Rattle.std.proofs.Common.{inl, inr, ◌≡◌, ◌<◌, ◌+◌, ◌-◌, ◌∷◌, [], ◌++◌, ◌∙◌, ℕ, suc, Bool, true, false, cond, List, Some, slice_get, length, drop, take, refl, sym, ap, subst, arith}
+use Rattle.std.proofs.lemmas.Bool.{cases_Bool}
 use Rattle.std.proofs.lemmas.List.{take-append-drop}
 use Rattle.resil_rule.specs.Admission.{IsAllowed}
 use Rattle.resil_rule.specs.History.{is_among, times, started, taken, finished, unfinished, running}
@@ -48,21 +49,13 @@ module _ {W : Type 0} (v : RuleView W) (h : List Event) (state : IsStateOf h v) 
   -- the jobs that are out are those that were picked or taken, and aren't finished
   pub out-are : (id : Id) → is_among id (ids_out v.out) ≡ is_among id (unfinished h (take (length (started h) - length v.unpicked) (started h) ++ taken h))
   out-are id =
-      among-times id (ids_out v.out)
-      ∙ ap is_positive (go (is_among id (finished h)) (state.runs id) (times-left (finished h) (started h) (taken h) id) (times-left (finished h) (take picked (started h)) (taken h) id))
-      ∙ sym (among-times id (unfinished h (take picked (started h) ++ taken h)))
-    where
-      picked : ℕ
-      picked = length (started h) - length v.unpicked
-
-      both : times id (started h) ≡ times id (take picked (started h)) + times id (ids_of v.unpicked)
-      both = ap (times id) (sym (take-append-drop picked (started h))) ∙ times-append id (take picked (started h)) (drop picked (started h))
-          ∙ ap (λ (ids : List Id). times id (take picked (started h)) + times id ids) (sym state.unpicked)
-
-      go : (done : Bool) → times id (running h) ≡ times id (ids_of v.unpicked) + times id (ids_out v.out) → times id (running h) ≡ cond done 0 (times id (started h) + times id (taken h))
-          → times id (unfinished h (take picked (started h) ++ taken h)) ≡ cond done 0 (times id (take picked (started h)) + times id (taken h)) → times id (ids_out v.out) ≡ times id (unfinished h (take picked (started h) ++ taken h))
-      go true runs all out = omega (arith, runs, all, out)
-      go false runs all out = omega (arith, runs, all, out, both)
+      let picked = take (length (started h) - length v.unpicked) (started h) in
+      let split = ap (times id) (sym (take-append-drop (length (started h) - length v.unpicked) (started h))) ∙ times-append id picked (drop (length (started h) - length v.unpicked) (started h)) in
+      let later = ap (times id) state.unpicked in
+      let all = times-left (finished h) (started h) (taken h) id in
+      let left = times-left (finished h) picked (taken h) id in
+      let same : times id (ids_out v.out) ≡ times id (unfinished h (picked ++ taken h)) = grind (arith, state.runs id, split, later, all, left, cases_Bool (is_among id (finished h))) in
+      among-times id (ids_out v.out) ∙ ap is_positive same ∙ sym (among-times id (unfinished h (picked ++ taken h)))
 
 -- a submission that is next is answered by the rule: it is accepted, or refused as an event
 module _ {W : Type 0} (v after : RuleView W) (id : Id) (work : W) (known : id.caller < length v.made) (next : id.number ≡ suc (made_by v id.caller)) where

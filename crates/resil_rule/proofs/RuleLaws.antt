@@ -1,6 +1,7 @@
 -- Each step of the rule follows the definitions, after every history that its state may stand for.
 use Rattle.std.proofs.Common.{◌⊎◌, inl, inr, ◌≡◌, ◌≢◌, ◌<◌, ◌≤◌, ◌+◌, ◌-◌, ◌∷◌, [], ◌++◌, ◌∙◌, ◌||◌, ◌==◌, ℕ, zero, suc, Bool, true, false, cond, List, Option, Some, None, length, filter, drop, replicate, slice_get, slice_set, slice_index_or, refl, sym, ap, arith, append-nil, length-append, length-drop, get_or-set_same, get_or-set_other}
 use Rattle.std.proofs.Math.Bool.{or-false}
+use Rattle.std.proofs.lemmas.Bool.{cases_lt}
 use Rattle.std.proofs.lemmas.Grind.{common_steps}
 use Rattle.std.proofs.lemmas.List.{drop-append-le, length-map, map-append}
 use Rattle.std.proofs.lemmas.List.Elements.{filter_map-append}
@@ -110,39 +111,23 @@ module _ {W : Type 0} (v : RuleView W) (h : List Event) (state : IsStateOf h v) 
     next-is = next ∙ ap suc (state.made_are id.caller)
 
     made-after : (caller : ℕ) → slice_index_or (slice_set v.made id.caller id.number) caller 0 ≡ made_by v caller + cond (id.caller == caller) 1 0
-    made-after caller = go (id.caller == caller) refl
-      where
-        go : (b : Bool) → (id.caller == caller) ≡ b → slice_index_or (slice_set v.made id.caller id.number) caller 0 ≡ made_by v caller + cond b 1 0
-        go true same =
-            let e : id.caller ≡ caller = grind (arith, common_steps, same) in
-            let here = get_or-set_same v.made id.caller id.number 0 known in
-            rw (← e) (omega (arith, here, next))
-        go false other =
-            let apart : caller ≢ id.caller = λ e. grind (arith, common_steps, other, e) in
-            let there = get_or-set_other v.made id.caller caller id.number 0 apart in
-            omega (arith, there)
+    made-after caller = grind (arith, common_steps, next, known)
+
+    same-ids : (jobs : List (Id × W)) → ids_of jobs ≡ ids_of jobs ++ []
+    same-ids jobs = sym (append-nil (ids_of jobs))
+
+    by : (reply : Reply) (count : ℕ) (unpicked waits : List (Id × W)) → IsAllowed v.limits h (Submit id reply) → count + 0 ≡ v.workers + length (started (Submit id reply ∷ []))
+        → ids_of unpicked ≡ ids_of v.unpicked ++ started (Submit id reply ∷ []) → ids_of waits ≡ ids_of v.waiting ++ queued (Submit id reply ∷ [])
+        → IsStateOf (h ++ Submit id reply ∷ []) (record v { made = slice_set v.made id.caller id.number; workers = count; unpicked = unpicked; waiting = waits })
+    by reply count unpicked waits allowed works started_is queued_is =
+        goes-on (Submit id reply) _ allowed (refl, sym (or-false v.closed), works) (started_is, queued_is, (λ x. refl)) (sizes-quiet v.limits h (Submit id reply) v.core v.max refl refl state.sizes) made-after
 
     -- a submission with its answer
     submits : (work : W) (reply : Reply) → IsAllowed v.limits h (Submit id reply) → IsStateOf (h ++ Submit id reply ∷ []) (with_submission v id work reply)
-    submits work reply allowed = answered reply allowed
-      where
-        by : (reply : Reply) (count : ℕ) (unpicked waits : List (Id × W)) → IsAllowed v.limits h (Submit id reply) → count + 0 ≡ v.workers + length (started (Submit id reply ∷ []))
-            → ids_of unpicked ≡ ids_of v.unpicked ++ started (Submit id reply ∷ []) → ids_of waits ≡ ids_of v.waiting ++ queued (Submit id reply ∷ [])
-            → IsStateOf (h ++ Submit id reply ∷ []) (record v { made = slice_set v.made id.caller id.number; workers = count; unpicked = unpicked; waiting = waits })
-        by reply count unpicked waits allowed works started_is queued_is =
-            goes-on (Submit id reply) _ allowed (refl, sym (or-false v.closed), works) (started_is, queued_is, (λ x. refl)) (sizes-quiet v.limits h (Submit id reply) v.core v.max refl refl state.sizes) made-after
-
-        begun : ids_of (v.unpicked ++ (id, work) ∷ []) ≡ ids_of v.unpicked ++ id ∷ []
-        begun = map-append (λ job. job.0) v.unpicked ((id, work) ∷ [])
-
-        still : (jobs : List (Id × W)) → ids_of jobs ≡ ids_of jobs ++ []
-        still jobs = sym (append-nil (ids_of jobs))
-
-        answered : (reply : Reply) → IsAllowed v.limits h (Submit id reply) → IsStateOf (h ++ Submit id reply ∷ []) (with_submission v id work reply)
-        answered Core allowed = by Core (v.workers + 1) (v.unpicked ++ (id, work) ∷ []) v.waiting allowed (omega arith) begun (still v.waiting)
-        answered Extra allowed = by Extra (v.workers + 1) (v.unpicked ++ (id, work) ∷ []) v.waiting allowed (omega arith) begun (still v.waiting)
-        answered Queued allowed = by Queued v.workers v.unpicked (v.waiting ++ (id, work) ∷ []) allowed refl (still v.unpicked) (map-append (λ job. job.0) v.waiting ((id, work) ∷ []))
-        answered reply allowed = by reply v.workers v.unpicked v.waiting allowed refl (still v.unpicked) (still v.waiting)
+    submits work Core allowed = by Core (v.workers + 1) (v.unpicked ++ (id, work) ∷ []) v.waiting allowed (omega arith) (map-append (λ job. job.0) v.unpicked _) (same-ids v.waiting)
+    submits work Extra allowed = by Extra (v.workers + 1) (v.unpicked ++ (id, work) ∷ []) v.waiting allowed (omega arith) (map-append (λ job. job.0) v.unpicked _) (same-ids v.waiting)
+    submits work Queued allowed = by Queued v.workers v.unpicked (v.waiting ++ (id, work) ∷ []) allowed refl (same-ids v.unpicked) (map-append (λ job. job.0) v.waiting _)
+    submits work reply allowed = by reply v.workers v.unpicked v.waiting allowed refl (same-ids v.unpicked) (same-ids v.waiting)
 
 module _ {W : Type 0} where
   pub submit-follows : (v : RuleView W) (id : Id) (work : W) (reply : Reply) → id.number ≡ suc (made_by v id.caller) → id.caller < length v.made → reply ≡ next_reply v
@@ -245,13 +230,8 @@ module _ {W : Type 0} where
         unpicked = refl;
         waiting_is = refl;
         runs = runs;
-        made_are = zeros callers;
+        made_are = λ c. grind (arith, common_steps, cases_lt c callers);
       }
-    where
-      zeros : (n c : ℕ) → ◌≡◌ {A = ℕ} (slice_index_or (replicate n 0) c 0) 0
-      zeros zero c = refl
-      zeros (suc n) zero = refl
-      zeros (suc n) (suc c) = zeros n c
 
 pub empty-of : {A : Type 0} (xs : List A) (o : Option A) → o ≡ slice_get xs 0 → ((x : A) → o ≡ Some x → ⊥) → xs ≡ []
 empty-of [] o first none = refl
