@@ -65,25 +65,25 @@ module _ {W : Type 0} (v after : RuleView W) (id : Id) (work : W) (known : id.ca
   refused-by Full is = (ap is_acceptance is.0, is.1, subst (λ (reply : Reply). Follows v (Submit id reply) after) (sym is.0) is.2)
   refused-by Closed is = (ap is_acceptance is.0, is.1, subst (λ (reply : Reply). Follows v (Submit id reply) after) (sym is.0) is.2)
 
+  -- the submission is the event; where the rule accepts it, it has its worker or its place in the queue, and where it doesn't, it is counted alone
+  answered : (result : Result Reply (Refusal × W)) → IfOk result (λ reply. (reply ≡ next_reply v) × (is_acceptance reply ≡ true) × (after ≡ with_submission v id work reply))
+      → IfOk result (λ reply. Follows v (Submit id reply) after) → IfErr result (λ e. IsSubmitRefusal v id e.0 after)
+      → Follows v (Submit id (next_reply v)) after × (is_acceptance (next_reply v) ≡ true → after ≡ with_submission v id work (next_reply v)) × (is_acceptance (next_reply v) ≡ false → after ≡ counted v id)
+  answered (Ok reply) a f r = rw (← a.0) (f, (λ _. a.2), (λ bars. absurd (cc (bars, a.1))))
+  answered (Err e) a f r = let is = refused-by e.0 r in (is.2, (λ accepts. absurd (cc (accepts, is.0))), (λ _. is.1))
+
   module _ (result : Result Reply (Refusal × W))
       (accepted : IfOk result (λ reply. (reply ≡ next_reply v) × (is_acceptance reply ≡ true) × (after ≡ with_submission v id work reply)))
       (follows : IfOk result (λ reply. Follows v (Submit id reply) after))
       (refused : IfErr result (λ e. IsSubmitRefusal v id e.0 after)) where
-    -- the submission is the event; where the rule accepts it, it has its worker or its place in the queue, and where it doesn't, it is counted alone
-    submission-answered : Follows v (Submit id (next_reply v)) after × (is_acceptance (next_reply v) ≡ true → after ≡ with_submission v id work (next_reply v)) × (is_acceptance (next_reply v) ≡ false → after ≡ counted v id)
-    submission-answered = go result accepted follows refused
-      where
-        go : (r : Result Reply (Refusal × W)) → IfOk r (λ reply. (reply ≡ next_reply v) × (is_acceptance reply ≡ true) × (after ≡ with_submission v id work reply))
-            → IfOk r (λ reply. Follows v (Submit id reply) after) → IfErr r (λ e. IsSubmitRefusal v id e.0 after)
-            → Follows v (Submit id (next_reply v)) after × (is_acceptance (next_reply v) ≡ true → after ≡ with_submission v id work (next_reply v)) × (is_acceptance (next_reply v) ≡ false → after ≡ counted v id)
-        go (Ok reply) a f r = rw (← a.0) (f, (λ _. a.2), (λ bars. absurd (cc (bars, a.1))))
-        go (Err e) a f r = let is = refused-by e.0 r in (is.2, (λ accepts. absurd (cc (accepts, is.0))), (λ _. is.1))
-
     pub submission-follows : Follows v (Submit id (next_reply v)) after
-    submission-follows = submission-answered.0
+    submission-follows = (answered result accepted follows refused).0
 
     pub submission-accepted : is_acceptance (next_reply v) ≡ true → after ≡ with_submission v id work (next_reply v)
-    submission-accepted = submission-answered.1
+    submission-accepted = (answered result accepted follows refused).1
 
     pub submission-refused : is_acceptance (next_reply v) ≡ false → after ≡ counted v id
-    submission-refused = submission-answered.2
+    submission-refused = (answered result accepted follows refused).2
+
+-- what a refusal of an event rests on
+pub ruleset barred = (take-only, out-only, idle-only)

@@ -30,11 +30,11 @@ legal-none limits history position legal (front, bad, rest, same, at, before, ba
     let long = ap length same ∙ length-append front (bad ∷ rest) in
     omega (arith, short, long)
 
-pub verdict-unique : VerdictsAreOne
-verdict-unique limits history Legal Legal a b = refl
-verdict-unique limits history Legal (FirstIllegal position) a b = absurd (legal-none limits history position a b)
-verdict-unique limits history (FirstIllegal position) Legal a b = absurd (legal-none limits history position b a)
-verdict-unique limits history (FirstIllegal position) (FirstIllegal position') (front, bad, rest, same, at, legal, bars) (front', bad', rest', same', at', legal', bars') =
+pub verdict_unique : VerdictsAreOne
+verdict_unique limits history Legal Legal a b = refl
+verdict_unique limits history Legal (FirstIllegal position) a b = absurd (legal-none limits history position a b)
+verdict_unique limits history (FirstIllegal position) Legal a b = absurd (legal-none limits history position b a)
+verdict_unique limits history (FirstIllegal position) (FirstIllegal position') (front, bad, rest, same, at, legal, bars) (front', bad', rest', same', at', legal', bars') =
     let one = ends-before limits [] front bad rest front' (bad' ∷ rest') (sym same ∙ same') legal' bars in
     let other = ends-before limits [] front' bad' rest' front (bad ∷ rest) (sym same' ∙ same) legal bars' in
     ap FirstIllegal (omega (arith, at, at', one, other))
@@ -50,5 +50,5 @@ module _ (limits : Sizes) (h : List Event) (i : ℕ) (d : Event) (within : i < l
       (take i h, get_or h i d, drop (suc i) h, split-at, position, legal, bars)
 
 -- the rule's state after one event more
-pub state-next : (v : RuleView (Unit {0})) (h : List Event) (i : ℕ) (d : Event) → i < length h → IsStateOf (take i h ++ get_or h i d ∷ []) v → IsStateOf (take (i + 1) h) v
-state-next v h i d within state = rw (add-one, take-suc h i d within) state
+pub state_next : (v : RuleView (Unit {0})) (h : List Event) (i : ℕ) (d : Event) → i < length h → IsStateOf (take i h ++ get_or h i d ∷ []) v → IsStateOf (take (i + 1) h) v
+state_next v h i d within state = rw (add-one, take-suc h i d within) state

@@ -43,6 +43,7 @@ pub enum Verdict {
 /// let verdict = audit(alloc, &limits, &[Event::Close, Event::Close])?;
 /// assert_eq!(rt; verdict, Verdict::FirstIllegal(2));
 /// ```
+#[tactic(auto, using(crate::proofs::VerdictLaws::state_next))]
 pub fn audit(alloc: Global, limits: &Limits, history: &[Event]) -> Result<Verdict, AdmitError>
     ensures verdict { IfOk result (IsVerdict limits.now history.now) }
     ensures memory { IfErr result (λ e. e ≡ AdmitError.Memory) }
@@ -58,11 +59,13 @@ pub fn audit(alloc: Global, limits: &Limits, history: &[Event]) -> Result<Verdic
 
 /// The law of verdicts: a history has one at most. So an audit answers `Legal` exactly where the
 /// history is legal, and a position exactly where the first illegal event stands there.
+#[tactic(auto, using(crate::proofs::VerdictLaws::verdict_unique))]
 pub fn verdicts_are_one()
     ensures { VerdictsAreOne }
 {}
 
 // Takes the rule one event further, and says whether it allows it. Errors: `Memory`, of a submission.
+#[tactic(auto, using(crate::proofs::RefusalLaws::barred))]
 fn follow(rule: &mut Rule<()>, event: Event) -> Result<bool, AdmitError>
     requires { rule.old.unpicked ≡ [] }
     ensures allowed { IfOk result (λ allowed. OnTrue allowed (Follows rule.old event rule.new)) }
@@ -98,17 +101,18 @@ fn follow_submission(rule: &mut Rule<()>, id: Id, reply: Reply) -> Result<bool, 
         return Ok(false);
     }
     rule.reserve_caller(id.caller)?;
-    submit_and_pick(rule, id);
+    submit_and_pick(rule, id, reply);
     Ok(true)
 }
 
-// Submits what is known to be next, which the rule answers as `next_reply` told. A job that gets a worker
-// of its own is picked at once.
-fn submit_and_pick(rule: &mut Rule<()>, id: Id)
+// Submits what is known to be next, and is answered by this reply. A job that gets a worker of its own is picked
+// at once.
+fn submit_and_pick(rule: &mut Rule<()>, id: Id, reply: Reply)
     requires picked { rule.old.unpicked ≡ [] }
     requires known { id.caller < length rule.old.made }
     requires next { id.number ≡ suc (made_by rule.old id.caller) }
-    ensures follows { Follows rule.old (Event.Submit id (next_reply rule.old)) rule.new }
+    requires answer { reply ≡ next_reply rule.old }
+    ensures follows { Follows rule.old (Event.Submit id reply) rule.new }
     ensures picked { rule.new.unpicked ≡ [] }
     ensures limits { rule.new.limits ≡ rule.old.limits }
 {
