@@ -89,10 +89,7 @@ module _ (limits : Sizes) where
         let k = tracked x in
         let parts = accepted-parts h x in
         let left = times-left (finished h) (started h) (taken h) x in
-        elim (cases_Bool (is_among x (finished h))) [
-          | inl is ↦ let runs = left ∙ ap (λ b. cond b 0 (times x (started h) + times x (taken h))) is in let some = somewhere x (finished h) is in omega (arith, some, parts, runs, k.once, k.lined, k.ran)
-          | inr is ↦ let runs = left ∙ ap (λ b. cond b 0 (times x (started h) + times x (taken h))) is in let none = nowhere x (finished h) is in omega (arith, none, runs)
-        ]
+        grind (arith, parts, left, k.once, k.lined, k.ran, somewhere x (finished h), nowhere x (finished h), cases_Bool (is_among x (finished h)))
 
     pub as-many : length (running h) + length (finished h) ≡ length (started h) + length (taken h)
     as-many =

@@ -73,8 +73,8 @@ queue-line limits h legal = holds-legal limits (λ h. queued h ≡ taken h ++ wa
     line-push h e line allowed =
         let few : length (taken h) ≤ length (queued h) = omega (arith, ap length line ∙ length-append (taken h) (waiting h)) in
         rw (waiting-more h e few, filter_map-append queued_id h (e ∷ []), filter_map-append taken_id h (e ∷ []))
-        (ap (λ (ids : List Id). ids ++ queued (e ∷ [])) line ∙ append_assoc (taken h) (waiting h) (queued (e ∷ [])) ∙ ap (λ (ids : List Id). taken h ++ ids) (front h e allowed)
-        ∙ sym (append_assoc (taken h) (taken (e ∷ [])) _))
+        (ap (λ (ids : List Id). ids ++ queued (e ∷ [])) line ∙ append_assoc (taken h) (waiting h) (queued (e ∷ []))
+        ∙ ap (λ (ids : List Id). taken h ++ ids) (front h e allowed) ∙ sym (append_assoc (taken h) (taken (e ∷ [])) _))
 
 pub taken-le : (limits : Sizes) (h : List Event) → IsLegal limits h → length (taken h) ≤ length (queued h)
 taken-le limits h legal = omega (arith, ap length (queue-line limits h legal) ∙ length-append (taken h) (waiting h))

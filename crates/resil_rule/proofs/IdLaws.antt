@@ -43,4 +43,5 @@ in_flight-running h picked id out =
     let early = take picked (started h) in
     let before = among-unfinished (finished h) early (taken h) id in
     let all = among-unfinished (finished h) (started h) (taken h) id in
-    grind (arith, out, before, all, among-take picked id (started h), cases_Bool (is_among id (finished h)), cases_Bool (is_among id early), cases_Bool (is_among id (taken h)))
+    let among = among-take picked id (started h) in
+    grind (arith, out, before, all, among, cases_Bool (is_among id (finished h)), cases_Bool (is_among id early), cases_Bool (is_among id (taken h)))

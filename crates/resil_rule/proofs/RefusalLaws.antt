@@ -49,12 +49,14 @@ module _ {W : Type 0} (v : RuleView W) (h : List Event) (state : IsStateOf h v) 
   -- the jobs that are out are those that were picked or taken, and aren't finished
   pub out-are : (id : Id) → is_among id (ids_out v.out) ≡ is_among id (unfinished h (take (length (started h) - length v.unpicked) (started h) ++ taken h))
   out-are id =
-      let picked = take (length (started h) - length v.unpicked) (started h) in
-      let split = ap (times id) (sym (take-append-drop (length (started h) - length v.unpicked) (started h))) ∙ times-append id picked (drop (length (started h) - length v.unpicked) (started h)) in
+      let count = length (started h) - length v.unpicked in
+      let picked = take count (started h) in
+      let split = ap (times id) (sym (take-append-drop count (started h))) ∙ times-append id picked (drop count (started h)) in
       let later = ap (times id) state.unpicked in
       let all = times-left (finished h) (started h) (taken h) id in
       let left = times-left (finished h) picked (taken h) id in
-      let same : times id (ids_out v.out) ≡ times id (unfinished h (picked ++ taken h)) = grind (arith, state.runs id, split, later, all, left, cases_Bool (is_among id (finished h))) in
+      let same : times id (ids_out v.out) ≡ times id (unfinished h (picked ++ taken h)) =
+      grind (arith, state.runs id, split, later, all, left, cases_Bool (is_among id (finished h))) in
       among-times id (ids_out v.out) ∙ ap is_positive same ∙ sym (among-times id (unfinished h (picked ++ taken h)))
 
 -- a submission that is next is answered by the rule: it is accepted, or refused as an event
@@ -66,9 +68,11 @@ module _ {W : Type 0} (v after : RuleView W) (id : Id) (work : W) (known : id.ca
   refused-by Closed is = (ap is_acceptance is.0, is.1, subst (λ (reply : Reply). Follows v (Submit id reply) after) (sym is.0) is.2)
 
   -- the submission is the event; where the rule accepts it, it has its worker or its place in the queue, and where it doesn't, it is counted alone
-  answered : (result : Result Reply (Refusal × W)) → IfOk result (λ reply. (reply ≡ next_reply v) × (is_acceptance reply ≡ true) × (after ≡ with_submission v id work reply))
+  answered : (result : Result Reply (Refusal × W))
+      → IfOk result (λ reply. (reply ≡ next_reply v) × (is_acceptance reply ≡ true) × (after ≡ with_submission v id work reply))
       → IfOk result (λ reply. Follows v (Submit id reply) after) → IfErr result (λ e. IsSubmitRefusal v id e.0 after)
-      → Follows v (Submit id (next_reply v)) after × (is_acceptance (next_reply v) ≡ true → after ≡ with_submission v id work (next_reply v)) × (is_acceptance (next_reply v) ≡ false → after ≡ counted v id)
+      → Follows v (Submit id (next_reply v)) after × (is_acceptance (next_reply v) ≡ true → after ≡ with_submission v id work (next_reply v))
+      × (is_acceptance (next_reply v) ≡ false → after ≡ counted v id)
   answered (Ok reply) a f r = rw (← a.0) (f, (λ _. a.2), (λ bars. absurd (cc (bars, a.1))))
   answered (Err e) a f r = let is = refused-by e.0 r in (is.2, (λ accepts. absurd (cc (accepts, is.0))), (λ _. is.1))
 

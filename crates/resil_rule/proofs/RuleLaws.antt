@@ -10,7 +10,7 @@ use Rattle.resil_rule.specs.Limits.{Sizes}
 use Rattle.resil_rule.specs.Admission.{IsAllowed, IsLegal, reply_after}
 use Rattle.resil_rule.specs.History.{times, started, queued, accepted, finished, taken, running, waiting, workers, next_number, is_submit_of, is_idle_end, is_close, is_closed, started_id, taken_id, finished_id}
 use Rattle.resil_rule.specs.Numbers.{AreNumbersOf, AreSizesOf}
-use Rattle.resil_rule.specs.RuleView.{RuleView, ids_of, opened, busy, made_by, next_reply, with_start, with_submission, with_pick, with_take, with_finish, with_close, with_idle_end, with_sizes, MayEndIdle}
+use Rattle.resil_rule.specs.RuleView.{RuleView, ids_of, opened, busy, made_by, next_reply, counted, with_start, with_submission, with_pick, with_take, with_finish, with_close, with_idle_end, with_sizes, MayEndIdle}
 use Rattle.resil_rule.specs.RuleState.{IsStateOf, Follows, StaysAt}
 use Rattle.resil_rule.specs.Slots.{ids_out}
 use Rattle.resil_rule.specs.declared.slots.Slot.{Slot}
@@ -116,17 +116,24 @@ module _ {W : Type 0} (v : RuleView W) (h : List Event) (state : IsStateOf h v) 
     same-ids : (jobs : List (Id × W)) → ids_of jobs ≡ ids_of jobs ++ []
     same-ids jobs = sym (append-nil (ids_of jobs))
 
-    by : (reply : Reply) (count : ℕ) (unpicked waits : List (Id × W)) → IsAllowed v.limits h (Submit id reply) → count + 0 ≡ v.workers + length (started (Submit id reply ∷ []))
+    one-more : (jobs : List (Id × W)) (work : W) → ids_of (jobs ++ (id, work) ∷ []) ≡ ids_of jobs ++ id ∷ []
+    one-more jobs work = map-append (λ job. job.0) jobs ((id, work) ∷ [])
+
+    by : (reply : Reply) (count : ℕ) (unpicked waits : List (Id × W)) → IsAllowed v.limits h (Submit id reply)
+        → count + 0 ≡ v.workers + length (started (Submit id reply ∷ []))
         → ids_of unpicked ≡ ids_of v.unpicked ++ started (Submit id reply ∷ []) → ids_of waits ≡ ids_of v.waiting ++ queued (Submit id reply ∷ [])
-        → IsStateOf (h ++ Submit id reply ∷ []) (record v { made = slice_set v.made id.caller id.number; workers = count; unpicked = unpicked; waiting = waits })
+        → IsStateOf (h ++ Submit id reply ∷ []) (record (counted v id) { workers = count; unpicked = unpicked; waiting = waits })
     by reply count unpicked waits allowed works started_is queued_is =
-        goes-on (Submit id reply) _ allowed (refl, sym (or-false v.closed), works) (started_is, queued_is, (λ x. refl)) (sizes-quiet v.limits h (Submit id reply) v.core v.max refl refl state.sizes) made-after
+        goes-on (Submit id reply) _ allowed (refl, sym (or-false v.closed), works) (started_is, queued_is, (λ x. refl))
+        (sizes-quiet v.limits h (Submit id reply) v.core v.max refl refl state.sizes) made-after
 
     -- a submission with its answer
     submits : (work : W) (reply : Reply) → IsAllowed v.limits h (Submit id reply) → IsStateOf (h ++ Submit id reply ∷ []) (with_submission v id work reply)
-    submits work Core allowed = by Core (v.workers + 1) (v.unpicked ++ (id, work) ∷ []) v.waiting allowed (omega arith) (map-append (λ job. job.0) v.unpicked _) (same-ids v.waiting)
-    submits work Extra allowed = by Extra (v.workers + 1) (v.unpicked ++ (id, work) ∷ []) v.waiting allowed (omega arith) (map-append (λ job. job.0) v.unpicked _) (same-ids v.waiting)
-    submits work Queued allowed = by Queued v.workers v.unpicked (v.waiting ++ (id, work) ∷ []) allowed refl (same-ids v.unpicked) (map-append (λ job. job.0) v.waiting _)
+    submits work Core allowed =
+        by Core (v.workers + 1) (v.unpicked ++ (id, work) ∷ []) v.waiting allowed (omega arith) (one-more v.unpicked work) (same-ids v.waiting)
+    submits work Extra allowed =
+        by Extra (v.workers + 1) (v.unpicked ++ (id, work) ∷ []) v.waiting allowed (omega arith) (one-more v.unpicked work) (same-ids v.waiting)
+    submits work Queued allowed = by Queued v.workers v.unpicked (v.waiting ++ (id, work) ∷ []) allowed refl (same-ids v.unpicked) (one-more v.waiting work)
     submits work reply allowed = by reply v.workers v.unpicked v.waiting allowed refl (same-ids v.unpicked) (same-ids v.waiting)
 
 module _ {W : Type 0} where

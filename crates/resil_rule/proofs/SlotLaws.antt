@@ -1,6 +1,7 @@
 -- A job gets a place, and leaves it.
 use Rattle.std.proofs.Common.{◌≡◌, ◌≢◌, ◌<◌, ◌≤◌, ◌+◌, ◌∷◌, [], ◌++◌, ◌∙◌, ℕ, zero, suc, Bool, true, false, cond, List, Option, Some, None, length, position, is_none, replicate, get_or, slice_get, slice_set, refl, sym, ap, arith, length-append, length-set}
 use Rattle.std.specs.List.{position_from}
+use Rattle.std.proofs.lemmas.Bool.{cases_Bool}
 use Rattle.std.proofs.lemmas.List.Quantifiers.{position-Some}
 use Rattle.std.proofs.lemmas.List.{length-replicate}
 use Rattle.std.proofs.lemmas.Option.{slice_get-get_or}
@@ -63,11 +64,7 @@ found-there id places i h =
 nowhere-from : (id : Id) (places : List (Option Id)) (n : ℕ) → position_from (is_of id) n places ≡ None → is_among id (ids_out places) ≡ false
 nowhere-from id [] n h = refl
 nowhere-from id (None ∷ places) n h = nowhere-from id places (n + 1) h
-nowhere-from id (Some y ∷ places) n h = go (nowhere-from id places (n + 1)) (is_same_id id y) refl
-  where
-    go : (position_from (is_of id) (n + 1) places ≡ None → is_among id (ids_out places) ≡ false) → (b : Bool) → is_same_id id y ≡ b → is_among id (y ∷ ids_out places) ≡ false
-    go later true same = absurd (cc (rw same at h))
-    go later false other = rw (other, later (rw other at h)) refl
+nowhere-from id (Some y ∷ places) n h = grind (arith, h, nowhere-from id places (n + 1), cases_Bool (is_same_id id y))
 
 pub nowhere-out : (id : Id) (places : List (Option Id)) → position (is_of id) places ≡ None → is_among id (ids_out places) ≡ false
 nowhere-out id places h = nowhere-from id places 0 (sym (position_from-zero (is_of id) places) ∙ h)
@@ -78,7 +75,8 @@ full-from [] n h = refl
 full-from (None ∷ places) n h = absurd (cc h)
 full-from (Some id ∷ places) n h = ap suc (full-from places (n + 1) h)
 
-pub free-found : (places : List (Option Id)) → length (ids_out places) < length places → (i : ℕ) × (position is_none places ≡ Some i) × (slice_get places i ≡ Some None)
+pub free-found : (places : List (Option Id)) → length (ids_out places) < length places
+    → (i : ℕ) × (position is_none places ≡ Some i) × (slice_get places i ≡ Some None)
 free-found places few = go (position is_none places) refl
   where
     free : (o : Option Id) → is_none o ≡ true → o ≡ None
@@ -94,6 +92,9 @@ free-found places few = go (position is_none places) refl
 pub none-out : (count : ℕ) → ids_out (replicate count None) ≡ []
 none-out zero = refl
 none-out (suc count) = none-out count
+
+-- the law of a job that isn't found, under a name that code can cite
+pub ruleset unfound = (nowhere-out)
 
 -- how many jobs are out after each change, and that one more finds a place
 pub ruleset places = (put-length, clear-length, none-out, free-found, length-set, length-replicate)

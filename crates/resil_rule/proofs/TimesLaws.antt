@@ -31,13 +31,9 @@ abbrev pub is_positive : ℕ → Bool
 is_positive zero = false
 is_positive (suc n) = true
 
-among-here : (s : Bool) (x y : Id) (ids F : List Id) → is_among x ids ≡ is_positive (length F) → (s || is_among x ids) ≡ is_positive (length (cond s (y ∷ F) F))
-among-here true x y ids F ih = refl
-among-here false x y ids F ih = ih
-
 pub among-times : (x : Id) (ids : List Id) → is_among x ids ≡ is_positive (times x ids)
 among-times x [] = refl
-among-times x (y ∷ ids) = among-here (is_same_id x y) x y ids (filter (is_same_id x) ids) (among-times x ids)
+among-times x (y ∷ ids) = grind (arith, among-times x ids, cases_Bool (is_same_id x y))
 
 -- an id stands among ids, and how often
 none-or-some : (n : ℕ) → ((n ≡ 0) × (is_positive n ≡ false)) ⊎ ((1 ≤ n) × (is_positive n ≡ true))

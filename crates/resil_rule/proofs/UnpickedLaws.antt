@@ -1,6 +1,6 @@
 -- The jobs that aren't picked yet, after one more event or one more pick.
 use Rattle.std.proofs.Common.{◌≡◌, ◌+◌, ◌∷◌, [], ◌++◌, ◌∙◌, ℕ, zero, suc, List, Option, Some, None, map, drop, slice_get, filter_map, refl, sym, ap, append-nil}
-use Rattle.std.proofs.lemmas.List.{drop-drop}
+use Rattle.std.proofs.lemmas.List.{drop-drop, drop-map}
 use Rattle.std.specs.List.{cons_option}
 use Rattle.std.proofs.lemmas.List.Elements.{filter_map-append}
 use Rattle.resil_rule.specs.declared.event.Id.{Id}
@@ -42,11 +42,7 @@ module _ {B : Type 0} (line : List (Id × B)) (ids : List Id) (n : ℕ) (same : 
 
   -- without the first job
   pub line-next : map (λ job. job.0) (drop 1 line) ≡ drop (n + 1) ids
-  line-next = map-drop line ∙ ap (drop 1) same ∙ sym (drop-suc n ids)
-    where
-      map-drop : (line : List (Id × B)) → map (λ job. job.0) (drop 1 line) ≡ drop 1 (map (λ job. job.0) line)
-      map-drop [] = refl
-      map-drop (job ∷ line) = refl
+  line-next = sym (drop-map (λ job. job.0) 1 line) ∙ ap (drop 1) same ∙ sym (drop-suc n ids)
 
   pub line-none : line ≡ [] → slice_get ids n ≡ None
   line-none empty = slice_get-from n ids ∙ ap (λ xs. slice_get xs 0) (sym same ∙ ap (map (λ job. job.0)) empty)

@@ -50,5 +50,6 @@ module _ (limits : Sizes) (h : List Event) (i : ℕ) (d : Event) (within : i < l
       (take i h, get_or h i d, drop (suc i) h, split-at, position, legal, bars)
 
 -- the rule's state after one event more
-pub state_next : (v : RuleView (Unit {0})) (h : List Event) (i : ℕ) (d : Event) → i < length h → IsStateOf (take i h ++ get_or h i d ∷ []) v → IsStateOf (take (i + 1) h) v
+pub state_next : (v : RuleView (Unit {0})) (h : List Event) (i : ℕ) (d : Event) → i < length h → IsStateOf (take i h ++ get_or h i d ∷ []) v
+    → IsStateOf (take (i + 1) h) v
 state_next v h i d within state = rw (add-one, take-suc h i d within) state

@@ -26,7 +26,8 @@ workers-push : (h : List Event) (e : Event) → workers (h ++ e ∷ []) ≤ work
 workers-push h e = let s = count-more started_id h e in let i = ends-more h e in omega (arith, s, i)
 
 -- the sizes stay within the opening's where an event sets none
-same-sizes : (limits : Sizes) (h : List Event) (e : Event) → AreWithin limits h → new_core e ≡ None → new_max e ≡ None → workers (h ++ e ∷ []) ≤ limits.max → AreWithin limits (h ++ e ∷ [])
+same-sizes : (limits : Sizes) (h : List Event) (e : Event) → AreWithin limits h → new_core e ≡ None → new_max e ≡ None
+    → workers (h ++ e ∷ []) ≤ limits.max → AreWithin limits (h ++ e ∷ [])
 same-sizes limits h e within no_core no_max few =
     let sizes = sizes-quiet limits h e (core_size limits h) (max_size limits h) no_core no_max (record { core_is = refl; max_is = refl }) in
     record { workers_few = few; core_small = omega (arith, sizes.core_is, within.core_small); max_small = omega (arith, sizes.max_is, within.max_small) }
@@ -35,12 +36,17 @@ within-push : (limits : Sizes) (h : List Event) (e : Event) → AreWithin limits
 -- a submission gets a worker only where there are fewer workers than a size
 within-push limits h (Submit id reply) within allowed =
     let one = workers-push h (Submit id reply) in
-    let few : workers h + length (started (Submit id reply ∷ [])) ≤ limits.max = rw allowed.1 (grind (arith, common_steps, cases_Bool (is_closed h), within.workers_few, within.core_small, within.max_small)) in
+    let few : workers h + length (started (Submit id reply ∷ [])) ≤ limits.max =
+    rw allowed.1 (grind (arith, common_steps, cases_Bool (is_closed h), within.workers_few, within.core_small, within.max_small)) in
     same-sizes limits h (Submit id reply) within refl refl (omega (arith, one, few))
 within-push limits h (Resized core max) within allowed =
     let one = workers-push h (Resized core max) in
     let sizes = sizes-resized limits h core max in
-    record { workers_few = omega (arith, one, within.workers_few); core_small = omega (arith, sizes.core_is, allowed.1, allowed.2); max_small = omega (arith, sizes.max_is, allowed.2) }
+    record {
+      workers_few = omega (arith, one, within.workers_few);
+      core_small = omega (arith, sizes.core_is, allowed.1, allowed.2);
+      max_small = omega (arith, sizes.max_is, allowed.2);
+    }
 within-push limits h e within allowed = let one = workers-push h e in same-sizes limits h e within refl refl (omega (arith, one, within.workers_few))
 
 pub workers-within_opening : WorkersWithinOpening

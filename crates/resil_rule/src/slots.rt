@@ -97,6 +97,7 @@ impl Slots {
     }
 
     // Where a job is, if it is out. It looks through all places.
+    #[tactic(auto, using(crate::proofs::SlotLaws::unfound))]
     pub(crate) fn find(&self, id: Id) -> Option<usize>
         ensures found { IfSome result (λ place. slice_get self.now place ≡ Some (Some id)) }
         ensures none { IfNone result (is_among id (ids_out self.now) ≡ false) }
