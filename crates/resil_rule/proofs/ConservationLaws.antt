@@ -1,5 +1,5 @@
 -- In a legal history each accepted job waits, runs or is finished, and is one of these, once.
-use Rattle.std.proofs.Common.{◌≡◌, ◌≤◌, ◌+◌, ◌∷◌, [], ◌++◌, ◌∙◌, ℕ, Bool, true, false, cond, inl, inr, List, Option, Some, None, length, take, slice_get, refl, sym, ap, arith, length-append}
+use Rattle.std.proofs.Common.{◌≡◌, ◌≤◌, ◌+◌, ◌∷◌, [], ◌++◌, ◌∙◌, ℕ, true, false, cond, inl, inr, List, Option, Some, None, length, take, slice_get, refl, sym, ap, arith, length-append}
 use Rattle.std.specs.List.{cons_option}
 use Rattle.std.proofs.lemmas.Bool.{cases_Bool}
 use Rattle.resil_rule.specs.Limits.{Sizes}
@@ -42,9 +42,9 @@ module _ (limits : Sizes) where
     accepted-few : (h : List Event) (e : Event) → IsLegal limits h → times x (accepted h) ≤ 1 → IsAllowed limits h e → times x (accepted h) + times x (accepted (e ∷ [])) ≤ 1
     accepted-few h e legal once allowed = elim (cases_Bool (is_among x (accepted (e ∷ [])))) [
       | inl new ↦
-            let none = nowhere x (accepted h) (next-fresh limits h x legal (new-number limits h e x allowed new).0) in
-            let one = one-most x (accepted_id e) in
-            omega (arith, none, one)
+          let none = nowhere x (accepted h) (next-fresh limits h x legal (new-number limits h e x allowed new).0) in
+          let one = one-most x (accepted_id e) in
+          omega (arith, none, one)
       | inr old ↦ let none = nowhere x (accepted (e ∷ [])) old in omega (arith, once, none)
     ]
 
@@ -56,8 +56,8 @@ module _ (limits : Sizes) where
         elim (cases_Bool (is_same_id x id)) [
           -- what runs was started or taken, and isn't finished
           | inl same ↦
-                let some : 1 ≤ times x (running h) = somewhere x (running h) (ap (λ i. is_among i (running h)) (same_id-equal x id same) ∙ allowed) in
-                grind (arith, one, same, some, left, nowhere x (finished h), cases_Bool (is_among x (finished h)))
+              let some : 1 ≤ times x (running h) = somewhere x (running h) (ap (λ i. is_among i (running h)) (same_id-equal x id same) ∙ allowed) in
+              grind (arith, one, same, some, left, nowhere x (finished h), cases_Bool (is_among x (finished h)))
           | inr other ↦ let none = one ∙ ap (λ b. cond b 1 0) other in omega (arith, ran, none)
         ]
     finished-few h e ran allowed = omega (arith, ran)

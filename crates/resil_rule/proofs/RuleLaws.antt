@@ -1,5 +1,5 @@
 -- Each step of the rule follows the definitions, after every history that its state may stand for.
-use Rattle.std.proofs.Common.{◌⊎◌, inl, inr, ◌≡◌, ◌≢◌, ◌<◌, ◌≤◌, ◌+◌, ◌-◌, ◌∷◌, [], ◌++◌, ◌∙◌, ◌||◌, ◌==◌, ℕ, zero, suc, Bool, true, false, cond, List, Option, Some, None, length, filter, drop, replicate, slice_get, slice_set, slice_index_or, refl, sym, ap, arith, append-nil, length-append, length-drop, get_or-set_same, get_or-set_other}
+use Rattle.std.proofs.Common.{◌⊎◌, inl, inr, ◌≡◌, ◌<◌, ◌≤◌, ◌+◌, ◌-◌, ◌∷◌, [], ◌++◌, ◌∙◌, ◌||◌, ◌==◌, ℕ, suc, Bool, false, cond, List, Option, Some, None, length, filter, drop, slice_get, slice_set, slice_index_or, refl, sym, ap, arith, append-nil, length-append, length-drop}
 use Rattle.std.proofs.Math.Bool.{or-false}
 use Rattle.std.proofs.lemmas.Bool.{cases_lt}
 use Rattle.std.proofs.lemmas.Grind.{common_steps}

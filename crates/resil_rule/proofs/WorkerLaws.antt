@@ -1,16 +1,12 @@
 -- The workers of a legal history, and the greatest size of the opening.
-use Rattle.std.specs.Prelude.{nat_lt, if◌then◌else◌}
-use Rattle.std.proofs.Common.{◌≡◌, ◌≤◌, ◌+◌, ◌∷◌, [], ◌++◌, Bool, true, false, List, None, length, refl, arith}
+use Rattle.std.proofs.Common.{◌≡◌, ◌≤◌, ◌+◌, ◌∷◌, [], ◌++◌, List, None, length, refl, arith}
 use Rattle.std.proofs.lemmas.Bool.{cases_Bool}
 use Rattle.std.proofs.lemmas.Grind.{common_steps}
 use Rattle.resil_rule.specs.Limits.{Sizes}
-use Rattle.resil_rule.specs.declared.event.Id.{Id}
-use Rattle.resil_rule.specs.declared.event.Reply.{Reply}
-use Rattle.resil_rule.specs.declared.event.Reply.TheVariants.{Core, Queued, Extra, Full, Closed}
 use Rattle.resil_rule.specs.declared.event.Event.{Event}
 use Rattle.resil_rule.specs.declared.event.Event.TheVariants.{Submit, Resized}
-use Rattle.resil_rule.specs.History.{workers, waiting, started, started_id, is_closed, new_core, new_max, core_size, max_size}
-use Rattle.resil_rule.specs.Admission.{IsAllowed, WorkersWithinOpening, reply_after}
+use Rattle.resil_rule.specs.History.{workers, started, started_id, is_closed, new_core, new_max, core_size, max_size}
+use Rattle.resil_rule.specs.Admission.{IsAllowed, WorkersWithinOpening}
 use Rattle.resil_rule.proofs.EventLaws.{count-more, ends-more}
 use Rattle.resil_rule.proofs.FreshLaws.{holds-legal}
 use Rattle.resil_rule.proofs.SizeLaws.{sizes-quiet, sizes-resized}

@@ -1,5 +1,4 @@
-use Rattle.std.proofs.Common.{◌∙◌, None, refl, arith, length-set}
-use Rattle.resil_rule.proofs.SlotLaws.{clear-length}
+use Rattle.std.proofs.Common.{refl}
 use Rattle.resil_rule.proofs.RuleLaws.{finish-follows}
 use Rattle.resil_rule.proofs.rule.Rule.finish.Goals as goal
 

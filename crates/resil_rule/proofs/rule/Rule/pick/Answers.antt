@@ -1,8 +1,6 @@
-use Rattle.std.proofs.Common.{◌≡◌, ◌<◌, ◌+◌, ◌∙◌, length, drop, Some, sym, ap, refl, inl, inr, arith, length-set}
+use Rattle.std.proofs.Common.{◌≡◌, ◌<◌, ◌+◌, ◌∙◌, length, drop, sym, ap, refl, inl, inr, arith}
 use Rattle.resil_rule.specs.Slots.{ids_out}
 use Rattle.resil_rule.specs.declared.slots.Slot.{Slot}
-use Rattle.resil_rule.proofs.EventLaws.{front-is}
-use Rattle.resil_rule.proofs.SlotLaws.{put-length}
 use Rattle.resil_rule.proofs.RuleLaws.{pick-stays, take-follows, empty-of}
 use Rattle.resil_rule.proofs.rule.Rule.pick.Goals as goal
 
