@@ -6,7 +6,7 @@
 //! of one, has the rule's promises of it by that.
 //!
 //! `new` takes all room, and `reserve_caller` more of it for callers. No other call allocates, or looks
-//! through what came before.
+//! through what came before. `pick` looks through the places of jobs, `Limits::MAX_WORKERS` at most.
 
 ghost use Rattle.std.specs.Prelude.{◌≡◌, ◌↔◌, ◌≤◌, ◌<◌, ◌-◌, ◌+◌, ℕ, None as nothing, Some, [], max, suc, true, false, length, option_map, slice_get, slice_index_or, IsTrue, IsOk, IfOk, IfErr, IfSome, IfNone, OnOk, OnErr};
 ghost use Rattle.std.specs.Bool.{OnTrue, OnFalse};
