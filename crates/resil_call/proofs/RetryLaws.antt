@@ -18,19 +18,12 @@ IsAnswerAt-by Post R by s answer next given =
     subst (λ x. R x answer next) given.shows (subst (R given.lent.now answer) given.leaves (by given.lent given.left answer given.met))
 
 module _ {T S : Type 0} (CanCall : S → Type 0) (IsAnswer : S → T → S → Type 0) (HasRoom : S → ℕ → Type 0) (IsPaused : S → ℕ → S → Type 0) where
-  -- what the tries to come ask of a value, and of what a call leaves
-  pub CanTry-now : (left : ℕ) (s : S) → CanTry CanCall IsAnswer HasRoom IsPaused (suc left) s → CanCall s
+  -- what the tries to come ask of a value, and of what a call and a pause leave
+  pub CanTry-more : (left : ℕ) (s : S) → CanTry CanCall IsAnswer HasRoom IsPaused (suc left) s → CanCall s
+      × ((answer : T) (next : S) → IsAnswer s answer next → 1 ≤ left
+      → ((more : ℕ) × HasRoom next (1 + more)) × ((wait : ℕ) (later : S) → IsPaused next wait later → CanTry CanCall IsAnswer HasRoom IsPaused left later))
   unfolding CanTry
-  CanTry-now left s can = can.0
-
-  pub CanTry-pause : (left : ℕ) (s : S) (answer : T) (next : S) → CanTry CanCall IsAnswer HasRoom IsPaused (suc left) s → IsAnswer s answer next → 1 ≤ left → (more : ℕ) × HasRoom next (1 + more)
-  unfolding CanTry
-  CanTry-pause left s answer next can called some = (can.1 answer next called some).0
-
-  pub CanTry-next : (left : ℕ) (s : S) (answer : T) (next : S) (wait : ℕ) (later : S) → CanTry CanCall IsAnswer HasRoom IsPaused (suc left) s → IsAnswer s answer next → 1 ≤ left → IsPaused next wait later
-      → CanTry CanCall IsAnswer HasRoom IsPaused left later
-  unfolding CanTry
-  CanTry-next left s answer next wait later can called some paused = (can.1 answer next called some).1 wait later paused
+  CanTry-more left s can = can
 
   -- the tries to come, from what is asked at each of them
   pub CanTry-by : (J : ℕ → S → Type 0) → ((left : ℕ) (s : S) → J (suc left) s → CanCall s)

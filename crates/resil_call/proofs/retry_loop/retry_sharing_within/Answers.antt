@@ -1,6 +1,6 @@
 use Rattle.std.proofs.Common.{◌≡◌, ◌<◌, ◌≤◌, ◌+◌, ◌-◌, suc, refl, sym, arith, subst}
 use Rattle.resil_call.specs.Sharing.{CanCallAt, CanTry, IsAnswerAt}
-use Rattle.resil_call.proofs.RetryLaws.{SoFar-start, SoFar-again, SoFar-ended, CanTry-now, CanTry-pause, CanTry-next}
+use Rattle.resil_call.proofs.RetryLaws.{SoFar-start, SoFar-again, SoFar-ended, CanTry-more}
 use Rattle.resil_call.proofs.retry_loop.retry_sharing_within.Goals as goal
 
 pub loop-answer-init : goal.loop-answer-init
@@ -16,7 +16,7 @@ loop-answer-init g c =
     )
 
 pub call-answer-requires : goal.call-answer-requires
-call-answer-requires g c = CanTry-now _ _ _ _ _ _ c.loop-answer.invariant.1.2 _ refl
+call-answer-requires g c = (CanTry-more _ _ _ _ _ _ c.loop-answer.invariant.1.2).0 _ refl
 
 pub returns-then-not-is_retried : goal.returns-then-not-is_retried
 returns-then-not-is_retried g c =
@@ -41,7 +41,7 @@ pub pause-requires : goal.pause-requires
 pause-requires g c =
     let left = c.loop-answer.invariant.1 in
     let some_left : 1 ≤ left.0 = omega (arith, left.1, c.if-attempt-policy.false) in
-    CanTry-pause _ _ _ _ left.0 _ _ _ left.2 (record { lent = _; shows = refl; left = _; met = c.call-answer.ensures; leaves = refl }) some_left
+    ((CanTry-more _ _ _ _ left.0 _ left.2).1 _ _ (record { lent = _; shows = refl; left = _; met = c.call-answer.ensures; leaves = refl }) some_left).0
 
 pub loop-answer-preserved : goal.loop-answer-preserved
 loop-answer-preserved g c =
@@ -52,7 +52,7 @@ loop-answer-preserved g c =
     let some_left : 1 ≤ left.0 = omega (arith, left.1, before_last) in
     let one_less : left.0 ≡ suc (left.0 - 1) = omega (arith, some_left) in
     let same : c.loop-answer.attempt + 1 - 1 ≡ c.loop-answer.attempt = omega arith in
-    let can = CanTry-next _ _ _ _ left.0 _ _ _ _ _ left.2 (record { lent = _; shows = refl; left = _; met = c.call-answer.ensures; leaves = refl }) some_left c.pause.ensures.paused in (
+    let can = ((CanTry-more _ _ _ _ left.0 _ left.2).1 _ _ (record { lent = _; shows = refl; left = _; met = c.call-answer.ensures; leaves = refl }) some_left).1 _ _ c.pause.ensures.paused in (
       SoFar-again _ _ _ _ _ _ _ _ _ _ _ c.loop-answer.attempt c.loop-answer.invariant.0 c.call-answer.result _ _ _ (record { lent = _; shows = refl; left = _; met = c.call-answer.ensures; leaves = refl })
           verdict before_last c.next_for-wait.ensures.wait allowed c.pause.ensures.paused,
       (

@@ -1,5 +1,5 @@
-use Rattle.std.proofs.Common.{rules, sym}
-use Rattle.resil_call.proofs.SharedLaws.{parts_of_both, CanTry-of_both, IsRetried-of_parts, CanCall-after, same_call, same_pause, HasRoom-after}
+use Rattle.std.proofs.Common.{rules}
+use Rattle.resil_call.proofs.SharedLaws.{CanTry-of_both, IsRetried-of_both, after}
 use Rattle.resil_call.proofs.retry_loop.retry_within.Goals as goal
 
 pub retry_sharing_within-requires-clause-can : goal.retry_sharing_within-requires-clause-can
@@ -8,22 +8,13 @@ retry_sharing_within-requires-clause-can g c =
 
 pub returns-clause-can : goal.returns-clause-can
 returns-clause-can g c =
-    let parts = parts_of_both g.C.Call.CanCall g.C.Call.IsAnswer g.P.Pause.HasRoom g.P.Pause.IsPaused in
-    let after = CanCall-after _ _ _ _ _ _ _ _ _ _ parts _ _ _ _ _ _ _ _ _ c.retry_sharing_within.ensures in
-    let same = sym (same_call _ _ _ _ _ _ _ _ _ _ parts _ _ _ _ _ _ _ _ _ c.retry_sharing_within.ensures) in
-    search rules
+    let (can, (same_call, same_pause, room)) = after g.C.Call.CanCall g.C.Call.IsAnswer g.P.Pause.HasRoom g.P.Pause.IsPaused _ _ _ _ _ _ _ _ _ c.retry_sharing_within.ensures in search rules
 
 pub returns-clause-retried : goal.returns-clause-retried
 returns-clause-retried g c =
-    let parts = parts_of_both g.C.Call.CanCall g.C.Call.IsAnswer g.P.Pause.HasRoom g.P.Pause.IsPaused in
-    let retried = IsRetried-of_parts _ _ _ _ _ _ _ _ _ _ parts _ _ _ _ _ _ _ _ _ c.retry_sharing_within.ensures in
-    let same = sym (same_call _ _ _ _ _ _ _ _ _ _ parts _ _ _ _ _ _ _ _ _ c.retry_sharing_within.ensures) in
-    let same_after = sym (same_pause _ _ _ _ _ _ _ _ _ _ parts _ _ _ _ _ _ _ _ _ c.retry_sharing_within.ensures) in
-    search rules
+    let retried = IsRetried-of_both g.C.Call.CanCall g.C.Call.IsAnswer g.P.Pause.HasRoom g.P.Pause.IsPaused _ _ _ _ _ _ _ _ _ c.retry_sharing_within.ensures in
+    let (can, (same_call, same_pause, room)) = after g.C.Call.CanCall g.C.Call.IsAnswer g.P.Pause.HasRoom g.P.Pause.IsPaused _ _ _ _ _ _ _ _ _ c.retry_sharing_within.ensures in search rules
 
 pub returns-clause-room : goal.returns-clause-room
 returns-clause-room g c =
-    let parts = parts_of_both g.C.Call.CanCall g.C.Call.IsAnswer g.P.Pause.HasRoom g.P.Pause.IsPaused in
-    let room = HasRoom-after _ _ _ _ _ _ _ _ _ _ parts _ _ _ _ _ _ _ _ _ c.retry_sharing_within.ensures in
-    let same = sym (same_pause _ _ _ _ _ _ _ _ _ _ parts _ _ _ _ _ _ _ _ _ c.retry_sharing_within.ensures) in
-    search rules
+    let (can, (same_call, same_pause, room)) = after g.C.Call.CanCall g.C.Call.IsAnswer g.P.Pause.HasRoom g.P.Pause.IsPaused _ _ _ _ _ _ _ _ _ c.retry_sharing_within.ensures in search rules
