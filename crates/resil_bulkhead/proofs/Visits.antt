@@ -1,6 +1,6 @@
 -- A pass that took a permit after it had waited, and gave it back, has held one since its wait.
-use Rattle.std.proofs.Common.{◌≡◌, ℕ, List, [], ◌∷◌, ◌++◌, refl, sym, ap, ◌∙◌, subst}
-use Rattle.resil_permit.specs.declared.event.PermitEvent.{PermitEvent}
+use Rattle.std.proofs.Common.{◌≡◌, ℕ, [], ◌∷◌, ◌++◌, sym, ap, ◌∙◌, subst}
+use Rattle.std.proofs.lemmas.List.{append_assoc}
 use Rattle.resil_permit.specs.declared.event.PermitEvent.TheVariants.{Took, Gave}
 use Rattle.resil_permit.specs.declared.permits.Attempt.TheVariants as tried
 use Rattle.resil_permit.specs.History.{events_of_seat}
@@ -9,14 +9,10 @@ use Rattle.resil_permit.specs.TryAcquire.{IsTry}
 use Rattle.resil_permit.specs.Waits.{HasWaited}
 use Rattle.resil_bulkhead.specs.Execution.{HasHeldPermit}
 
-two_more : (xs : List PermitEvent) (x y : PermitEvent) → (xs ++ x ∷ []) ++ y ∷ [] ≡ xs ++ x ∷ y ∷ []
-two_more [] x y = refl
-two_more (z ∷ zs) x y = ap (λ rest. z ∷ rest) (two_more zs x y)
-
 held : (p inside q : PassView) → IsSamePass p inside → IsSamePass p q → IsTry p inside tried.Taken → AppendsEvent inside (Gave inside.number) (λ _. Unit {0}) q → HasHeldPermit p q
 held p inside q same same' took gave =
     let as_before = subst (λ (s : ℕ). events_of_seat s q.seen ≡ events_of_seat s inside.seen ++ Gave s ∷ []) same.number gave.more_own in
-    let both = ap (λ events. events ++ Gave p.number ∷ []) took.more_own ∙ two_more (events_of_seat p.number p.seen) (Took p.number) (Gave p.number) in
+    let both = ap (λ events. events ++ Gave p.number ∷ []) took.more_own ∙ append_assoc (events_of_seat p.number p.seen) (Took p.number ∷ []) (Gave p.number ∷ []) in
     record { inside = inside; same = same; took = took; gave = gave; own = ap (λ (s : ℕ). events_of_seat s q.seen) same'.number ∙ (as_before ∙ both) }
 
 -- p waited and became `waited`, took a permit and became `inside`, and gave it back

@@ -160,10 +160,7 @@ impl Bulkhead {
         ensures held { held_by pass.new ≡ held_after (held_by pass.old) (attempt_of result) }
         ensures retired { retired_by pass.new ≡ retired_by pass.old }
     {
-        match self.permits.acquire_within(rt, pass, longest) {
-            Acquire::Taken => true,
-            Acquire::Full => false,
-        }
+        self.permits.acquire_within(rt, pass, longest) == Acquire::Taken
     }
 
     /// Releases a permit that the pass holds, and wakes a caller that waits for one, if any does.
