@@ -1,7 +1,7 @@
 -- What a call with retries came to, by its attempts (Resilience4j user guide, Micrometer: the label `kind` of the retry's calls).
 use Rattle.std.specs.Prelude.{Bool, true, false, Result, Ok, Err, nat_lt, if◌then◌else◌}
 use Rattle.resil_call.specs.declared.tried.End.{End}
-use Rattle.resil_call.specs.declared.tried.End.TheVariants.{Accepted, Exhausted, OutOfTime}
+use Rattle.resil_call.specs.declared.tried.End.TheVariants.{Accepted}
 use Rattle.resil_call.specs.declared.tried.Tried.{Tried}
 use Rattle.resil_layers.specs.declared.retry_counts.RetryKind.{RetryKind}
 use Rattle.resil_layers.specs.declared.retry_counts.RetryKind.TheVariants.{SuccessfulWithoutRetry, SuccessfulWithRetry, FailedWithoutRetry, FailedWithRetry}
@@ -9,8 +9,7 @@ use Rattle.resil_layers.specs.declared.retry_counts.RetryKind.TheVariants.{Succe
 -- the last answer isn't to be tried again
 abbrev pub is_accepted : End → Bool
 is_accepted Accepted = true
-is_accepted Exhausted = false
-is_accepted OutOfTime = false
+is_accepted _ = false
 
 -- a value that isn't to be tried again is a success, and all else a failure
 abbrev pub is_success : {T E : Type 0} → Result T E → End → Bool

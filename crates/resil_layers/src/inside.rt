@@ -35,9 +35,6 @@ impl<'a, R: Wait, T: Drop, E: Drop + From<NoPermit>, C: Call<Output = Result<T, 
         × IsCalled C.IsAnswer x.pass y.pass x.call y.call executed × IsAnswerOrRefusal E.from_gives executed answer };
 
     fn call(&mut self) -> Result<T, E> {
-        match self.bulkhead.call(self.rt, &mut self.pass, &mut self.call) {
-            Ok(answer) => answer,
-            Err(refused) => Err(E::from(refused)),
-        }
+        self.bulkhead.call(self.rt, &mut self.pass, &mut self.call)?
     }
 }

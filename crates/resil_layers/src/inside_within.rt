@@ -41,12 +41,7 @@ impl<'a, R: Wait + Clock, T: Drop, E: Drop + From<NoPermit>, C: Call<Output = Re
         × IsCalled C.IsAnswer waited y.pass x.call y.call executed × IsAnswerOrRefusal E.from_gives executed answer };
 
     fn call(&mut self) -> Result<T, E> {
-        match self
-            .bulkhead
-            .call_within(self.rt, &mut self.pass, self.longest, &mut self.call)
-        {
-            Ok(answer) => answer,
-            Err(refused) => Err(E::from(refused)),
-        }
+        self.bulkhead
+            .call_within(self.rt, &mut self.pass, self.longest, &mut self.call)?
     }
 }

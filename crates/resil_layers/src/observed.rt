@@ -114,10 +114,7 @@ pub trait Observe: Call + Sized {
         ensures call { result.call ≡ self }
         ensures told { result.observer.0 ≡ told }
     {
-        Observed {
-            call: self,
-            observer: Inspect(told),
-        }
+        self.observed(Inspect(told))
     }
 
     /// The call, counted by what it answers.
@@ -125,10 +122,7 @@ pub trait Observe: Call + Sized {
         ensures call { result.call ≡ self }
         ensures counts { result.observer.0 ≡ counts }
     {
-        Observed {
-            call: self,
-            observer: Counting(counts),
-        }
+        self.observed(Counting(counts))
     }
 }
 

@@ -1,7 +1,7 @@
 //! Counts of calls that are tried again.
 
-ghost use Rattle.std.specs.Prelude.{◌≡◌, Result};
-ghost use Rattle.resil_layers.specs.RetryCounts.{is_success, retry_kind};
+ghost use Rattle.std.specs.Prelude.{◌≡◌};
+ghost use Rattle.resil_layers.specs.RetryCounts.{retry_kind};
 
 use resil_call::{End, Tried};
 use std::sync::atomic::AtomicU64;
@@ -21,16 +21,6 @@ pub enum RetryKind {
     FailedWithRetry,
 }
 
-// Whether it ended by a value that isn't to be tried again.
-fn is_success<T, E>(tried: &Tried<Result<T, E>>) -> bool
-    ensures { result ≡ is_success tried.now.answer tried.now.end }
-{
-    match tried.end {
-        End::Accepted => tried.answer.is_ok(),
-        End::Exhausted | End::OutOfTime => false,
-    }
-}
-
 impl RetryKind {
     /// That of a retry.
     ///
@@ -41,17 +31,12 @@ impl RetryKind {
     pub fn of<T, E>(tried: &Tried<Result<T, E>>) -> RetryKind
         ensures { result ≡ retry_kind tried.now }
     {
-        let retried = tried.attempts > 1;
-        if is_success(tried) {
-            if retried {
-                RetryKind::SuccessfulWithRetry
-            } else {
-                RetryKind::SuccessfulWithoutRetry
-            }
-        } else if retried {
-            RetryKind::FailedWithRetry
-        } else {
-            RetryKind::FailedWithoutRetry
+        let success = tried.end == End::Accepted && tried.answer.is_ok();
+        match (success, tried.attempts > 1) {
+            (true, false) => RetryKind::SuccessfulWithoutRetry,
+            (true, true) => RetryKind::SuccessfulWithRetry,
+            (false, false) => RetryKind::FailedWithoutRetry,
+            (false, true) => RetryKind::FailedWithRetry,
         }
     }
 }
@@ -115,15 +100,12 @@ impl<'a> RetryCounts<'a> {
         self.word(RetryKind::of(tried)).fetch_add(1, SeqCst);
         let more = tried.attempts.saturating_sub(1);
         self.retried.fetch_add(u64::from(more), SeqCst);
-        match tried.end {
-            End::Accepted => {}
-            End::Exhausted => {
-                self.exhausted.fetch_add(1, SeqCst);
-            }
-            End::OutOfTime => {
-                self.out_of_time.fetch_add(1, SeqCst);
-            }
-        }
+        let ends = match tried.end {
+            End::Accepted => return,
+            End::Exhausted => &self.exhausted,
+            End::OutOfTime => &self.out_of_time,
+        };
+        ends.fetch_add(1, SeqCst);
     }
 
     /// How many retries were of this kind.

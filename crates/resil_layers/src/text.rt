@@ -44,6 +44,16 @@ fn write_type<W: fmt::Write>(f: &mut fmt::Formatter<W>, metric: &str, kind: &str
     write!(f, "# TYPE {metric} {kind}\n")
 }
 
+// A line of a metric: its value for what has this name.
+fn write_line<W: fmt::Write, V: fmt::Display + Drop>(
+    f: &mut fmt::Formatter<W>,
+    metric: &str,
+    name: &str,
+    value: V,
+) -> fmt::Result {
+    write!(f, "{metric}{{name=\"{}\"}} {value}\n", Label(name))
+}
+
 /// The permits of bulkheads: how many are free, and how many there are.
 ///
 /// ```
@@ -58,17 +68,12 @@ impl fmt::Display for BulkheadsText<'_> {
         write_type(f, metric, "gauge")?;
         for bulkhead in self.0 {
             let free = bulkhead.available(&mut bulkhead.new_pass());
-            write!(f, "{metric}{{name=\"{}\"}} {free}\n", bulkhead.name())?;
+            write_line(f, metric, bulkhead.name(), free)?;
         }
         let metric = "resilience4j_bulkhead_max_allowed_concurrent_calls";
         write_type(f, metric, "gauge")?;
         for bulkhead in self.0 {
-            write!(
-                f,
-                "{metric}{{name=\"{}\"}} {}\n",
-                bulkhead.name(),
-                bulkhead.max()
-            )?;
+            write_line(f, metric, bulkhead.name(), bulkhead.max())?;
         }
         Ok(())
     }
@@ -95,21 +100,15 @@ impl fmt::Display for CallsText<'_> {
         write_type(f, "resil_calls_total", "counter")?;
         for counts in self.0 {
             let called = counts.count(Counted::Called);
-            write!(
-                f,
-                "resil_calls_total{{name=\"{}\"}} {called}\n",
-                Label(counts.name())
-            )?;
+            write_line(f, "resil_calls_total", counts.name(), called)?;
         }
-        write_type(f, "resil_answers_total", "counter")?;
+        let metric = "resil_answers_total";
+        write_type(f, metric, "counter")?;
         for counts in self.0 {
             for (what, kind) in ANSWERS {
                 let count = counts.count(what);
                 let name = Label(counts.name());
-                write!(
-                    f,
-                    "resil_answers_total{{name=\"{name}\",kind=\"{kind}\"}} {count}\n"
-                )?;
+                write!(f, "{metric}{{name=\"{name}\",kind=\"{kind}\"}} {count}\n")?;
             }
         }
         Ok(())
@@ -149,27 +148,19 @@ impl fmt::Display for RetriesText<'_> {
         }
         write_type(f, "resil_retries_total", "counter")?;
         for counts in self.0 {
-            let name = Label(counts.name());
-            write!(
-                f,
-                "resil_retries_total{{name=\"{name}\"}} {}\n",
-                counts.retried()
-            )?;
+            write_line(f, "resil_retries_total", counts.name(), counts.retried())?;
         }
         let metric = "resil_retry_ends_total";
         write_type(f, metric, "counter")?;
         for counts in self.0 {
-            let name = Label(counts.name());
-            write!(
-                f,
-                "{metric}{{name=\"{name}\",end=\"exhausted\"}} {}\n",
-                counts.exhausted()
-            )?;
-            write!(
-                f,
-                "{metric}{{name=\"{name}\",end=\"out_of_time\"}} {}\n",
-                counts.out_of_time()
-            )?;
+            let ends = [
+                ("exhausted", counts.exhausted()),
+                ("out_of_time", counts.out_of_time()),
+            ];
+            for (end, count) in ends {
+                let name = Label(counts.name());
+                write!(f, "{metric}{{name=\"{name}\",end=\"{end}\"}} {count}\n")?;
+            }
         }
         Ok(())
     }
@@ -189,18 +180,12 @@ impl fmt::Display for TimesText<'_> {
         let metric = "resil_call_seconds_total";
         write_type(f, metric, "counter")?;
         for times in self.0 {
-            let total = Seconds(times.total());
-            write!(f, "{metric}{{name=\"{}\"}} {total}\n", Label(times.name()))?;
+            write_line(f, metric, times.name(), Seconds(times.total()))?;
         }
         let metric = "resil_call_seconds_max";
         write_type(f, metric, "gauge")?;
         for times in self.0 {
-            let longest = Seconds(times.longest());
-            write!(
-                f,
-                "{metric}{{name=\"{}\"}} {longest}\n",
-                Label(times.name())
-            )?;
+            write_line(f, metric, times.name(), Seconds(times.longest()))?;
         }
         Ok(())
     }
@@ -239,44 +224,31 @@ pub struct PoolText<'a> {
 impl fmt::Display for PoolText<'_> {
     fn fmt<W: fmt::Write>(&self, f: &mut fmt::Formatter<W>) -> fmt::Result {
         let capacity = self.waiting.saturating_add(self.room);
-        let lines: [(&str, &str, u64); 9] = [
-            (
-                "gauge",
-                "resilience4j_bulkhead_queue_depth",
-                self.waiting as u64,
-            ),
-            (
-                "gauge",
-                "resilience4j_bulkhead_queue_capacity",
-                capacity as u64,
-            ),
-            (
-                "gauge",
-                "resilience4j_bulkhead_active_thread_count",
-                self.running as u64,
-            ),
-            (
-                "gauge",
-                "resilience4j_bulkhead_thread_pool_size",
-                u64::from(self.workers),
-            ),
-            (
-                "gauge",
-                "resilience4j_bulkhead_core_thread_pool_size",
-                u64::from(self.core),
-            ),
-            (
-                "gauge",
-                "resilience4j_bulkhead_max_thread_pool_size",
-                u64::from(self.max),
-            ),
-            ("counter", "resil_pool_accepted_total", self.accepted),
-            ("counter", "resil_pool_refused_total", self.refused),
-            ("counter", "resil_pool_finished_total", self.finished),
+        let gauges: [(&str, u64); 6] = [
+            ("queue_depth", self.waiting as u64),
+            ("queue_capacity", capacity as u64),
+            ("active_thread_count", self.running as u64),
+            ("thread_pool_size", u64::from(self.workers)),
+            ("core_thread_pool_size", u64::from(self.core)),
+            ("max_thread_pool_size", u64::from(self.max)),
         ];
-        for (kind, metric, value) in lines {
-            write_type(f, metric, kind)?;
-            write!(f, "{metric}{{name=\"{}\"}} {value}\n", Label(self.name))?;
+        for (what, value) in gauges {
+            let name = Label(self.name);
+            write!(f, "# TYPE resilience4j_bulkhead_{what} gauge\n")?;
+            write!(
+                f,
+                "resilience4j_bulkhead_{what}{{name=\"{name}\"}} {value}\n"
+            )?;
+        }
+        let counters: [(&str, u64); 3] = [
+            ("accepted", self.accepted),
+            ("refused", self.refused),
+            ("finished", self.finished),
+        ];
+        for (what, count) in counters {
+            let name = Label(self.name);
+            write!(f, "# TYPE resil_pool_{what}_total counter\n")?;
+            write!(f, "resil_pool_{what}_total{{name=\"{name}\"}} {count}\n")?;
         }
         Ok(())
     }
