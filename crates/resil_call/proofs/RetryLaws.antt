@@ -2,14 +2,11 @@
 use Rattle.std.proofs.Common.{◌≡◌, ◌<◌, ◌≤◌, ◌+◌, ◌++◌, ◌∷◌, [], ℕ, zero, suc, Bool, true, List, refl, sym, arith, subst}
 use Rattle.std.specs.Borrow.{MutBor}
 use Rattle.std.specs.List.{FoldsTo}
+use Rattle.std.proofs.lemmas.Fn.{FoldsTo-push}
 use Rattle.resil_call.specs.declared.tried.Tried.{Tried}
 use Rattle.resil_call.specs.Limit.{Unlimited}
 use Rattle.resil_call.specs.Retry.{HasEnded, LeavesLimit}
 use Rattle.resil_call.specs.Sharing.{RoundSharing, CanTry, IsAnswerAt, IsTriedAgainSharing, IsRetriedSharing, IsRetriedSharingWithin}
-
-pub FoldsTo-append_one : {S T : Type 0} (R : S → T → S → Type 0) (x y z : S) (xs : List T) (a : T) → FoldsTo R x xs y → R y a z → FoldsTo R x (xs ++ a ∷ []) z
-FoldsTo-append_one R x y z [] a p q = (z, subst (λ v. R v a z) (sym p) q, refl)
-FoldsTo-append_one R x y z (b ∷ xs) a p q = (p.0, p.1, FoldsTo-append_one R p.0 y z xs a p.2 q)
 
 -- what a call at a `&mut` does, at the value
 pub IsAnswerAt-by : {T S : Type 0} (Post : MutBor S → T → MutBor S → Type 0) (R : S → T → S → Type 0) → ((lent left : MutBor S) (answer : T) → Post lent answer left → R lent.now answer left.now)
@@ -54,7 +51,7 @@ module _ {T S L : Type 0} (IsAnswer : S → T → S → Type 0) (IsVerdict : T �
         → SoFar old latest limit left (k + 1)
     SoFar-again answer wait latest left called again before_last is_wait allowed paused = record {
       before = so_far.before ++ answer ∷ [];
-      tried_again = FoldsTo-append_one _ _ _ _ so_far.before answer so_far.tried_again
+      tried_again = FoldsTo-push _ _ so_far.before _ answer _ so_far.tried_again
           (record { between = between; called = called; again = again; wait = wait; is_wait = is_wait; allowed = allowed; paused = paused; next = refl });
       some = omega arith;
       few = omega (arith, before_last);

@@ -1,6 +1,0 @@
--- What the prover finds by itself, written down because edits that must fail open it.
-use Rattle.std.proofs.Common.{rules}
-use Rattle.resil_c.proofs.permit.owned_pass.OwnedPass.retired.Goals as goal
-
-pub returns : goal.returns
-returns c = search rules

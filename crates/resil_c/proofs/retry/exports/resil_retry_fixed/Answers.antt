@@ -1,6 +1,0 @@
--- What the prover finds by itself, written down because edits that must fail open it.
-use Rattle.std.proofs.Common.{rules}
-use Rattle.resil_c.proofs.retry.exports.resil_retry_fixed.Goals as goal
-
-pub returns-clause-made : goal.returns-clause-made
-returns-clause-made c = search rules

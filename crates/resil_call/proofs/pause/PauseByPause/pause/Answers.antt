@@ -1,6 +1,0 @@
--- What the prover finds by itself, written down because edits that must fail open it.
-use Rattle.std.proofs.Common.{rules}
-use Rattle.resil_call.proofs.pause.PauseByPause.pause.Goals as goal
-
-pub returns-clause-paused : goal.returns-clause-paused
-returns-clause-paused g c = search rules
