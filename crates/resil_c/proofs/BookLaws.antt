@@ -1,5 +1,5 @@
 -- Each step of a book follows the definitions, after every history that it may stand for.
-use Rattle.std.proofs.Common.{◌≡◌, ◌+◌, ◌-◌, ◌^◌, ◌∷◌, [], ◌++◌, ◌∙◌, ◌==◌, ◌<◌, ℕ, zero, min, suc, Bool, true, false, cond, List, Option, Some, None, length, filter, drop, slice_get, Result, IfOk, IfErr, refl, sym, ap, subst, arith, length-append}
+use Rattle.std.proofs.Common.{◌≡◌, ◌+◌, ◌-◌, ◌^◌, ◌∷◌, [], ◌++◌, ◌∙◌, ◌<◌, ℕ, zero, min, suc, Bool, true, false, not, cond, List, Option, Some, None, length, filter, drop, slice_get, Result, IfOk, IfErr, refl, sym, ap, subst, arith, length-append}
 use Rattle.std.specs.List.{filter_map}
 use Rattle.std.proofs.lemmas.List.Elements.{filter-append}
 use Rattle.resil_rule.specs.History.{accepted, finished, accepted_id, finished_id}
@@ -28,19 +28,20 @@ use Rattle.resil_c.specs.Book.{BookView, in_64_bits, is_refusal, refusals, IsBoo
 abbrev pub Writes : LastView → Event → LastView → Type 0
 Writes before event after = (history : List Event) → IsLastOf history before → IsLastOf (history ++ event ∷ []) after
 
--- a count that stops, with one more
-more-in : (n limit : ℕ) → min (min n limit + 1) limit ≡ min (n + 1) limit
-more-in n limit = omega arith
+-- a count that stops, with one more or with none
+count-more : (more : Bool) (was n m : ℕ) → was ≡ in_64_bits n → m ≡ n + cond more 1 0 → cond more (in_64_bits (was + 1)) was ≡ in_64_bits m
+count-more true was n m is one = omega (arith, is, one)
+count-more false was n m is none = omega (arith, is, none)
 
--- one where there is an item
-abbrev one_of : {A : Type 0} → Option A → ℕ
-one_of None = 0
-one_of (Some x) = 1
+-- whether there is an item
+abbrev has : {A : Type 0} → Option A → Bool
+has None = false
+has (Some x) = true
 
-listed-more : (f : Event → Option Id) (h : List Event) (e : Event) → length (filter_map f (h ++ e ∷ [])) ≡ length (filter_map f h) + one_of (f e)
+listed-more : (f : Event → Option Id) (h : List Event) (e : Event) → length (filter_map f (h ++ e ∷ [])) ≡ length (filter_map f h) + cond (has (f e)) 1 0
 listed-more f h e = go (f e) refl
   where
-    go : (o : Option Id) → f e ≡ o → length (filter_map f (h ++ e ∷ [])) ≡ length (filter_map f h) + one_of o
+    go : (o : Option Id) → f e ≡ o → length (filter_map f (h ++ e ∷ [])) ≡ length (filter_map f h) + cond (has o) 1 0
     go None is = ap length (filtered-same f h e is) ∙ omega arith
     go (Some id) is = ap length (filtered-more f h e id is) ∙ length-append (filter_map f h) (id ∷ [])
 
@@ -60,8 +61,8 @@ unfinished_in v = busy v + length v.waiting
 -- a step of a book is one of its rule, if what it counts fits the event
 pub follow : (b c : BookView) (e : Event) → RuleFollows b.rule e c.rule → Writes b.last e c.last
     → c.refused ≡ cond (is_refusal e) (in_64_bits (b.refused + 1)) b.refused
-    → c.finished ≡ cond (one_of (finished_id e) == 1) (in_64_bits (b.finished + 1)) b.finished
-    → unfinished_in c.rule + one_of (finished_id e) ≡ unfinished_in b.rule + one_of (accepted_id e)
+    → c.finished ≡ cond (has (finished_id e)) (in_64_bits (b.finished + 1)) b.finished
+    → unfinished_in c.rule + cond (has (finished_id e)) 1 0 ≡ unfinished_in b.rule + cond (has (accepted_id e)) 1 0
     → Follows b e c
 follow b c e rule last refused finishes jobs h is =
     let step = rule h is.state in
@@ -71,63 +72,37 @@ follow b c e rule last refused finishes jobs h is =
       record {
         state = step.1;
         last = last h is.last;
-        refused_are = refused ∙ refused-are (is_refusal e) refl;
-        finished_are = finishes ∙ finished-are (finished_id e) refl;
+        refused_are = refused ∙ count-more (is_refusal e) b.refused (length (refusals h)) _ is.refused_are (refusals-more h e);
+        finished_are = finishes ∙ count-more (has (finished_id e)) b.finished (length (finished h)) _ is.finished_are done;
         accepted_are = omega (arith, more, done, jobs, is.accepted_are);
       },
     )
-  where
-    refused-are : (r : Bool) → is_refusal e ≡ r → cond r (in_64_bits (b.refused + 1)) b.refused ≡ in_64_bits (length (refusals (h ++ e ∷ [])))
-    refused-are true are =
-        let one = rw are at (refusals-more h e) in
-        ap (λ n. in_64_bits (n + 1)) is.refused_are ∙ more-in (length (refusals h)) (2 ^ 64 - 1) ∙ ap in_64_bits (sym one)
-    refused-are false are =
-        let none = rw are at (refusals-more h e) in
-        is.refused_are ∙ ap in_64_bits (omega (arith, none))
-
-    finished-are : (o : Option Id) → finished_id e ≡ o → cond (one_of o == 1) (in_64_bits (b.finished + 1)) b.finished ≡ in_64_bits (length (finished (h ++ e ∷ [])))
-    finished-are None none =
-        let same = rw none at (listed-more finished_id h e) in
-        is.finished_are ∙ ap in_64_bits (omega (arith, same))
-    finished-are (Some id) one =
-        let more = rw one at (listed-more finished_id h e) in
-        ap (λ n. in_64_bits (n + 1)) is.finished_are ∙ more-in (length (finished h)) (2 ^ 64 - 1) ∙ ap in_64_bits (sym more)
 
 -- an accepted submission is one job more
-accepts : (v : RuleView ℕ) (id : Id) (work : ℕ) (reply : Reply) → unfinished_in (with_submission v id work reply) ≡ unfinished_in v + cond (is_acceptance reply) 1 0
+accepts : (v : RuleView ℕ) (id : Id) (work : ℕ) (reply : Reply) → unfinished_in (with_submission v id work reply) ≡ unfinished_in v + cond (has (accepted_id (Submit id reply))) 1 0
 accepts v id work Core = omega (arith, length-append v.unpicked ((id, work) ∷ []))
 accepts v id work Queued = omega (arith, length-append v.waiting ((id, work) ∷ []))
 accepts v id work Extra = omega (arith, length-append v.unpicked ((id, work) ∷ []))
 accepts v id work Full = omega arith
 accepts v id work Closed = omega arith
 
+-- an event that is of no submission and no finish, and leaves each job what it was
+pub quiet-follow : (v w : RuleView ℕ) (l m : LastView) (refused finishes : ℕ) (e : Event) → is_refusal e ≡ false → finished_id e ≡ None → accepted_id e ≡ None
+    → unfinished_in w ≡ unfinished_in v → RuleFollows v e w → Writes l e m
+    → Follows (record { rule = v; last = l; refused = refused; finished = finishes }) e (record { rule = w; last = m; refused = refused; finished = finishes })
+quiet-follow v w l m refused finishes e no_refusal no_finish no_submission jobs step last =
+    follow (record { rule = v; last = l; refused = refused; finished = finishes }) (record { rule = w; last = m; refused = refused; finished = finishes }) e step last
+    (rw no_refusal refl) (rw no_finish refl) (rw (no_finish, no_submission) (omega (arith, jobs)))
+
 module _ (b c : BookView) where
   -- a submission that the rule answered
-  pub submit-follow : (id : Id) (work : ℕ) (reply : Reply) → c.rule ≡ with_submission b.rule id work reply → RuleFollows b.rule (Submit id reply) c.rule → Writes b.last (Submit id reply) c.last
-      → c.refused ≡ cond (is_acceptance reply) b.refused (in_64_bits (b.refused + 1)) → c.finished ≡ b.finished → Follows b (Submit id reply) c
-  submit-follow id work Core rule step last refused done =
-      let jobs = ap unfinished_in rule ∙ accepts b.rule id work Core in follow b c (Submit id Core) step last refused done (omega (arith, jobs))
-  submit-follow id work Queued rule step last refused done =
-      let jobs = ap unfinished_in rule ∙ accepts b.rule id work Queued in follow b c (Submit id Queued) step last refused done (omega (arith, jobs))
-  submit-follow id work Extra rule step last refused done =
-      let jobs = ap unfinished_in rule ∙ accepts b.rule id work Extra in follow b c (Submit id Extra) step last refused done (omega (arith, jobs))
-  submit-follow id work Full rule step last refused done =
-      let jobs = ap unfinished_in rule ∙ accepts b.rule id work Full in follow b c (Submit id Full) step last refused done (omega (arith, jobs))
-  submit-follow id work Closed rule step last refused done =
-      let jobs = ap unfinished_in rule ∙ accepts b.rule id work Closed in follow b c (Submit id Closed) step last refused done (omega (arith, jobs))
-
   pub submitted : (id : Id) (work : ℕ) (reply : Reply) → reply ≡ next_reply b.rule → c.rule ≡ with_submission b.rule id work reply → RuleFollows b.rule (Submit id reply) c.rule
-      → Writes b.last (Submit id reply) c.last → c.refused ≡ cond (is_acceptance reply) b.refused (in_64_bits (b.refused + 1)) → c.finished ≡ b.finished → IsSubmitted id work b c
-  submitted id work reply is rule step last refused done = (
-    rule ∙ ap (with_submission b.rule id work) is,
-    subst (λ (r : Reply). Follows b (Submit id r) c) is (submit-follow id work reply rule step last refused done),
-  )
-
-  -- an event that is of no submission and no finish, and leaves each job what it was
-  pub quiet-follow : (e : Event) → is_refusal e ≡ false → finished_id e ≡ None → accepted_id e ≡ None → unfinished_in c.rule ≡ unfinished_in b.rule
-      → RuleFollows b.rule e c.rule → Writes b.last e c.last → c.refused ≡ b.refused → c.finished ≡ b.finished → Follows b e c
-  quiet-follow e no_refusal no_finish no_submission jobs step last refused done =
-      follow b c e step last (rw no_refusal refused) (rw no_finish done) (rw (no_finish, no_submission) (omega (arith, jobs)))
+      → Writes b.last (Submit id reply) c.last → c.refused ≡ cond (not (is_acceptance reply)) (in_64_bits (b.refused + 1)) b.refused → c.finished ≡ b.finished → IsSubmitted id work b c
+  submitted id work reply is rule step last refused done =
+      let jobs = ap unfinished_in rule ∙ accepts b.rule id work reply in (
+        rule ∙ ap (with_submission b.rule id work) is,
+        subst (λ (r : Reply). Follows b (Submit id r) c) is (follow b c (Submit id reply) step last refused done (omega (arith, jobs))),
+      )
 
   pub finish-follow : (slot : Slot) → slice_get b.rule.out slot.place ≡ Some (Some slot.id) → c.rule ≡ with_finish b.rule slot → RuleFollows b.rule (Finish slot.id) c.rule
       → Writes b.last (Finish slot.id) c.last → c.refused ≡ b.refused → c.finished ≡ in_64_bits (b.finished + 1) → Follows b (Finish slot.id) c
@@ -136,20 +111,16 @@ module _ (b c : BookView) where
       let jobs = ap unfinished_in rule in
       follow b c (Finish slot.id) step last refused done (omega (arith, fewer, jobs))
 
-  pub take-follow : (slot : Slot) (work : ℕ) → slice_get b.rule.out slot.place ≡ Some None → slice_get b.rule.waiting 0 ≡ Some (slot.id, work) → c.rule ≡ with_take b.rule slot
-      → RuleFollows b.rule (Take slot.id) c.rule → Writes b.last (Take slot.id) c.last → c.refused ≡ b.refused → c.finished ≡ b.finished → Follows b (Take slot.id) c
-  take-follow slot work free front rule step last refused done =
-      let more = put-length slot.id b.rule.out slot.place free in
-      let fewer : length b.rule.waiting ≡ length (drop 1 b.rule.waiting) + 1 = ap length (front-is b.rule.waiting (slot.id, work) front) ∙ omega arith in
-      let jobs = ap unfinished_in rule in
-      quiet-follow (Take slot.id) refl refl refl (omega (arith, more, fewer, jobs)) step last refused done
-
 -- a pick from the queue
-pub picked-queue : (b c : BookView) (origin : Origin) (slot : Slot) (work : ℕ) → origin ≡ Queue → slice_get b.rule.out slot.place ≡ Some None → b.rule.unpicked ≡ []
-    → slice_get b.rule.waiting 0 ≡ Some (slot.id, work) → c.rule ≡ with_take b.rule slot → RuleFollows b.rule (Take slot.id) c.rule → Writes b.last (Take slot.id) c.last
-    → c.refused ≡ b.refused → c.finished ≡ b.finished → IsPicked origin slot work b c
-picked-queue b c origin slot work is free none front rule step last refused done =
-    subst (λ (o : Origin). IsPicked o slot work b c) (sym is) (free, none, front, rule, take-follow b c slot work free front rule step last refused done)
+pub picked-queue : (v w : RuleView ℕ) (l m : LastView) (refused finishes : ℕ) (origin : Origin) (slot : Slot) (work : ℕ) → origin ≡ Queue → slice_get v.out slot.place ≡ Some None
+    → v.unpicked ≡ [] → slice_get v.waiting 0 ≡ Some (slot.id, work) → w ≡ with_take v slot → RuleFollows v (Take slot.id) w → Writes l (Take slot.id) m
+    → IsPicked origin slot work (record { rule = v; last = l; refused = refused; finished = finishes }) (record { rule = w; last = m; refused = refused; finished = finishes })
+picked-queue v w l m refused finishes origin slot work is free none front rule step last =
+    let more = put-length slot.id v.out slot.place free in
+    let fewer : length v.waiting ≡ length (drop 1 v.waiting) + 1 = ap length (front-is v.waiting (slot.id, work) front) ∙ omega arith in
+    let jobs = ap unfinished_in rule in
+    subst (λ (o : Origin). IsPicked o slot work (record { rule = v; last = l; refused = refused; finished = finishes }) (record { rule = w; last = m; refused = refused; finished = finishes }))
+    (sym is) (free, none, front, rule, quiet-follow v w l m refused finishes (Take slot.id) refl refl refl (omega (arith, more, fewer, jobs)) step last)
 
 -- a place that has something is one of them
 pub below : (places : List (Option Id)) (i : ℕ) (o : Option Id) → slice_get places i ≡ Some o → i < length places

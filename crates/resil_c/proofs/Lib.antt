@@ -1,4 +1,4 @@
 pub mod BookLaws
 mod Handles
 mod Parts
-pub mod PlainDataLaws
+mod Walks

@@ -5,34 +5,11 @@
 --     fields_own, fields_out     what the fields of a handle own, and which machine value they are
 --     tested               a pointer to a block of the heap may be compared with null
 --     either_of            an option is nothing or has a value
-use Rattle.std.proofs.Common.{◌≡◌, ℕ, List, [], ◌∷◌, ◌++◌, ◌&&◌, T, true, lit<, refl, sym, subst}
-use seplogic.Ra.Ura.{Ura}
-use mir.Syntax.{impl, tnil, dnil}
-use mir.Raw.{raw as bare}
-use mir.Val.{Val, vptr, vnull, vstruct, vcons, vnil, of_list, has_ty, WT}
-use base.Logic.{SProp, ent, guard, never, fst∗, snd∗, via, guard_i}
-use base.Fraction.{full_share}
-use contract.Monad.{fact_use}
-use types.Logic.{Logic, sem}
-use types.Kit.{Item, Goal, Seq, Step, step, ‵, ◌$◌, move, drop, fsplit, fjoin, fpick, fpack, rewrite, feq_i, feq_l}
-use denote.RattleType.{RattleType, Valss}
-use denote.Builtin.{RawPtr}
-use denote.Memory.{lone}
-use denote.RawPtr.{Ptr, block_ptr, null_ptr, ptr_val, in_a_block, lies_at, Testable}
-use denote.Steps.{nothing}
-use denote.Param.{layout}
-use denote.Param.Laws.{Laws}
-use denote.Struct.Struct.{within}
-use denote.Struct.Owning.{shape}
-use Rattle.std.specs.Prelude.{Option, Some, None}
-use Rattle.core.specs.declared.alloc.Allocator.{Ghosts}
-use Rattle.core.proofs.alloc.Calls.{Al, handle_tells}
-use Rattle.core.proofs.cell.Inside.{Good}
-use Rattle.std_alloc.specs.Box.Ownership.{box_owns}
-use Rattle.std_alloc.proofs.ResultValues.{and_tt}
-use Rattle.std.specs.declared.alloc.Global.{Global}
-use Rattle.std.specs.contracts.impls.GlobalAllocator.TheImpl.{ghosts}
-use Rattle.std.proofs.GlobalToken.{dealloc_token-Testable}
+use Rattle.resil_c.proofs.Walks.{◌≡◌, ℕ, List, [], ◌∷◌, ◌++◌, ◌&&◌, T, true, lit<, refl, sym, subst, Ura, impl, tnil, dnil, bare, Val, vptr, vnull, vstruct}
+use Rattle.resil_c.proofs.Walks.{vcons, vnil, of_list, has_ty, WT, SProp, ent, guard, never, fst∗, snd∗, via, guard_i, full_share, fact_use, Logic, sem, Item}
+use Rattle.resil_c.proofs.Walks.{Goal, Seq, Step, step, ‵, ◌$◌, move, drop, fsplit, fjoin, fpick, fpack, rewrite, feq_i, feq_l, RattleType, Valss, RawPtr}
+use Rattle.resil_c.proofs.Walks.{lone, Ptr, block_ptr, null_ptr, ptr_val, in_a_block, lies_at, Testable, nothing, layout, Laws, within, shape, Option, Some}
+use Rattle.resil_c.proofs.Walks.{None, Ghosts, Al, handle_tells, Good, box_owns, and_tt, Global, ghosts, dealloc_token-Testable}
 use Rattle.resil_c.specs.contracts.box_parts.BoxParts as parts
 
 abbrev pub beside : Val → Val → Val

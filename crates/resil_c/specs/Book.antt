@@ -15,7 +15,7 @@ use Rattle.resil_rule.specs.declared.event.Id.{Id}
 use Rattle.resil_rule.specs.declared.event.Reply.{Reply}
 use Rattle.resil_rule.specs.declared.event.Reply.TheVariants as reply
 use Rattle.resil_rule.specs.declared.event.Event.{Event}
-use Rattle.resil_rule.specs.declared.event.Event.TheVariants.{Submit, Take, Finish, IdleEnd, Close, Resized}
+use Rattle.resil_rule.specs.declared.event.Event.TheVariants.{Submit, Take}
 use Rattle.resil_c.specs.declared.pool.plain_data.PoolCounts.{PoolCounts}
 use Rattle.resil_c.specs.declared.pool.plain_data.OpenError.{OpenError}
 use Rattle.resil_c.specs.declared.pool.plain_data.OpenError.TheVariants as opening
@@ -34,11 +34,7 @@ in_64_bits count = min count (2 ^ 64 - 1)
 -- whether an event is a submission that the rule refuses
 abbrev pub is_refusal : Event → Bool
 is_refusal (Submit id answer) = not (is_acceptance answer)
-is_refusal (Take id) = Bool.false
-is_refusal (Finish id) = Bool.false
-is_refusal IdleEnd = Bool.false
-is_refusal Close = Bool.false
-is_refusal (Resized core max) = Bool.false
+is_refusal _ = Bool.false
 
 -- the submissions that the rule refused
 abbrev pub refusals : List Event → List Event
@@ -114,14 +110,6 @@ next_id b caller = record { caller = caller; number = in_64_bits (made_by b.rule
 -- a submission under its caller's next number
 abbrev pub IsNextSubmitted : ℕ → ℕ → BookView → BookView → Type 0
 IsNextSubmitted caller work b c = IsSubmitted (next_id b caller) work b c
-
--- what a submission leaves: what was, where the rule wasn't asked
-abbrev pub LeavesSubmitted : Id → ℕ → Result Reply Refusal → BookView → BookView → Type 0
-LeavesSubmitted id work (Ok answer) b c = IsSubmitted id work b c
-LeavesSubmitted id work (Err refused.Full) b c = IsSubmitted id work b c
-LeavesSubmitted id work (Err refused.Closed) b c = IsSubmitted id work b c
-LeavesSubmitted id work (Err refused.WrongNumber) b c = c ≡ b
-LeavesSubmitted id work (Err refused.NoSuchCaller) b c = c ≡ b
 
 -- A job was picked, and has a place that was free: the oldest one with a worker of its own that wasn't picked yet, without an event;
 -- where there is none, the one at the front of the queue, which is taken.

@@ -21,11 +21,7 @@ abbrev pub from_rule : AdmitError → OpenError
 from_rule why.CoreOutOfRange = opening.CoreRange
 from_rule why.MaxOutOfRange = opening.MaxRange
 from_rule why.QueueOutOfRange = opening.QueueRange
-from_rule why.Memory = opening.Memory
-from_rule why.WrongNumber = opening.Memory
-from_rule why.NotOut = opening.Memory
-from_rule why.OtherJob = opening.Memory
-from_rule why.NotDone = opening.Memory
+from_rule _ = opening.Memory
 
 -- the same as a number
 abbrev pub open_number : OpenError → ℕ

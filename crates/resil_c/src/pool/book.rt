@@ -3,12 +3,13 @@
 //! A work is 64 bits of the service's own, which the book keeps until its job is picked. All memory is taken by `new`.
 //! Each call says which event it adds to every history that the book may stand for; of these the book keeps the last
 //! ones and the numbers.
-ghost use Rattle.std.specs.Prelude.{◌≡◌, ◌↔◌, ◌<◌, ◌+◌, Some, [], if◌then◌else◌, suc, length, slice_get, false, IsTrue, IsOk, IfOk, IfErr, IfSome, IfNone, OnOk, OnErr};
+ghost use Rattle.std.specs.Prelude.{◌≡◌, ◌↔◌, ◌⊎◌, ◌<◌, ◌≤◌, ◌+◌, not, Some, [], if◌then◌else◌, suc, length, slice_get, false, IsTrue, IsOk, IfOk, IfErr, IfSome, IfNone, OnOk, OnErr};
 ghost use Rattle.std.specs.Bool.{OnTrue, OnFalse};
 ghost use Rattle.resil_rule.specs.Limits.{AreLimits, AreSizesWithin, IsResizeRefusal};
 ghost use Rattle.resil_rule.specs.RuleView.{MayEndIdle, HasOneToPick, is_acceptance, made_by, next_reply, with_finish, with_sizes, with_idle_end, with_close};
 ghost use Rattle.resil_rule.specs.RuleState.{HasNoneToPick};
-ghost use Rattle.resil_c.specs.Book.{in_64_bits, opened_book, has_caller, answer_to, next_id, counts_of, AreCallers, IsOpenRefusal, IsSubmitted, LeavesSubmitted, IsPicked, IsBookOf, Follows};
+ghost use Rattle.resil_c.specs.Book.{in_64_bits, opened_book, has_caller, answer_to, next_id, counts_of, AreCallers, IsOpenRefusal, IsSubmitted, IsPicked, IsBookOf, Follows};
+ghost use Rattle.resil_c.specs.PlainData.{submit_number};
 
 use crate::pool::plain_data::{MAX_CALLERS, OpenError, PoolCounts, by_rule};
 use resil_rule::{
@@ -45,7 +46,7 @@ impl Model for Book {
 
 // The count of refusals after an answer of the rule.
 fn refused_after(refused: u64, reply: Reply) -> u64
-    ensures { result ≡ (if is_acceptance reply then refused else in_64_bits (refused + 1)) }
+    ensures { result ≡ (if not (is_acceptance reply) then in_64_bits (refused + 1) else refused) }
 {
     match reply {
         Reply::Core | Reply::Queued | Reply::Extra => refused,
@@ -88,7 +89,8 @@ impl Book {
     // Submits work under its caller's next number. The caller still has the work of a refusal.
     pub(crate) fn submit(&mut self, id: Id, work: u64) -> Result<Reply, Refusal>
         ensures answer { result ≡ answer_to self.old id }
-        ensures left { LeavesSubmitted id work result self.old self.new }
+        ensures submitted { submit_number result ≤ 4 → IsSubmitted id work self.old self.new }
+        ensures unchanged { (submit_number result ≡ 5) ⊎ (submit_number result ≡ 6) → self.new ≡ self.old }
     {
         if !self.has_caller(id.caller) {
             return Err(Refusal::NoSuchCaller);

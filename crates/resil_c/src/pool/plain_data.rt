@@ -1,5 +1,5 @@
 //! Answers, events, jobs and numbers as C has them.
-ghost use Rattle.std.specs.Prelude.{◌≡◌, ◌<◌};
+ghost use Rattle.std.specs.Prelude.{◌≡◌, ◌<◌, ◌≤◌};
 ghost use Rattle.resil_c.specs.Book.{answer_by_rule};
 ghost use Rattle.resil_c.specs.PlainData.{open_number, reply_number, submit_number, origin_number, plain_job, plain_event};
 
@@ -116,7 +116,8 @@ pub(crate) fn open_number(error: OpenError) -> u8
 
 // The answer of the rule, as an acceptance or a refusal.
 pub(crate) fn by_rule(reply: Reply) -> Result<Reply, Refusal>
-    ensures { result ≡ answer_by_rule reply }
+    ensures answer { result ≡ answer_by_rule reply }
+    ensures by_rule { submit_number result ≤ 4 }
 {
     match reply {
         Reply::Core | Reply::Queued | Reply::Extra => Ok(reply),

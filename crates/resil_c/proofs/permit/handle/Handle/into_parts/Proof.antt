@@ -1,38 +1,14 @@
 -- `into_parts` compares the pointer with null: an empty handle has no parts, and another one and its parts own the same.
-use Rattle.std.proofs.Common.{◌≡◌, List, [], ◌∷◌, ◌++◌, ◌∙◌, refl, sym, ap, subst, lit<}
-use mir.Val.{Val, vnull, vcons, vnil}
-use base.Logic.{SProp, ent, id⊢, emp}
-use base.Fml.{ftrue}
-use prog.Wp.{WpFn}
-use types.Kit.{‵, raw, given, at_ret, ◌⊛◌, ◌$◌, ◌∵◌, !, qed, by, move, keep, drop, split, fsplit, fpick, learn, rewrite, suffices, use0, use1, fjoin}
-use types.Run.{stop, fld, lit, of_opd, bin, no_more, and_then, first, branches, exec, returns, enter}
-use types.ByLocal.{alloc_all, pass_all, free_all, look_at, get, get_in, sets, sets_last, env}
-use types.Part.{agg, sub, whole}
-use types.Match.{live}
-use contract.Monad.{fact, fact_i}
-use contract.Running.{tables}
-use denote.Exit.{yes}
-use denote.RattleType.{RattleType, owns}
-use denote.RawPtr.{Ptr, block_ptr, null_ptr, ptr_val, in_a_block, tests_null}
-use denote.Memory.{lone}
-use denote.Signature.{types_at, type_at, plain}
-use denote.Param.{layout}
-use denote.Steps.{nothing}
-use denote.Triple.Walked.{Stays, stay_dropped, walk_of, Goes-dropped}
-use mir.Raw.{raw as bare}
-use base.Logic.{never, fst∗}
-use types.Logic.{sem}
-use Rattle.core.proofs.alloc.Shapes.{after}
-use Rattle.core.proofs.atomic.Steps.{Ptr-Good}
-use Rattle.core.proofs.cell.Inside.{Good}
-use Rattle.core.proofs.option.Made.{Some-of, none_of}
-use Rattle.std.proofs.raw_atomic.Walks.{proved_at, leaves}
-use Rattle.std.specs.Prelude.{Option, None, Some}
+use Rattle.resil_c.proofs.Walks.{◌≡◌, List, [], ◌∷◌, ◌++◌, ◌∙◌, refl, sym, ap, subst, lit<, Val, vnull, vcons, vnil, SProp, ent, id⊢, emp, ftrue, WpFn, ‵}
+use Rattle.resil_c.proofs.Walks.{raw, given, at_ret, ◌⊛◌, ◌$◌, ◌∵◌, !, qed, by, move, keep, drop, split, fsplit, fpick, learn, rewrite, suffices, use0, use1}
+use Rattle.resil_c.proofs.Walks.{fjoin, stop, fld, lit, of_opd, bin, no_more, and_then, first, branches, exec, returns, enter, alloc_all, pass_all, free_all}
+use Rattle.resil_c.proofs.Walks.{look_at, get, get_in, sets, sets_last, env, agg, sub, whole, live, fact, fact_i, tables, yes, RattleType, owns, Ptr}
+use Rattle.resil_c.proofs.Walks.{block_ptr, null_ptr, ptr_val, in_a_block, tests_null, lone, types_at, type_at, plain, layout, nothing, Stays, stay_dropped}
+use Rattle.resil_c.proofs.Walks.{walk_of, Goes-dropped, bare, never, fst∗, sem, after, Ptr-Good, Good, Some-of, none_of, proved_at, leaves, Option, None}
+use Rattle.resil_c.proofs.Walks.{Some, ghosts, and_tt}
 use Rattle.resil_permit.specs.Passes.{PassView}
 use Rattle.std.specs.contracts.alloc.Global as heap
 use Rattle.std.proofs.alloc.Global.TheLaws as heap_laws
-use Rattle.std.specs.contracts.impls.GlobalAllocator.TheImpl.{ghosts}
-use Rattle.std_alloc.proofs.ResultValues.{and_tt}
 use Rattle.resil_c.specs.contracts.permit.owned_pass.OwnedPass as owner
 use Rattle.resil_c.specs.contracts.permit.handle.Handle as handle
 use Rattle.resil_c.proofs.Parts.{beside, word, either_of, Parts, block, word_good, null_good, fields_out, parts_in, tested}

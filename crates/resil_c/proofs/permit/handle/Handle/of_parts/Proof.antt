@@ -1,26 +1,10 @@
 -- `of_parts` moves the pointer and the allocator: the parts and the handle own the same.
-use Rattle.std.proofs.Common.{List, [], ◌∷◌, ◌++◌, refl, sym, subst}
-use mir.Val.{Val}
-use base.Logic.{SProp, ent, id⊢}
-use base.Fml.{ftrue}
-use prog.Wp.{WpFn}
-use types.Kit.{‵, raw, ◌⊛◌, ◌$◌, ◌∵◌, !, qed, by, move, keep, split, fsplit, fjoin, suffices, use0, use1}
-use base.Logic.{emp}
-use types.Run.{stop, fld, of_opd, no_more, and_then, returns, enter}
-use types.ByLocal.{alloc_all, pass_all, free_all, look_at, get, get_in, sets}
-use types.Part.{agg, sub, whole}
-use contract.Monad.{fact, fact_i}
-use contract.Running.{tables}
-use denote.Exit.{yes}
-use denote.RattleType.{RattleType, owns}
-use denote.Signature.{types_at, plain}
-use denote.Steps.{nothing}
-use denote.Triple.Walked.{Stays, stay_dropped, walk_of, Goes-dropped}
-use Rattle.std.proofs.raw_atomic.Walks.{proved_at, leaves}
-use Rattle.std.specs.Prelude.{◌≡◌, Some}
+use Rattle.resil_c.proofs.Walks.{List, [], ◌∷◌, ◌++◌, refl, sym, subst, Val, SProp, ent, id⊢, ftrue, WpFn, ‵, raw, ◌⊛◌, ◌$◌, ◌∵◌, !, qed, by, move, keep}
+use Rattle.resil_c.proofs.Walks.{split, fsplit, fjoin, suffices, use0, use1, emp, stop, fld, of_opd, no_more, and_then, returns, enter, alloc_all, pass_all}
+use Rattle.resil_c.proofs.Walks.{free_all, look_at, get, get_in, sets, agg, sub, whole, fact, fact_i, tables, yes, RattleType, owns, types_at, plain, nothing}
+use Rattle.resil_c.proofs.Walks.{Stays, stay_dropped, walk_of, Goes-dropped, proved_at, leaves, ◌≡◌, Some, ghosts}
 use Rattle.std.specs.contracts.alloc.Global as heap
 use Rattle.std.proofs.alloc.Global.TheLaws as heap_laws
-use Rattle.std.specs.contracts.impls.GlobalAllocator.TheImpl.{ghosts}
 use Rattle.resil_c.specs.contracts.permit.owned_pass.OwnedPass as pass
 use Rattle.resil_c.specs.contracts.permit.handle.Handle as handle
 use Rattle.resil_c.proofs.Parts.{word, Parts, word_good, parts_tell}
