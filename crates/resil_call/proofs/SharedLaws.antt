@@ -105,7 +105,7 @@ module _ {T C P : Type 0} (CanCall : C → Type 0) (IsAnswer : C → T → C →
       after = (
         (called retried.last.shared tried.answer new retried.called).1,
         kept_by_call retried.last.shared tried.answer new retried.called (IsRetriedSharingWithin-keeps _ _ _ _ _ max (λ k x. Keeps x)
-        (λ k x answer between wait y j before_last answered again is_wait waited.
-        let now = kept_by_call x answer between answered j in (now.0 ∙ sym (ap (λ r. r.ghost_name) waited.2), now.1 ∙ sym waited.3, λ all n. waited.1 n (now.2 all (1 + n))))
-        old new limit rest tried retried (refl, refl, λ all. all)),
+            (λ k x answer between wait y j before_last answered again is_wait waited.
+            let now = kept_by_call x answer between answered j in (now.0 ∙ sym (ap (λ r. r.ghost_name) waited.2), now.1 ∙ sym waited.3, λ all n. waited.1 n (now.2 all (1 + n))))
+            old new limit rest tried retried (refl, refl, λ all. all)),
       )
