@@ -33,12 +33,12 @@ fn single_output<R: InputReader>(
 {
     match read_input(alloc, reader) {
         Ok(Input::Whole(bytes)) => {
-            let output = match command_text(alloc, single, &bytes) {
-                Ok(text) => Output::Text(text),
-                Err(error) => error_output(alloc, error),
-            };
+            let answer = command_text(alloc, single, &bytes);
             reader.take_back(bytes);
-            Ok(output)
+            match answer {
+                Ok(text) => Ok(Output::Text(text)),
+                Err(error) => Ok(error_output(alloc, error)),
+            }
         }
         Ok(Input::TooLong) => Ok(error_output(alloc, CommandError::Refused(Refusal::TooLong))),
         Err(ReadError::Memory) => Ok(Output::NoMemory),
@@ -60,12 +60,12 @@ fn run_output<R: Threads + Wait + Sync, S: InputReader>(
 {
     match read_input(alloc, reader) {
         Ok(Input::Whole(bytes)) => {
-            let output = match run::text(&ThreadRunner, rt, alloc, words, &bytes) {
-                Ok(text) => Output::Text(text),
-                Err(error) => error_output(alloc, error),
-            };
+            let answer = run::text(&ThreadRunner, rt, alloc, words, &bytes);
             reader.take_back(bytes);
-            Ok(output)
+            match answer {
+                Ok(text) => Ok(Output::Text(text)),
+                Err(error) => Ok(error_output(alloc, error)),
+            }
         }
         Ok(Input::TooLong) => Ok(error_output(alloc, CommandError::Refused(Refusal::TooLong))),
         Err(ReadError::Memory) => Ok(Output::NoMemory),

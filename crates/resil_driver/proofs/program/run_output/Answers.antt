@@ -15,8 +15,8 @@ returns-in-Ok-clause-output g c =
           let text : IsAnswerOf (Run c.args.words) bytes c.in-Ok.text.items = (here.1, rw (c.deref.ensures.value ∙ here.0) at c.in-Ok.ensures) in text),
     )
 
-pub returns-in-Ok-Whole-clause-output : goal.returns-in-Ok-Whole-clause-output
-returns-in-Ok-Whole-clause-output g c =
+pub returns-in-Err-clause-output : goal.returns-in-Err-clause-output
+returns-in-Err-clause-output g c =
     run_stopped c.args.words _ c.in-Ok-Whole.bytes.items c.in-Err.error c.error_output.result (rw c.in-Ok-Whole.field-0-is at c.in-Ok-Whole.ensures.input) (rw c.deref.ensures.value at c.in-Err.ensures)
     c.error_output.ensures
 
