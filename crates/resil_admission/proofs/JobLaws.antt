@@ -1,5 +1,5 @@
 -- The accepted jobs: plans by id, runs by id, and the results in order.
-use Rattle.std.proofs.Common.{◌≡◌, ◌<◌, ◌≤◌, slice_get, ◌∷◌, [], ◌++◌, ◌∙◌, ℕ, zero, suc, Bool, true, false, cond, List, Option, Some, None, option_map, length, length-append, drop, not, get_or, set, map, nat_lt, ◌-◌, refl, sym, ap, subst, arith}
+use Rattle.std.proofs.Common.{◌≡◌, ◌<◌, ◌≤◌, slice_get, ◌∷◌, [], ◌++◌, ◌∙◌, ℕ, zero, suc, Bool, true, false, cond, List, Option, Some, None, option_map, length, length-append, not, get_or, set, map, nat_lt, ◌-◌, refl, sym, ap, arith}
 use Rattle.std.specs.List.{position, position_or_len, flat_map, list_all}
 use Rattle.std.specs.Option.{is_some}
 use Rattle.std.specs.Prelude.{IsTrue}
@@ -11,7 +11,7 @@ use Rattle.std.proofs.lemmas.List.Recursion.{found_set_other}
 use Rattle.std.proofs.lemmas.List.Sums.{prefix_len-le-length}
 use Rattle.resil_decor.specs.Plan.{PlanView}
 use Rattle.resil_decor.specs.Run.{RunView, IsValue}
-use Rattle.resil_rule.proofs.IdLaws.{both, same_id-self, same_id-equal}
+use Rattle.resil_rule.proofs.IdLaws.{both, same_id-equal}
 use Rattle.resil_rule.proofs.TimesLaws.{same_id-sym}
 use Rattle.resil_rule.specs.History.{is_among, is_same_id}
 use Rattle.resil_admission.specs.MachineView.{plan_of, ids_of, with_run, AllDone, AreResultsOf}

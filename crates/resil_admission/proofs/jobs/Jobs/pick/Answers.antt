@@ -1,4 +1,4 @@
-use Rattle.std.proofs.Common.{◌≡◌, ◌-◌, ◌<◌, ◌≤◌, ◌∙◌, ℕ, Bool, true, false, Option, Some, None, IfSome, if◌then◌else◌, List, get_or, length, set, refl, sym, ap, arith, length-set}
+use Rattle.std.proofs.Common.{◌≡◌, ◌-◌, ◌<◌, ◌∙◌, Bool, true, false, Option, Some, None, IfSome, if◌then◌else◌, List, get_or, length, set, refl, sym, ap, arith, length-set}
 use Rattle.std.proofs.Math.Seq.{map-set_same}
 use Rattle.std.specs.List.{position}
 use Rattle.resil_decor.specs.Plan.{PlanView}

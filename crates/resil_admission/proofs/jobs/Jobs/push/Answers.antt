@@ -1,8 +1,7 @@
-use Rattle.std.proofs.Common.{◌≡◌, ◌+◌, ◌∷◌, [], ◌++◌, ◌∙◌, inl, inr, ℕ, List, Option, Some, None, true, false, cond, length, map, sym, ap, subst, refl, arith, length-append}
+use Rattle.std.proofs.Common.{◌≡◌, ◌+◌, ◌∷◌, [], ◌++◌, ◌∙◌, inl, inr, ℕ, List, Option, Some, None, true, false, cond, length, map, sym, ap, refl, arith, length-append}
 use Rattle.std.specs.List.{position}
 use Rattle.std.proofs.lemmas.List.{append_assoc, map-append, length-map}
 use Rattle.resil_rule.specs.History.{is_same_id, is_among}
-use Rattle.resil_rule.specs.declared.event.Id.{Id}
 use Rattle.resil_rule.proofs.IdLaws.{same_id-equal}
 use Rattle.resil_admission.specs.MachineView.{ids_of}
 use Rattle.resil_admission.specs.SubmissionTable.{place_at}

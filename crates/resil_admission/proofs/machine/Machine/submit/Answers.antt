@@ -1,4 +1,4 @@
-use Rattle.std.proofs.Common.{inl, inr, ◌≡◌, ◌≤◌, ◌+◌, ◌++◌, ◌∷◌, [], ◌∙◌, suc, List, None, true, false, sym, ap, subst, refl, arith}
+use Rattle.std.proofs.Common.{inl, inr, ◌≡◌, ◌≤◌, ◌+◌, ◌++◌, ◌∷◌, [], ◌∙◌, suc, List, None, true, false, sym, ap, refl, arith}
 use Rattle.resil_rule.specs.History.{is_among}
 use Rattle.resil_rule.specs.RuleView.{RuleView, made_by, next_reply, is_acceptance, counted, with_submission, owed}
 use Rattle.resil_rule.specs.RuleState.{IsStateOf, Follows}
