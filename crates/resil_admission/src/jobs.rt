@@ -1,12 +1,12 @@
 //! The accepted jobs of a pool: each with its plan, and with its run where it has one.
 //!
-//! A job is here until it is picked, and its plan stays. Jobs stay in order of acceptance, so that a run can
-//! be compared with the plan that was submitted, and the results stand in that order. The results of the oldest jobs, none of them after a job that
-//! isn't finished, are rows, which are handed out as they are. The later jobs wait in a queue for their
-//! rows, and the room that they had there is used again. A table tells by the id of a job where it stands,
-//! so a job is never searched for. So a pool that runs for long has one row a job, one entry a submission
-//! in the table, and little more. The room for the rows is reserved with the jobs, so they are given out
-//! without asking for memory.
+//! A job is here until it is picked, and its plan stays. Jobs stay in order of acceptance, so that a run
+//! can be compared with the plan that was submitted, and the results stand in that order. The results of
+//! the oldest jobs, none of them after a job that isn't finished, are rows, which are handed out as they
+//! are. The later jobs wait in a queue for their rows, and the room that they had there is used again. A
+//! table tells by the id of a job where it stands, so a job is never searched for. So a pool that runs
+//! for long has one row a job, one entry a submission in the table, and little more. The room for the
+//! rows is reserved with the jobs, so they are given out without asking for memory.
 
 ghost use Rattle.std.specs.Prelude.{◌≡◌, ◌↔◌, ◌⊎◌, ◌<◌, ◌≤◌, true, false, ◌++◌, ◌∷◌, [], None, Some, option_map, slice_get, position, IsTrue, IsSome, IsOk, IfOk, IfErr, IfSome, OnOk, OnErr};
 ghost use Rattle.std.specs.List.{list_all};

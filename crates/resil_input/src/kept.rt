@@ -23,7 +23,8 @@ impl<R> KeptInput<R> {
         KeptInput { inner, kept: None }
     }
 
-    /// The whole input, or `None` where it wasn't handed back: nothing was asked of it, it was too long, or a read failed.
+    /// The whole input, in bytes, or `None` where it wasn't handed back: where none was read, it was too long, memory ran out, or a
+    /// read failed.
     pub fn input(&self) -> Option<&[u8]> {
         self.kept.as_ref().map(|input| input.as_slice())
     }
