@@ -1,4 +1,5 @@
 """Builds what is compared, and says what is left out. What was built lies in out/bench."""
+import json
 import os
 import shutil
 import subprocess
@@ -15,6 +16,14 @@ RUST_PEERS = {
     "parking_lot_permits": ("parking_lot", []),
     "threadpool_pool": ("threadpool", []),
     "crossbeam_pool": ("crossbeam", []),
+}
+
+# Those whose jobs hand an answer back, beside `ThreadPool` for rustc: a label, and the crates of each.
+ANSWERS = {
+    "answers_threadpool": ("`threadpool`, a channel for each job", {"threadpool": []}),
+    "answers_crossbeam": ("crossbeam's channel, tokio's `oneshot` for each job", {"crossbeam": [], "tokio": ["sync"]}),
+    "answers_rayon": ("rayon, tokio's `oneshot` for each job", {"rayon": [], "tokio": ["sync"]}),
+    "answers_tokio": ("tokio's tasks", {"tokio": ["rt-multi-thread"]}),
 }
 
 BEFORE = os.environ.get("RESIL_BENCH_BEFORE")  # another checkout of the repository, for rows of it
@@ -116,11 +125,11 @@ def is_packaged(what, *crates):
     return missing is None
 
 
-def build_rust_peer(name):
-    """A program that stands on a crate of others, where that is there."""
-    crate, features = RUST_PEERS[name]
-    listed = ", ".join(f'"{feature}"' for feature in features)
-    return build_cargo(name, f'{crate} = {{ version = "*", features = [{listed}] }}') if is_packaged(f"rust/{name}.rs", crate) else None
+def build_rust_peer(name, crates=None):
+    """A program that stands on crates of others, where they are there."""
+    crates = crates or dict([RUST_PEERS[name]])
+    lines = (f'{crate} = {{ version = "*", features = {json.dumps(features)} }}' for crate, features in crates.items())
+    return build_cargo(name, "\n".join(lines)) if is_packaged(f"rust/{name}.rs", *crates) else None
 
 
 def libraries():
@@ -195,13 +204,15 @@ def build_peers(names):
             Peer("`Decorators`", bindings, "chain"),
             Peer("the same by hand", bindings, "chain_by_hand"),
         ],
-        "answers": [
-            Peer("`ThreadPool` for rustc", thread_pool, "answers"),
-            Peer("`threadpool`, a channel for each job", threadpool, "answers"),
-            Peer("`threadpool`, a channel for all jobs of a caller", threadpool, "gathered"),
-        ],
         "steady": [Peer("`ThreadPool` for rustc", thread_pool, "jobs")],
     }
+    if "answers" in names:
+        tables["answers"] = [
+            Peer("`ThreadPool` for rustc", thread_pool, "answers"),
+            Peer("before", build_before("thread_pool"), "answers"),
+            *(Peer(label, build_rust_peer(name, crates), "answers") for name, (label, crates) in ANSWERS.items()),
+            Peer("the JDK's, `submit` with its futures", (java := build_java()) and [*java, "Pools"], "answers"),
+        ]
     if "tower" in names:
         tower = build_tower("tower_calls")
         tables["tower"] = [
@@ -209,6 +220,7 @@ def build_peers(names):
             Peer("the same over tokio's `try_acquire_owned`", tower, "semaphore"),
             Peer("no layer", tower, "bare"),
             Peer("`BulkheadLayer::waiting`", tower, "waiting"),
+            Peer("`BulkheadLayer::queueing`", tower, "queueing"),
             Peer("tower's `ConcurrencyLimit`", tower, "limit"),
         ]
     if "awaits" in names:

@@ -1,8 +1,9 @@
 /* The bell of resil_lock, where workers that find no job sleep.
 
    WORKERS threads work, SUBMITTERS others submit JOBS together, and a job ends only once GATE of them have begun, as one that
-   calls a slow neighbour, or once fewer may run. With CLOSE the pool is closed behind the last submission. With SHRINK the greatest
-   size is lowered to it at any time and, with GROW, set back at any time behind that. No sleep ends by itself, but TIMEOUTS of them.
+   calls a slow neighbour, or once fewer may run. With CLOSE the pool is closed behind the last submission; a worker leaves it once
+   nothing runs, or with LEAVES_AT_ONCE, as in resil_pool, once there is nothing to pick. With SHRINK the greatest size is lowered to
+   it at any time and, with GROW, set back at any time behind that. No sleep ends by itself, but TIMEOUTS of them.
 
    A step is one load, store, add or exchange of a shared word. A turn under the lock is one step, since only `ready` is read
    outside of it, and that is written last. A searcher looks at `ready` once, at whatever time: only its last look matters. */
@@ -34,8 +35,14 @@ byte over;
 /* A job ends once GATE have begun, or where fewer may run at once. */
 #define may_end (begun >= GATE || max < GATE)
 
+#ifdef LEAVES_AT_ONCE
+#define is_over (closed && !can_pick)
+#else
+#define is_over (closed && queued == 0 && running == 0)
+#endif
+
 /* `Bell::set_ready`, by the holder of the lock. */
-#define set_ready() ready = (closed || can_pick)
+#define set_ready() ready = (is_over || can_pick)
 
 inline raise_rings() {
     d_step {
@@ -134,8 +141,8 @@ look:
     atomic {
         if
         :: can_pick -> queued--; begun++; running++; set_ready()
-        :: !can_pick && closed && queued == 0 && running == 0 -> goto left
-        :: !can_pick && (!closed || queued > 0 || running > 0) -> set_ready(); goto nothing
+        :: !can_pick && is_over -> goto left
+        :: !can_pick && !is_over -> set_ready(); goto nothing
         fi
     }
 
@@ -213,7 +220,9 @@ up:
     fi;
 
 left:
+#ifndef LEAVES_IN_SILENCE
     ring_for_all();
+#endif
     over++
 }
 

@@ -1,7 +1,7 @@
 /* Who waits for a permit of bindings/rust's Bulkhead: tasks that stand in a row, and threads that sleep.
 
    PERMITS permits are held at first, each by one holder, who gives it back. TASKS tasks await a permit and THREADS threads sleep for
-   one; who gets one gives it back or, with KEEPS, keeps it. LEAVES of the tasks may be dropped at any time, GIVE_UP of the threads
+   one; who gets one gives it back or, with KEEPS, keeps it. The first task awaits MANY permits, by as many places in the row. LEAVES of the tasks may be dropped at any time, GIVE_UP of the threads
    may give up at any time, and BARGERS others take a permit by a plain try and give it back.
 
    A step is one operation on the permits, on `waiting` or on the bell, or one hold of the gate's lock but for the permits. */
@@ -18,15 +18,19 @@
 #ifndef TASKS
 #define TASKS 1
 #endif
+#ifndef MANY
+#define MANY 1
+#endif
 #ifndef THREADS
 #define THREADS 1
 #endif
 
 byte free, waiting, threads;
 bool gate, thread_first;
-/* The row, whose tasks have got a permit, which threads sleep on the bell, and who was woken. */
-chan row = [TASKS + 1] of { byte };
-bool given[TASKS + 1], asleep[THREADS + 1];
+/* The row, how many permits its tasks have got, which threads sleep on the bell, and who was woken. */
+chan row = [TASKS + MANY] of { byte };
+byte given[TASKS + 1];
+bool asleep[THREADS + 1];
 byte leaves = LEAVES, give_up = GIVE_UP;
 /* Who still waits when nobody can take a step. */
 byte waits_on;
@@ -35,17 +39,28 @@ inline lock_gate() { atomic { !gate -> gate = true } }
 
 inline try(got) { d_step { got = (free > 0); free = free - got } }
 
-/* `Bulkhead::hand_on`, by who has the gate: whether a task has got a permit. */
+#define NEEDS(who) (who == 0 -> MANY : 1)
+
+/* `Bulkhead::give`, by who has the gate: whether the first task has all that it awaits. */
+inline give(got, who) {
+    row?who;
+    given[who]++;
+    got = (given[who] == NEEDS(who));
+    waiting = waiting - got
+}
+
+/* `Bulkhead::hand_on`, by who has the gate: whether a task has got all. */
 inline hand_on(got, who) {
-    if
-    :: len(row) == 0 -> got = false
-    :: len(row) > 0 ->
+    got = false;
+    do
+    :: got || len(row) == 0 -> break
+    :: !got && len(row) > 0 ->
         try(got);
         if
-        :: got -> row?who; given[who] = true; waiting--
-        :: !got
+        :: got -> give(got, who)
+        :: !got -> break
         fi
-    fi
+    od
 }
 
 inline wake_one_thread() {
@@ -64,9 +79,7 @@ inline pass_on(got, who) {
     if
     :: len(row) > 0 && !(threads > 0 && thread_first) ->
         thread_first = true;
-        row?who;
-        given[who] = true;
-        waiting--;
+        give(got, who);
         got = true
 #ifdef WHO_FINDS_NO_TASK_KEEPS_IT
     :: len(row) == 0 -> got = true
@@ -136,7 +149,7 @@ proctype Task(byte me) {
     byte who, count, other;
     bool got, stands;
     if
-    :: waiting == 0 -> try(got)
+    :: waiting == 0 && NEEDS(me) == 1 -> try(got)
     :: else
     fi;
     if
@@ -145,20 +158,33 @@ proctype Task(byte me) {
     fi;
     lock_gate();
     waiting++;
+    if
+    :: NEEDS(me) > 1 ->
+        stands = (len(row) == 0);
+        atomic { do :: count < NEEDS(me) -> row!me; count++ :: else -> break od };
+        if
+        :: stands -> hand_on(got, who)
+        :: !stands
+        fi;
+        gate = false
+    :: else ->
 #ifndef NOBODY_LOOKS_IN_THE_ROW
-    if
-    :: len(row) == 0 -> try(got)
-    :: else
-    fi;
+        if
+        :: len(row) == 0 -> try(got)
+        :: else
+        fi;
 #endif
-    if
-    :: got -> waiting--; gate = false; goto has
-    :: !got -> row!me; gate = false
+        if
+        :: got -> waiting--; given[me] = 1
+        :: !got -> row!me
+        fi;
+        gate = false
     fi;
+    stands = false;
     waits_on++;
     if
     /* It fetches what it was given. */
-    :: atomic { given[me] && !gate -> waits_on--; given[me] = false }
+    :: atomic { given[me] == NEEDS(me) && !gate -> waits_on--; given[me] = 0 }
         goto has
     :: atomic { leaves > 0 -> leaves--; waits_on-- }
         /* the drop */
@@ -178,19 +204,27 @@ proctype Task(byte me) {
             other = 0
         }
         if
-        :: stands -> waiting--; gate = false; goto gone
+        :: stands -> waiting--; gate = false
         :: !stands -> gate = false
         fi;
 #ifndef A_DROP_KEEPS_ITS_PERMIT
-        given[me] = false;
-        release(got, who);
-#endif
+        count = given[me];
+        goto gives_back
+#else
         goto gone
+#endif
     fi;
 has:
-#ifndef KEEPS
-    release(got, who);
+    count = NEEDS(me);
+#ifdef KEEPS
+    goto gone;
 #endif
+gives_back:
+    given[me] = 0;
+    do
+    :: count > 0 -> count--; release(got, who)
+    :: count == 0 -> break
+    od;
 gone:
     skip
 }

@@ -1,6 +1,7 @@
 """What the tools in Python share: how they count and tell, how they take cases, and how they run a program over faults.
 
-tools/lib.sh has the same for those in shell. The last line of each of them is 'N passed, M failed'.
+tools/lib.sh has the same for those in shell. The last line of each of them is 'N passed, M failed', with ', K skipped' where something
+was left out.
 """
 import os
 import shutil
@@ -16,10 +17,10 @@ LIBRARY = OUT / "faults.so"
 
 
 class Count:
-    """How many have passed and failed."""
+    """How many have passed, failed and been left out."""
 
     def __init__(self):
-        self.passed = self.failed = 0
+        self.passed = self.failed = self.skipped = 0
 
     def tell(self, holds, told, count=1):
         """Counts what has passed where it holds; else it has failed, and the text says how."""
@@ -28,6 +29,11 @@ class Count:
         else:
             self.failed += 1
             print(f"{ME}: {told}", flush=True)
+
+    def skip(self, told):
+        """Counts what was left out, and says why."""
+        self.skipped += 1
+        print(f"{ME}: {told}", flush=True)
 
     def tell_each(self, places, works):
         """Tells what each work, a function with its words, yields: (holds, told) and maybe a count. So many processes go side by side."""
@@ -38,8 +44,8 @@ class Count:
 
     def finish(self):
         """Writes the last line, and ends. Nothing at all is a failure."""
-        self.failed += not (self.passed or self.failed)
-        print(f"{self.passed} passed, {self.failed} failed")
+        self.failed += not (self.passed or self.failed or self.skipped)
+        print(f"{self.passed} passed, {self.failed} failed" + f", {self.skipped} skipped" * (self.skipped > 0))
         sys.exit(self.failed > 0)
 
 
@@ -57,16 +63,25 @@ def make_folder():
 # ---- Programs and cases.
 
 
+def need_rt():
+    """Ends where rt isn't there, before anything else is tried."""
+    if not shutil.which("rt"):
+        print(f"{ME}: rt is not there, the command of the Rattle kit; README.md, 'First commands', says what it is", file=sys.stderr)
+        sys.exit(127)
+
+
 def build_programs():
     """Sees to it that RESIL_BUILT and RESIL_LOOK_BUILT name the programs: else those are taken that ./resil proves and builds."""
     if not (os.environ.get("RESIL_BUILT") and os.environ.get("RESIL_LOOK_BUILT")):
-        subprocess.run([ROOT / "resil", "prove"], check=True)
+        need_rt()
+        if subprocess.run([ROOT / "resil", "prove"], check=False).returncode:
+            sys.exit(1)
         os.environ.update(RESIL_BUILT=str(ROOT / "out/resil"), RESIL_LOOK_BUILT=str(ROOT / "out/resil_look"))
 
 
 def called(words):
     """The words of a command, behind the program that answers it."""
-    return [os.environ["RESIL_LOOK_BUILT" if words[:1] in (["stats"], ["timeline"]) else "RESIL_BUILT"], *words]
+    return [os.environ["RESIL_LOOK_BUILT" if words[:1] in (["judge"], ["stats"], ["timeline"]) else "RESIL_BUILT"], *words]
 
 
 def lay_out_cases(folder):

@@ -1,5 +1,5 @@
 # shellcheck shell=bash disable=SC2034 # what is set here is for those that read this file
-# What ./test and the tools in shell share: how they count and tell, and how they take cases. tools/common.py has it for those in Python.
+# What ./test and the tools in shell share: how they begin and end, count and tell, and take cases. tools/common.py has it for those in Python.
 #
 # Whoever reads it stands at the top of the repository then. The last line of each of them is 'N passed, M failed', with
 # ', K skipped' where something was left out.
@@ -8,6 +8,40 @@ me=${0##*/}
 passed=0
 failed=0
 skipped=0
+job=
+
+# Ends where rt isn't there, before anything else is tried.
+need_rt() {
+    command -v rt >/dev/null && return
+    echo "$me: rt is not there, the command of the Rattle kit; README.md, 'First commands', says what it is" >&2
+    exit 127
+}
+
+# Makes a folder of all commands of the path but for the toolchain's.
+make_path() {
+    local folders at
+    mkdir "$1"
+    IFS=: read -ra folders <<<"$PATH"
+    for ((at = ${#folders[@]} - 1; at >= 0; at--)); do
+        find "${folders[at]}/" -mindepth 1 -maxdepth 1 -exec ln -sf -t "$1" {} + 2>/dev/null
+    done
+    rm -f "$1"/{rt,rt-*,rattle,rattle-*}
+}
+
+# Runs a command in a group of processes of its own, which `stop` ends with all that it has started.
+run_job() {
+    set -m
+    "$@" &
+    job=$!
+    set +m
+    wait "$job"
+}
+
+stop() {
+    [ -z "$job" ] || kill -TERM -- "-$job" 2>/dev/null
+    echo "$me: interrupted" >&2
+    exit 1
+}
 
 # Counting and telling.
 
@@ -145,6 +179,7 @@ take_case() {
 # Sees to it that RESIL_BUILT and RESIL_LOOK_BUILT name the programs: else those are taken that ./resil proves and builds.
 build_programs() {
     if [ -z "${RESIL_BUILT:-}" ] || [ -z "${RESIL_LOOK_BUILT:-}" ]; then
+        need_rt
         ./resil prove || return
         export RESIL_BUILT=$PWD/out/resil RESIL_LOOK_BUILT=$PWD/out/resil_look
     fi
@@ -154,7 +189,7 @@ build_programs() {
 take_program() {
     top=resil
     program=${RESIL_BUILT:-}
-    if [[ $1 == stats || $1 == timeline ]]; then
+    if [[ $1 == judge || $1 == stats || $1 == timeline ]]; then
         top=resil_look
         program=${RESIL_LOOK_BUILT:-}
     fi

@@ -2,6 +2,7 @@ import java.io.BufferedReader;
 import java.io.IOException;
 import java.io.InputStreamReader;
 import java.util.ArrayList;
+import java.util.Arrays;
 import java.util.List;
 import java.util.concurrent.ExecutionException;
 import java.util.concurrent.Future;
@@ -9,6 +10,7 @@ import java.util.concurrent.LinkedBlockingQueue;
 import java.util.concurrent.ThreadPoolExecutor;
 import java.util.concurrent.TimeUnit;
 import java.util.concurrent.atomic.AtomicLong;
+import java.util.concurrent.locks.LockSupport;
 
 /**
  * Jobs through the JDK's ThreadPoolExecutor. With the word {@code recorded} a listener writes the submissions, takes and
@@ -173,14 +175,14 @@ public final class Pools {
         System.out.println("works: " + pool.getCompletedTaskCount());
     }
 
-    private static void answers(int callers, int workers, long works) throws InterruptedException {
+    private static void answers(int callers, int workers, long works, long atOnce) throws InterruptedException {
         Pool pool = new Pool(false, workers);
         AtomicLong right = new AtomicLong();
         Thread[] threads = new Thread[callers];
         for (int i = 0; i < callers; i++) {
             threads[i] = new Thread(() -> {
                 try {
-                    right.addAndGet(answersOf(pool, works / callers, 65_536 / callers));
+                    right.addAndGet(answersOf(pool, works / callers, Math.min(atOnce, 65_536 / callers)));
                 } catch (ExecutionException | InterruptedException error) {
                     throw new IllegalStateException(error);
                 }
@@ -192,6 +194,26 @@ public final class Pools {
         }
         pool.close();
         System.out.println("answers: " + right.get());
+    }
+
+    /** Tells the median and the 99th hundredth of the ns from a submission to its start, while all workers are idle. */
+    private static void starts(int workers, int jobs) throws InterruptedException {
+        Pool pool = new Pool(false, workers);
+        pool.prestartAllCoreThreads();
+        long[] times = new long[jobs];
+        for (int job = 0; job < jobs; job++) {
+            LockSupport.parkNanos(500_000);
+            AtomicLong start = new AtomicLong();
+            long begun = System.nanoTime();
+            pool.submit(() -> start.set(System.nanoTime() - begun));
+            while (start.get() == 0) {
+                Thread.onSpinWait();
+            }
+            times[job] = start.get();
+        }
+        pool.close();
+        Arrays.sort(times);
+        System.out.println(times[jobs / 2] + " " + times[jobs * 99 / 100] + " ns, " + jobs + " jobs");
     }
 
     private static void waitFor(AtomicLong started, long count) {
@@ -267,8 +289,11 @@ public final class Pools {
                 open(recorded, Integer.parseInt(words[1]), lines);
             } else if (words[0].equals("works")) {
                 works(Integer.parseInt(words[1]), Integer.parseInt(words[2]), Long.parseLong(words[3]));
+            } else if (words[0].equals("starts")) {
+                starts(Integer.parseInt(words[1]), Integer.parseInt(words[2]));
             } else if (words[0].equals("answers")) {
-                answers(Integer.parseInt(words[1]), Integer.parseInt(words[2]), Long.parseLong(words[3]));
+                long atOnce = words.length > 4 ? Long.parseLong(words[4]) : 65_536;
+                answers(Integer.parseInt(words[1]), Integer.parseInt(words[2]), Long.parseLong(words[3]), atOnce);
             } else {
                 run(recorded, Integer.parseInt(words[1]), Integer.parseInt(words[2]), Long.parseLong(words[3]));
             }

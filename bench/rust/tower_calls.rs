@@ -1,6 +1,6 @@
 //! Calls of a service that answers at once, by tower: `layer THREADS CALLS` asks for them through the layer of resil-tower,
 //! `semaphore` through a service of the same form whose permits are tokio's, by `try_acquire_owned`, `bare` through none;
-//! `waiting` through the layer that waits, `limit` through tower's `ConcurrencyLimit`.
+//! `waiting` and `queueing` through the layers that wait, `limit` through tower's `ConcurrencyLimit`.
 mod rounds;
 
 use resil::Bulkhead;
@@ -104,6 +104,11 @@ fn main() {
                 let backend = Bulkhead::new("backend", max).expect("a bulkhead with its memory");
                 let layer = if name == "layer" { BulkheadLayer::new } else { BulkheadLayer::waiting };
                 calls(threads, count, layer(Arc::new(backend)).layer(Answers));
+            }
+            "queueing" => {
+                let max = threads.try_into().expect("some threads");
+                let backend = Bulkhead::new("backend", max).expect("a bulkhead with its memory");
+                calls(threads, count, BulkheadLayer::queueing(Arc::new(backend)).layer(Answers));
             }
             "limit" => calls(threads, count, ConcurrencyLimitLayer::new(threads).layer(Answers)),
             "semaphore" => {

@@ -1,5 +1,5 @@
 /* Four threads go in and out of two permits, while an operator retires one and raises it again. There are never more
- * inside than are in use, and all permits come back. */
+ * inside than are in use, and all permits come back. With a number behind the program they do so for as many seconds. */
 #define _POSIX_C_SOURCE 200809L /* for pthread_barrier_t */
 
 #include "resil_permit.h"
@@ -7,7 +7,10 @@
 #include <pthread.h>
 #include <sched.h>
 #include <stdatomic.h>
+#include <stdbool.h>
 #include <stdio.h>
+#include <stdlib.h>
+#include <time.h>
 
 enum { THREADS = 4, PERMITS = 2, TRIES = 1000000, RETIRES = 10000 };
 
@@ -17,6 +20,12 @@ static _Atomic long entered;
 static _Atomic long wrong;
 static _Atomic long crowded;
 static pthread_barrier_t start;
+static time_t end;
+
+/* Whether a thread goes on, behind so many rounds of those that it makes at least. */
+static bool goes_on(long rounds, long least) {
+    return rounds < least || (end != 0 && time(0) < end);
+}
 
 static void goes_in(void) {
     int now = atomic_fetch_add(&inside, 1) + 1;
@@ -28,7 +37,7 @@ static void goes_in(void) {
 static void *goes_in_and_out(void *given) {
     resil_permit_pass *pass = given;
     pthread_barrier_wait(&start);
-    for (int tries = 0; tries < TRIES; tries++) {
+    for (long tries = 0; goes_on(tries, TRIES); tries++) {
         if (!resil_permit_enter(pass)) continue;
         goes_in();
         atomic_fetch_add(&entered, 1);
@@ -42,7 +51,7 @@ static void *goes_in_and_out(void *given) {
 static void *retires_and_raises(void *given) {
     resil_permit_pass *pass = given;
     pthread_barrier_wait(&start);
-    for (int round = 0; round < RETIRES; round++) {
+    for (long round = 0; goes_on(round, RETIRES); round++) {
         while (!resil_permit_enter(pass)) sched_yield();
         if (resil_permit_retire(*pass, pass) != RESIL_PERMIT_RETIRED) atomic_fetch_add(&wrong, 1);
         if (resil_permit_retired(*pass, pass) != 1) atomic_fetch_add(&wrong, 1);
@@ -58,7 +67,8 @@ static int told(bool holds, const char *what) {
     return holds ? 0 : 1;
 }
 
-int main(void) {
+int main(int count, char **words) {
+    if (count > 1) end = time(0) + atoi(words[1]);
     resil_permit_pass passes[THREADS + 1] = {{0}};
     pthread_t threads[THREADS + 1];
     int failed = told(resil_permit_new(65536, &passes[0]) == RESIL_PERMIT_TOO_MANY, "65,536 permits were made");

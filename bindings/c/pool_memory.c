@@ -4,7 +4,8 @@
 #include <stdio.h>
 #include <unistd.h>
 
-enum { JOBS = 1000000, CALLERS = 8 };
+/* An emulator round the program takes some pages of its own; a byte lost by each job would take 219. */
+enum { JOBS = 1000000, CALLERS = 8, PAGES_OF_OTHERS = 16 };
 
 /* The pages that are resident, or -1 where the system doesn't tell. */
 static long resident_pages(void) {
@@ -43,7 +44,8 @@ int main(void) {
     if (!rounds(&pool, JOBS / CALLERS / 10 + 1, JOBS / CALLERS)) return 1;
     long after = resident_pages();
     if (resil_pool_numbers(pool, &pool, &counts) != RESIL_POOL_TOLD || counts.finished != JOBS) return 1;
-    if (after > before) printf("pool_memory: %ld pages more\n", after - before);
     resil_pool_free(pool);
-    return after > before ? 1 : 0;
+    if (after - before <= PAGES_OF_OTHERS) return 0;
+    printf("pool_memory: %ld pages more\n", after - before);
+    return 1;
 }

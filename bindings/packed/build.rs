@@ -1,7 +1,19 @@
-//! Links the static library that lies in this crate's folder `lib`.
+//! Links the static library of the target, which lies in a folder of this crate's folder `lib`.
+use std::env;
+use std::path::Path;
+
 fn main() {
-    let folder = concat!(env!("CARGO_MANIFEST_DIR"), "/lib");
-    println!("cargo::rerun-if-changed={folder}/libresil.a");
-    println!("cargo::rustc-link-search=native={folder}");
+    let lib = Path::new(env!("CARGO_MANIFEST_DIR")).join("lib");
+    let target = env::var("TARGET").expect("cargo sets it");
+    // Of the C library it takes malloc, realloc, free and memset alone, which musl has too.
+    let folder = lib.join(target.replace("-musl", "-gnu"));
+    println!("cargo::rerun-if-changed={}", lib.display());
+    if !folder.is_dir() {
+        println!(
+            "cargo::error=resil has no library for {target}: its README.md names the targets that it has"
+        );
+        return;
+    }
+    println!("cargo::rustc-link-search=native={}", folder.display());
     println!("cargo::rustc-link-lib=static=resil");
 }

@@ -1,15 +1,39 @@
-//! Finds the static libraries: in the folders of `RESIL_LIBRARIES`, separated by `:`, or else in those of this repository
-//! and of the toolchain whose `rt` is on the path.
+//! Finds the static library of cargo's target. Of x86-64 Linux it is two archives, in the folders of `RESIL_LIBRARIES`,
+//! separated by `:`, or else in those of this repository and of the toolchain whose `rt` is on the path; of any other target
+//! what `tools/targets` of the repository has made.
 use std::env;
 use std::path::{Path, PathBuf};
-
-const ARCHIVES: [&str; 2] = ["resil_c", "libc_c"];
 
 fn main() {
     println!("cargo::rerun-if-env-changed=RESIL_LIBRARIES");
     println!("cargo::rerun-if-env-changed=PATH");
+    let target = env::var("TARGET").expect("cargo sets it");
+    // Of the C library they take malloc, realloc, free and memset alone, which musl has too.
+    let target = target.replace("-musl", "-gnu");
+    if target == "x86_64-unknown-linux-gnu" {
+        link_two();
+    } else {
+        link_one(&target);
+    }
+}
+
+fn link_one(target: &str) {
+    let folder = Path::new(env!("CARGO_MANIFEST_DIR")).join("../../out/lib");
+    let folder = folder.join(target);
+    println!("cargo::rerun-if-changed={}", folder.display());
+    if folder.is_dir() {
+        println!("cargo::rustc-link-search=native={}", folder.display());
+        println!("cargo::rustc-link-lib=static=resil");
+    } else {
+        println!(
+            "cargo::error=resil has no library for {target}: `tools/targets` of the repository makes those that there are"
+        );
+    }
+}
+
+fn link_two() {
     let folders = folders();
-    for name in ARCHIVES {
+    for name in ["resil_c", "libc_c"] {
         let file = format!("lib{name}.a");
         let found = folders
             .iter()

@@ -1,7 +1,7 @@
 //! The future of a call.
 use crate::CallError;
 use pin_project_lite::pin_project;
-use resil::OwnedPermit;
+use resil::{NoPermit, OwnedPermit};
 use std::future::Future;
 use std::pin::Pin;
 use std::task::{Context, Poll, ready};
@@ -38,7 +38,9 @@ pin_project! {
     #[project = Projected]
     #[derive(Debug)]
     enum State<F> {
-        Refused,
+        Refused {
+            refused: NoPermit,
+        },
         // Dropped in this order, so that all of the call is over when its permit is free.
         Running {
             #[pin]
@@ -58,9 +60,9 @@ impl<F> ResponseFuture<F> {
     }
 
     #[inline]
-    pub(crate) fn refused() -> ResponseFuture<F> {
+    pub(crate) fn refused(refused: NoPermit) -> ResponseFuture<F> {
         ResponseFuture {
-            state: State::Refused,
+            state: State::Refused { refused },
         }
     }
 }
@@ -78,7 +80,7 @@ where
     fn poll(self: Pin<&mut Self>, context: &mut Context<'_>) -> Poll<Self::Output> {
         let mut state = self.project().state;
         let answer = match state.as_mut().project() {
-            Projected::Refused => Err(CallError::Full),
+            Projected::Refused { refused } => Err((*refused).into()),
             Projected::Running { call, .. } => {
                 ready!(call.poll(context)).map_err(CallError::Failed)
             }

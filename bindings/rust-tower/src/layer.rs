@@ -6,6 +6,9 @@ use tower_layer::Layer;
 
 /// Puts a bulkhead round a service. All services of a layer and of its copies share the bulkhead's permits.
 ///
+/// Of the three that there are, [`queueing`](BulkheadLayer::queueing) makes calls wait, [`new`](BulkheadLayer::new) refuses what finds
+/// no permit, and [`waiting`](BulkheadLayer::waiting) takes a permit before a call is there.
+///
 /// ```
 /// use resil::Bulkhead;
 /// use resil_tower::BulkheadLayer;
@@ -52,6 +55,10 @@ impl BulkheadLayer {
 
     /// A layer over this bulkhead whose services are ready once they have a permit for the next call, as tower's
     /// `ConcurrencyLimit` is: so nothing is refused. Those who wait stand in the bulkhead's row.
+    ///
+    /// **What is ready keeps its permit, whether a call follows or not.** A server of hyper asks whether its service is ready before
+    /// it reads a request, so that idle connections take all permits, and nobody else is served; and tower's `Timeout` outside
+    /// doesn't bound this wait. Behind a server [`queueing`](BulkheadLayer::queueing) is the one to take.
     ///
     /// ```
     /// use resil_tower::BulkheadLayer;

@@ -11,7 +11,8 @@ use std::time::Duration;
 /// A [`Retry`] as a policy of tower's `Retry`, which waits by the futures that a function gives, as `tokio::time::sleep`.
 ///
 /// Each call of the service begins anew, as a copy of the policy does; all share the retry, with its jitter and its observer. A
-/// request is copied for the next attempt, which waits until the service is ready. A service may be dropped, and a call at any time:
+/// request is copied for the next attempt, which waits until the service is ready, by its `Clone` or as [`cloning`](RetryPolicy::cloning)
+/// says. A service may be dropped, and a call at any time:
 /// what is under way then is dropped, and no other attempt follows.
 ///
 /// With the feature `retry` it is a policy of tower 0.4:
@@ -49,8 +50,15 @@ use std::time::Duration;
 /// ```
 ///
 /// For another version of tower a type of one's own around it has the trait by [`again`](RetryPolicy::again).
-pub struct RetryPolicy<S, Errors = EveryError, Values = NoValue, Pause = fn(Duration)> {
+pub struct RetryPolicy<
+    S,
+    Errors = EveryError,
+    Values = NoValue,
+    Pause = fn(Duration),
+    Cloning = EveryClone,
+> {
     retry: Arc<Retry<Errors, Values, Pause>>,
+    cloning: Arc<Cloning>,
     sleep: S,
     attempts: Attempts,
 }
@@ -72,7 +80,42 @@ impl<S, Errors, Values, Pause> RetryPolicy<S, Errors, Values, Pause> {
         RetryPolicy {
             attempts: retry.begin(),
             retry: Arc::new(retry),
+            cloning: Arc::new(EveryClone),
             sleep,
+        }
+    }
+}
+
+impl<S, Errors, Values, Pause, Cloning> RetryPolicy<S, Errors, Values, Pause, Cloning> {
+    /// The same, which copies requests by this function, also those that aren't `Clone`. One that it doesn't copy is sent once.
+    ///
+    /// ```
+    /// use resil::Retry;
+    /// use resil_tower::RetryPolicy;
+    ///
+    /// // Of a body that streams nothing is left to be sent again.
+    /// struct Request {
+    ///     path: String,
+    ///     body: Option<Box<dyn std::io::Read>>,
+    /// }
+    ///
+    /// fn cloned(request: &Request) -> Option<Request> {
+    ///     let path = request.path.clone();
+    ///     request.body.is_none().then(|| Request { path, body: None })
+    /// }
+    ///
+    /// let policy = RetryPolicy::new(Retry::new(), tokio::time::sleep).cloning(cloned);
+    /// # drop(policy);
+    /// ```
+    pub fn cloning<Request, C>(self, cloning: C) -> RetryPolicy<S, Errors, Values, Pause, C>
+    where
+        C: Fn(&Request) -> Option<Request>,
+    {
+        RetryPolicy {
+            retry: self.retry,
+            cloning: Arc::new(cloning),
+            sleep: self.sleep,
+            attempts: self.attempts,
         }
     }
 
@@ -109,6 +152,7 @@ impl<S, Errors, Values, Pause> RetryPolicy<S, Errors, Values, Pause> {
     {
         RetryPolicy {
             retry: Arc::clone(&self.retry),
+            cloning: Arc::clone(&self.cloning),
             sleep: self.sleep.clone(),
             attempts: self.attempts.clone(),
         }
@@ -116,7 +160,9 @@ impl<S, Errors, Values, Pause> RetryPolicy<S, Errors, Values, Pause> {
 }
 
 /// A copy is for another call, which begins here.
-impl<S: Clone, Errors, Values, Pause> Clone for RetryPolicy<S, Errors, Values, Pause> {
+impl<S: Clone, Errors, Values, Pause, Cloning> Clone
+    for RetryPolicy<S, Errors, Values, Pause, Cloning>
+{
     fn clone(&self) -> Self {
         RetryPolicy {
             attempts: self.retry.begin(),
@@ -125,7 +171,9 @@ impl<S: Clone, Errors, Values, Pause> Clone for RetryPolicy<S, Errors, Values, P
     }
 }
 
-impl<S, Errors, Values, Pause> fmt::Debug for RetryPolicy<S, Errors, Values, Pause> {
+impl<S, Errors, Values, Pause, Cloning> fmt::Debug
+    for RetryPolicy<S, Errors, Values, Pause, Cloning>
+{
     fn fmt(&self, f: &mut fmt::Formatter<'_>) -> fmt::Result {
         f.debug_struct("RetryPolicy")
             .field("retry", &self.retry)
@@ -134,8 +182,58 @@ impl<S, Errors, Values, Pause> fmt::Debug for RetryPolicy<S, Errors, Values, Pau
     }
 }
 
+/// How the requests of a type are copied for the next attempt. Functions of a reference to the request do it:
+/// [`RetryPolicy::cloning`] takes them.
+///
+/// ```
+/// use resil_tower::{CloneRequest, EveryClone};
+///
+/// assert_eq!(EveryClone.cloned(&"a letter"), Some("a letter"));
+/// assert_eq!((|request: &u32| (*request < 7).then_some(*request)).cloned(&7), None);
+/// ```
+pub trait CloneRequest<Request> {
+    /// A copy; none where it isn't to be sent again.
+    fn cloned(&self, request: &Request) -> Option<Request>;
+}
+
+/// Copies each request by its `Clone`.
+///
+/// ```
+/// let policy: resil_tower::RetryPolicy<_> = resil_tower::RetryPolicy::new(resil::Retry::new(), tokio::time::sleep);
+/// # drop(policy);
+/// ```
+#[derive(Debug, Clone, Copy)]
+pub struct EveryClone;
+
+impl<Request: Clone> CloneRequest<Request> for EveryClone {
+    fn cloned(&self, request: &Request) -> Option<Request> {
+        Some(request.clone())
+    }
+}
+
+impl<Request, F: Fn(&Request) -> Option<Request>> CloneRequest<Request> for F {
+    fn cloned(&self, request: &Request) -> Option<Request> {
+        self(request)
+    }
+}
+
 pin_project! {
     /// The wait of a [`RetryPolicy`] before the next attempt, which gives the policy back.
+    ///
+    /// ```
+    /// # #[cfg(not(feature = "retry"))]
+    /// # fn main() {}
+    /// # #[cfg(feature = "retry")]
+    /// # #[tokio::main(flavor = "current_thread", start_paused = true)]
+    /// # async fn main() {
+    /// use tower::retry::Policy;
+    ///
+    /// let policy = resil_tower::RetryPolicy::new(resil::Retry::new().attempts(2), tokio::time::sleep);
+    /// let failed: Result<&u32, &&str> = Err(&"busy");
+    /// let again = policy.retry(&"a letter", failed).expect("an attempt is left").await;
+    /// assert!(again.retry(&"a letter", failed).is_none());
+    /// # }
+    /// ```
     #[derive(Debug)]
     #[must_use = "a future that isn't polled does nothing"]
     pub struct Wait<F, P> {
@@ -159,10 +257,10 @@ impl<F: Future<Output = ()>, P> Future for Wait<F, P> {
 }
 
 #[cfg(feature = "retry")]
-impl<Request, T, E, S, F, Errors, Values, Pause> tower::retry::Policy<Request, T, E>
-    for RetryPolicy<S, Errors, Values, Pause>
+impl<Request, T, E, S, F, Errors, Values, Pause, Cloning> tower::retry::Policy<Request, T, E>
+    for RetryPolicy<S, Errors, Values, Pause, Cloning>
 where
-    Request: Clone,
+    Cloning: CloneRequest<Request>,
     S: Fn(Duration) -> F + Clone,
     F: Future<Output = ()>,
     Errors: ErrorTest<E>,
@@ -180,6 +278,6 @@ where
     }
 
     fn clone_request(&self, request: &Request) -> Option<Request> {
-        Some(request.clone())
+        self.cloning.cloned(request)
     }
 }

@@ -1,6 +1,6 @@
 //! The service that a layer makes.
 use crate::{CallError, ResponseFuture};
-use resil::{Acquire, Bulkhead, Full, OwnedPermit};
+use resil::{Acquire, Bulkhead, NoPermit, OwnedPermit};
 use std::future::Future;
 use std::mem;
 use std::pin::Pin;
@@ -87,7 +87,13 @@ where
     #[inline]
     fn poll_ready(&mut self, context: &mut Context<'_>) -> Poll<Result<(), Self::Error>> {
         if let Next::Waits(acquire) = &mut self.next {
-            self.next = Next::Has(ready!(Pin::new(acquire).poll(context)));
+            self.next = match ready!(Pin::new(acquire).poll(context)) {
+                Ok(permit) => Next::Has(permit),
+                Err(refused) => {
+                    self.next = Next::Waits(self.bulkhead.acquire());
+                    return Poll::Ready(Err(refused.into()));
+                }
+            };
         }
         self.inner.poll_ready(context).map_err(CallError::Failed)
     }
@@ -104,14 +110,14 @@ where
                 let waits = Next::Waits(self.bulkhead.acquire());
                 match mem::replace(&mut self.next, waits) {
                     Next::Has(permit) => Ok(permit),
-                    Next::Asks | Next::Waits(_) => Err(Full),
+                    Next::Asks | Next::Waits(_) => Err(NoPermit::Full),
                 }
             }
         };
         match permit {
             // Where the inner service panics, the permit is dropped.
             Ok(permit) => ResponseFuture::running(self.inner.call(request), permit),
-            Err(Full) => ResponseFuture::refused(),
+            Err(refused) => ResponseFuture::refused(refused),
         }
     }
 }

@@ -1,8 +1,8 @@
 //! Runs the example.
-#[path = "../examples/refused_calls.rs"]
-mod refused_calls;
+#[path = "../examples/ten_calls.rs"]
+mod ten_calls;
 
 #[test]
-fn refused_calls_runs() -> Result<(), Box<dyn std::error::Error>> {
-    refused_calls::main()
+fn ten_calls_runs() -> Result<(), Box<dyn std::error::Error>> {
+    ten_calls::main()
 }

@@ -40,8 +40,8 @@ pub fn main() -> Result<(), Box<dyn Error>> {
     assert!(Pin::new(&mut second).poll(context).is_pending());
     drop(permit);
     assert!(Pin::new(&mut second).poll(context).is_pending());
-    drop(block_on(first));
-    drop(block_on(second));
+    drop(block_on(first)?);
+    drop(block_on(second)?);
 
     // A job's handle is a future of its answer.
     let pool = ThreadPool::builder(1, 1).queue(4).open()?;

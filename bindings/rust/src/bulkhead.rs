@@ -1,23 +1,28 @@
 //! A bulkhead that threads share, by reference or in an `Arc`.
 mod error;
+mod many;
 mod observed;
+mod operator;
 mod permit;
 mod row;
 mod seats;
+mod tickets;
 
 use crate::lock::{locked, sleep};
 use crate::observer::{Observer, Watch};
 use crate::pass::Pass;
-use row::{Row, Woken};
+use observed::Held;
+use row::{Row, wake_all};
 use seats::{Place, Seats};
 use std::fmt;
 use std::iter;
-use std::sync::atomic::{AtomicU32, AtomicUsize, Ordering};
+use std::sync::atomic::{AtomicBool, AtomicUsize, Ordering};
 use std::sync::{Arc, Condvar, Mutex, MutexGuard};
 use std::task::Waker;
 use std::time::{Duration, Instant};
 
-pub use error::{BulkheadError, Full};
+pub use error::{BulkheadError, NoPermit};
+pub use many::AcquireMany;
 pub use permit::{OwnedPermit, Permit};
 pub use row::Acquire;
 
@@ -32,9 +37,11 @@ const MAX_NAME_LEN: usize = 64;
 /// |---|---|
 /// | `try_acquire`, `try_acquire_owned` | [`enter`](Bulkhead::enter), [`enter_owned`](Bulkhead::enter_owned) |
 /// | `acquire`, `acquire_owned` | [`acquire`](Bulkhead::acquire); threads wait by [`enter_within`](Bulkhead::enter_within) |
+/// | `try_acquire_many`, `acquire_many_owned` | [`enter_many`](Bulkhead::enter_many), [`acquire_many`](Bulkhead::acquire_many), of as many permits, each of its own |
 /// | `forget` of a permit | [`OwnedPermit::forget`] |
-/// | `forget_permits`, `add_permits` | [`retire`](Bulkhead::retire), and [`raise`](Bulkhead::raise) up to the number at the making |
+/// | `forget_permits`, `add_permits` | [`retire`](Bulkhead::retire), or [`shrink`](Bulkhead::shrink) while others wait, and [`raise`](Bulkhead::raise) up to the number at the making |
 /// | `available_permits` | [`available`](Bulkhead::available) |
+/// | `close`, `is_closed` | [`close`](Bulkhead::close), [`is_closed`](Bulkhead::is_closed) |
 ///
 /// ```
 /// use std::sync::atomic::{AtomicU32, Ordering};
@@ -58,18 +65,16 @@ pub struct Bulkhead {
     name: String,
     max: u32,
     seats: Seats,
-    // What retires permits and raises them again, for all threads, and how many it has retired. Each step has the lock
-    // anew, so that nobody waits for more than some steps of others.
-    operator: Mutex<Pass>,
-    retired: AtomicU32,
     // What tells how many permits are free.
     watch: Mutex<Pass>,
-    // How many threads and tasks wait for a permit. The library's steps on the permits are sequentially consistent, and so are
-    // those on this number: one that waits counts itself before it looks for a permit, and one that gives a permit back
-    // looks here afterwards. So one of the two sees the other.
-    waiting: AtomicUsize,
+    // How many threads and tasks wait for a permit, and how many permits are owed. The library's steps on the permits are
+    // sequentially consistent, and so are those on this number: one that waits counts itself before it looks for a permit, and one
+    // that gives a permit back looks here afterwards. So one of the two sees the other.
+    wanted: AtomicUsize,
     gate: Mutex<Row>,
     freed: Condvar,
+    // Turns true under the gate's lock.
+    is_closed: AtomicBool,
     // None where nobody observes it: then no step of a seat looks here.
     observer: Option<Box<Watch>>,
 }
@@ -96,17 +101,16 @@ impl Bulkhead {
         if !is_name(&name) {
             return Err(BulkheadError::BadName);
         }
-        let mut operator = Pass::new(max)?;
+        let mut first = Pass::new(max)?;
         Ok(Bulkhead {
             name,
             max,
-            seats: Seats::new(&mut operator)?,
-            watch: Mutex::new(operator.split()?),
-            operator: Mutex::new(operator),
-            retired: AtomicU32::new(0),
-            waiting: AtomicUsize::new(0),
+            seats: Seats::new(&mut first)?,
+            watch: Mutex::new(first),
+            wanted: AtomicUsize::new(0),
             gate: Mutex::default(),
             freed: Condvar::new(),
+            is_closed: AtomicBool::new(false),
             observer: None,
         })
     }
@@ -163,7 +167,7 @@ impl Bulkhead {
         self.max
     }
 
-    /// The number of free permits at this point: those in use that nobody holds.
+    /// The number of free permits at this point: those in use that nobody holds. One that is [owed](Bulkhead::owed) is held still.
     ///
     /// ```
     /// let backend = resil::Bulkhead::new("backend", 2)?;
@@ -179,7 +183,7 @@ impl Bulkhead {
     ///
     /// # Errors
     ///
-    /// `Full` where all permits in use are held.
+    /// `Closed` where the bulkhead is [closed](Bulkhead::close); `Full` where all permits in use are held.
     ///
     /// ```
     /// let backend = resil::Bulkhead::new("backend", 1)?;
@@ -190,7 +194,7 @@ impl Bulkhead {
     /// # Ok::<(), Box<dyn std::error::Error>>(())
     /// ```
     #[inline]
-    pub fn enter(&self) -> Result<Permit<'_>, Full> {
+    pub fn enter(&self) -> Result<Permit<'_>, NoPermit> {
         let place = self.enter_place()?;
         Ok(Permit::new(self, place))
     }
@@ -201,7 +205,8 @@ impl Bulkhead {
     ///
     /// # Errors
     ///
-    /// `Full` where all permits in use are held until then; at once, where the duration is zero.
+    /// `Closed` where the bulkhead is closed, or is closed meanwhile; `Full` where all permits in use are held until then; at once,
+    /// where the duration is zero.
     ///
     /// ```
     /// use std::time::Duration;
@@ -216,7 +221,7 @@ impl Bulkhead {
     /// });
     /// # Ok::<(), Box<dyn std::error::Error>>(())
     /// ```
-    pub fn enter_within(&self, limit: Duration) -> Result<Permit<'_>, Full> {
+    pub fn enter_within(&self, limit: Duration) -> Result<Permit<'_>, NoPermit> {
         self.told(self.acquire_within(limit))
             .map(|place| Permit::new(self, place))
     }
@@ -225,7 +230,7 @@ impl Bulkhead {
     ///
     /// # Errors
     ///
-    /// `Full` where all permits in use are held.
+    /// `Closed` where the bulkhead is [closed](Bulkhead::close); `Full` where all permits in use are held.
     ///
     /// ```
     /// use std::sync::Arc;
@@ -241,7 +246,7 @@ impl Bulkhead {
     /// # Ok::<(), Box<dyn std::error::Error>>(())
     /// ```
     #[inline]
-    pub fn enter_owned(self: &Arc<Self>) -> Result<OwnedPermit, Full> {
+    pub fn enter_owned(self: &Arc<Self>) -> Result<OwnedPermit, NoPermit> {
         let place = self.enter_place()?;
         Ok(OwnedPermit::new(Arc::clone(self), place))
     }
@@ -250,7 +255,8 @@ impl Bulkhead {
     ///
     /// # Errors
     ///
-    /// `Full` where all permits in use are held until then; at once, where the duration is zero.
+    /// `Closed` where the bulkhead is closed, or is closed meanwhile; `Full` where all permits in use are held until then; at once,
+    /// where the duration is zero.
     ///
     /// ```
     /// use std::{sync::Arc, time::Duration};
@@ -260,7 +266,7 @@ impl Bulkhead {
     /// assert!(backend.enter_owned_within(Duration::from_millis(5)).is_err());
     /// # Ok::<(), Box<dyn std::error::Error>>(())
     /// ```
-    pub fn enter_owned_within(self: &Arc<Self>, limit: Duration) -> Result<OwnedPermit, Full> {
+    pub fn enter_owned_within(self: &Arc<Self>, limit: Duration) -> Result<OwnedPermit, NoPermit> {
         let place = self.told(self.acquire_within(limit))?;
         Ok(OwnedPermit::new(Arc::clone(self), place))
     }
@@ -269,7 +275,9 @@ impl Bulkhead {
     /// served, by their first polls. Who takes a permit in another way may still be before them.
     ///
     /// It has no limit of its own: the timeout of the runtime goes round it, as `tokio::time::timeout` does. It may be
-    /// dropped at any time, and then a permit that it was given goes to the next.
+    /// dropped at any time, and then a permit that it was given goes to the next. It gives an error where the bulkhead is
+    /// [closed](Bulkhead::close), where it has no permit at all, in use or not, and where [so many wait](Acquire::most_waiting) as it is
+    /// told.
     ///
     /// ```
     /// use std::pin::pin;
@@ -298,7 +306,7 @@ impl Bulkhead {
     ///
     /// # Errors
     ///
-    /// `Full` where all permits in use are held; the function wasn't called.
+    /// `Closed` where the bulkhead is closed, `Full` where all permits in use are held; the function wasn't called.
     ///
     /// ```
     /// use resil::{Bulkhead, Full};
@@ -309,81 +317,9 @@ impl Bulkhead {
     /// # Ok::<(), resil::BulkheadError>(())
     /// ```
     #[inline]
-    pub fn call<T>(&self, function: impl FnOnce() -> T) -> Result<T, Full> {
+    pub fn call<T>(&self, function: impl FnOnce() -> T) -> Result<T, NoPermit> {
         let _permit = self.enter()?;
         Ok(function())
-    }
-
-    /// Retires as many free permits as there are, at most so many, and says how many. They aren't in use until they are
-    /// raised again. It waits for no permit that is held, and other calls come in between.
-    ///
-    /// ```
-    /// let backend = resil::Bulkhead::new("backend", 3)?;
-    /// let permit = backend.enter()?;
-    /// assert_eq!(backend.retire(3), 2);
-    /// assert_eq!((backend.available(), backend.retired(), backend.max()), (0, 2, 3));
-    /// drop(permit);
-    /// assert_eq!(backend.raise(3), 2);
-    /// assert_eq!((backend.available(), backend.retired()), (3, 0));
-    /// # Ok::<(), Box<dyn std::error::Error>>(())
-    /// ```
-    pub fn retire(&self, count: u32) -> u32 {
-        let mut retired = 0;
-        while retired < count && self.retire_one() {
-            retired += 1;
-        }
-        retired
-    }
-
-    fn retire_one(&self) -> bool {
-        let mut operator = locked(&self.operator);
-        let is_retired = operator.retire().is_ok();
-        self.retired
-            .fetch_add(u32::from(is_retired), Ordering::SeqCst);
-        is_retired
-    }
-
-    /// Raises at most so many retired permits, whichever thread has retired them, and says how many. They are free
-    /// then.
-    ///
-    /// ```
-    /// let backend = resil::Bulkhead::new("backend", 3)?;
-    /// assert_eq!(backend.retire(2), 2);
-    /// assert_eq!((backend.raise(1), backend.retired()), (1, 1));
-    /// # Ok::<(), resil::BulkheadError>(())
-    /// ```
-    pub fn raise(&self, count: u32) -> u32 {
-        let mut raised = 0;
-        while raised < count && self.raise_one() {
-            raised += 1;
-        }
-        if raised > 0 && self.waiting.load(Ordering::SeqCst) > 0 {
-            let mut row = locked(&self.gate);
-            let tasks = self.hand_on_all(&mut row);
-            drop(row);
-            self.freed.notify_all();
-            tasks.into_iter().for_each(Waker::wake);
-        }
-        raised
-    }
-
-    fn raise_one(&self) -> bool {
-        let mut operator = locked(&self.operator);
-        let is_raised = operator.raise();
-        self.retired
-            .fetch_sub(u32::from(is_raised), Ordering::SeqCst);
-        is_raised
-    }
-
-    /// How many permits are retired.
-    ///
-    /// ```
-    /// let backend = resil::Bulkhead::new("backend", 3)?;
-    /// assert_eq!((backend.retire(2), backend.retired()), (2, 2));
-    /// # Ok::<(), resil::BulkheadError>(())
-    /// ```
-    pub fn retired(&self) -> u32 {
-        self.retired.load(Ordering::SeqCst)
     }
 
     /// The numbers of about this moment: each is read for itself.
@@ -399,30 +335,73 @@ impl Bulkhead {
     /// ```
     #[must_use]
     pub fn numbers(&self) -> BulkheadNumbers {
+        let available = self.available();
+        let row = locked(&self.gate);
         BulkheadNumbers {
             max: self.max,
-            available: self.available(),
-            retired: self.retired(),
-            waiting: self.waiting.load(Ordering::SeqCst),
+            available,
+            retired: row.retired(),
+            owed: row.owed,
+            waiting: self.waiting(&row),
         }
     }
 
-    fn acquire_within(&self, limit: Duration) -> Result<Place, Full> {
+    /// Closes the bulkhead for good. Who waits for a permit is told so at once, and so is whoever asks later: `Closed`. Who has a
+    /// permit, or was given one already, gives it back as ever.
+    ///
+    /// ```
+    /// use resil::{Bulkhead, Closed};
+    ///
+    /// let backend = Bulkhead::new("backend", 2)?;
+    /// let permit = backend.enter()?;
+    /// backend.close();
+    /// assert_eq!(backend.call(|| 42), Err(Closed));
+    /// drop(permit);
+    /// assert_eq!((backend.is_closed(), backend.available()), (true, 2));
+    /// # Ok::<(), Box<dyn std::error::Error>>(())
+    /// ```
+    pub fn close(&self) {
+        let mut row = locked(&self.gate);
+        self.is_closed.store(true, Ordering::SeqCst);
+        let tasks = row.dismiss();
+        self.wanted.fetch_sub(tasks.len(), Ordering::SeqCst);
+        drop(row);
+        self.freed.notify_all();
+        wake_all(tasks);
+    }
+
+    /// Whether it is closed.
+    ///
+    /// ```
+    /// assert!(!resil::Bulkhead::new("backend", 2)?.is_closed());
+    /// # Ok::<(), resil::BulkheadError>(())
+    /// ```
+    #[inline]
+    pub fn is_closed(&self) -> bool {
+        self.is_closed.load(Ordering::Acquire)
+    }
+
+    fn acquire_within(&self, limit: Duration) -> Result<Place, NoPermit> {
+        if self.is_closed() {
+            return Err(NoPermit::Closed);
+        }
         self.seats.acquire().or_else(|full| {
             if limit.is_zero() {
                 return Err(full);
             }
-            self.waiting.fetch_add(1, Ordering::SeqCst);
+            self.wanted.fetch_add(1, Ordering::SeqCst);
             let mut row = locked(&self.gate);
             row.threads += 1;
             let (mut row, acquired) = self.wait(row, Instant::now().checked_add(limit));
             row.threads -= 1;
-            self.waiting.fetch_sub(1, Ordering::SeqCst);
+            self.wanted.fetch_sub(1, Ordering::SeqCst);
             // It may have been woken for more permits than one.
             let tasks = self.hand_on_all(&mut row);
             drop(row);
-            tasks.into_iter().for_each(Waker::wake);
-            acquired
+            // Given back where a waker panics.
+            let held = acquired.map(|place| Held(self, place));
+            wake_all(tasks);
+            held.map(Held::keep)
         })
     }
 
@@ -431,13 +410,16 @@ impl Bulkhead {
         iter::from_fn(|| self.hand_on(row)).collect()
     }
 
-    // Tries at each permit that is given back, until the deadline.
+    // Tries at each permit that is given back, until the deadline or the closing.
     fn wait<'a>(
         &self,
         mut gate: MutexGuard<'a, Row>,
         deadline: Option<Instant>,
-    ) -> (MutexGuard<'a, Row>, Result<Place, Full>) {
+    ) -> (MutexGuard<'a, Row>, Result<Place, NoPermit>) {
         loop {
+            if self.is_closed() {
+                return (gate, Err(NoPermit::Closed));
+            }
             let acquired = self.seats.acquire();
             let left = deadline.map(|end| end.saturating_duration_since(Instant::now()));
             if acquired.is_ok() || left.is_some_and(|left| left.is_zero()) {
@@ -447,26 +429,15 @@ impl Bulkhead {
         }
     }
 
-    // Gives a permit back, and wakes one that waits; to a task it goes without becoming free.
+    // Gives a permit back, and wakes one that waits; to a task it goes without becoming free, and so it is retired where one is owed.
     #[inline]
     fn release(&self, place: Place) {
-        if self.waiting.load(Ordering::SeqCst) > 0 && self.pass_on(place) {
+        if self.wanted.load(Ordering::SeqCst) > 0 && self.pass_on(place) {
             return;
         }
         self.seats.release(place);
-        if self.waiting.load(Ordering::SeqCst) > 0 {
+        if self.wanted.load(Ordering::SeqCst) > 0 {
             self.wake();
-        }
-    }
-
-    #[cold]
-    fn wake(&self) {
-        // One that waits has the gate from its try to its sleep.
-        let woken = self.next_of(&mut locked(&self.gate));
-        match woken {
-            Woken::Thread => self.freed.notify_one(),
-            Woken::Task(waker) => waker.wake(),
-            Woken::Nobody => {}
         }
     }
 }
@@ -493,6 +464,8 @@ pub struct BulkheadNumbers {
     pub available: u32,
     /// How many permits are retired.
     pub retired: u32,
+    /// How many permits are owed: they are retired as they are given back.
+    pub owed: u32,
     /// How many calls wait for a permit.
     pub waiting: usize,
 }

@@ -1,5 +1,6 @@
 //! The error of a call that has a bulkhead around it.
-use crate::bulkhead::Full;
+use crate::bulkhead::NoPermit;
+use std::any::Any;
 use std::error::Error;
 use std::fmt;
 
@@ -7,33 +8,58 @@ use std::fmt;
 ///
 /// ```
 /// use resil::CallError;
+/// use std::error::Error;
+/// use std::num::ParseIntError;
 ///
 /// let refused: CallError<String> = CallError::Full;
 /// assert_eq!(refused.to_string(), "the bulkhead is full");
 /// assert_eq!(CallError::Failed("no answer").to_string(), "no answer");
+///
+/// // Who is handed the error without its type finds in a boxed one what has failed.
+/// let failed: CallError<Box<dyn Error>> = CallError::Failed("x".parse::<u32>().unwrap_err().into());
+/// assert!(failed.source().is_some_and(|source| source.is::<ParseIntError>()));
 /// ```
 #[derive(Debug, Clone, Copy, PartialEq, Eq)]
 pub enum CallError<E> {
     /// All permits of a bulkhead were held, and the function wasn't called.
     Full,
+    /// A bulkhead was closed, and the function wasn't called.
+    Closed,
     /// The function was called, and gave this error.
     Failed(E),
 }
 
-impl<E> From<Full> for CallError<E> {
-    fn from(_full: Full) -> CallError<E> {
-        CallError::Full
+impl<E> From<NoPermit> for CallError<E> {
+    fn from(refused: NoPermit) -> CallError<E> {
+        match refused {
+            NoPermit::Full => CallError::Full,
+            NoPermit::Closed => CallError::Closed,
+        }
     }
 }
 
 impl<E: fmt::Display> fmt::Display for CallError<E> {
     fn fmt(&self, f: &mut fmt::Formatter<'_>) -> fmt::Result {
         match self {
-            CallError::Full => Full.fmt(f),
+            CallError::Full => NoPermit::Full.fmt(f),
+            CallError::Closed => NoPermit::Closed.fmt(f),
             CallError::Failed(error) => error.fmt(f),
         }
     }
 }
 
-// `E` needn't be an `Error` itself, as a `Box<dyn Error>` isn't, so it has no source to tell.
-impl<E: fmt::Debug + fmt::Display> Error for CallError<E> {}
+/// The source is the error that the function gave, where that is a boxed one: `Box<dyn Error>`, or the same with `Send + Sync`.
+// Any other needn't be an `Error` itself, so it has none to tell.
+impl<E: fmt::Debug + fmt::Display + 'static> Error for CallError<E> {
+    fn source(&self) -> Option<&(dyn Error + 'static)> {
+        let CallError::Failed(error) = self else {
+            return None;
+        };
+        let error: &dyn Any = error;
+        if let Some(boxed) = error.downcast_ref::<Box<dyn Error + Send + Sync>>() {
+            return Some(&**boxed);
+        }
+        let boxed = error.downcast_ref::<Box<dyn Error>>()?;
+        Some(&**boxed)
+    }
+}

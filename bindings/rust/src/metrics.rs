@@ -7,7 +7,8 @@
 //! - of retries the counter `resilience4j_retry_calls_total`, with `name` and with `kind`: `successful_without_retry`,
 //!   `successful_with_retry`, `failed_without_retry`, `failed_with_retry`;
 //! - of pools, with `name`, the gauges `resilience4j_bulkhead_queue_depth`, `_queue_capacity`, `_thread_pool_size`,
-//!   `_core_thread_pool_size`, `_max_thread_pool_size`, `_active_thread_count` and `_available_thread_count`.
+//!   `_core_thread_pool_size`, `_max_thread_pool_size`, `_active_thread_count` and `_available_thread_count`; `promtool` has a word to say
+//!   of the last two, since its gauges don't end in `_count`.
 //!
 //! For what it hasn't the names begin with `resil_`:
 //!
@@ -15,7 +16,7 @@
 //! |---|---|---|
 //! | `resil_bulkhead_calls_total` | `kind`: `permitted`, `refused`; `name` | bulkheads |
 //! | `resil_bulkhead_call_seconds`, a histogram | `name` | calls, from the permit to its end |
-//! | `resil_bulkhead_retired_permits`, `resil_bulkhead_waiting_calls` | `name` | bulkheads |
+//! | `resil_bulkhead_retired_permits`, `resil_bulkhead_owed_permits`, `resil_bulkhead_waiting_calls` | `name` | bulkheads |
 //! | `resil_retry_events_total` | `kind`, after its events: `retry`, `success`, `error`, `ignored_error`, and `out_of_time`; `name` | retries |
 //! | `resil_pool_jobs_total` | `kind`, the reply: `core`, `queued`, `extra`, `full`, `closed`; `name` | submissions |
 //! | `resil_pool_panics_total` | `name` | jobs that panicked |
@@ -57,6 +58,9 @@ use std::sync::{Arc, Mutex};
 /// Counts what it is told, by the names of bulkheads, retries and pools, and writes it as Prometheus' text.
 ///
 /// Of those that bear one name it tells the sums. No lock is held while it counts, and threads count the calls of bulkheads apart.
+///
+/// What was counted stays until its name is [removed](Metrics::remove): some KiB for each name of a bulkhead, and a kilobyte of each
+/// page. So names are for neighbours, of which there are few, and not for whoever calls.
 ///
 /// ```
 /// use resil::Bulkhead;
@@ -119,6 +123,27 @@ impl Metrics {
             is_untimed: true,
             ..Metrics::default()
         }
+    }
+
+    /// Forgets what was counted under this name of bulkheads, retries and pools, and says whether there was any. What still bears it
+    /// counts on untold; what is observed under it from here on begins anew.
+    ///
+    /// ```
+    /// use std::sync::Arc;
+    ///
+    /// let metrics = Arc::new(resil::metrics::Metrics::new());
+    /// let tenant = resil::Bulkhead::new("tenant", 7)?.observed(metrics.clone());
+    /// assert_eq!(tenant.call(|| 42), Ok(42));
+    /// drop(tenant);
+    /// assert!(metrics.remove("tenant") && !metrics.remove("tenant"));
+    /// assert_eq!(metrics.text(&[], &[]), "");
+    /// # Ok::<(), resil::BulkheadError>(())
+    /// ```
+    pub fn remove(&self, name: &str) -> bool {
+        let mut all = locked(&self.all);
+        let calls = all.calls.remove(name).is_some();
+        let retries = all.retries.remove(name).is_some();
+        all.jobs.remove(name).is_some() || calls || retries
     }
 
     /// All that was counted, and the numbers of these bulkheads and pools at this moment, as Prometheus' text. Of two that bear

@@ -10,9 +10,16 @@ use std::time::{Duration, Instant};
 ///
 /// It is set at the making of a [`Bulkhead`](crate::Bulkhead::observed), a [`Retry`](crate::Retry::observed), a
 /// [`ThreadPool`](crate::ThreadPoolBuilder::observed) or a [`BulkheadRegistry`](crate::BulkheadRegistry::observed). Each method
-/// does nothing where it isn't written, and is called outside of every lock, by the thread that does what is told: so it may call
-/// whatever it likes, but each call waits for it. Threads tell it at once, in no order among them: a job may be told to have begun
-/// before it is told to be accepted. Where it panics, so does the call that tells it; a job's panic is its answer.
+/// does nothing where it isn't written, and is called outside of every lock, by the thread that does what is told; each call waits
+/// for it. Threads tell it at once, in no order among them: a job may be told to have begun before it is told to be accepted.
+///
+/// It may call what it observes, with a care: that is told to it too. One that enters a bulkhead in
+/// [`call_finished`](Observer::call_finished) of that very bulkhead, or submits a job in [`job_accepted`](Observer::job_accepted) of
+/// that pool, calls itself until the stack is full.
+///
+/// Where it panics, so does the call that tells it, whose permits are given back; a panic in the end of a call that panics itself ends
+/// the process, as each panic in a drop does. A job's panic is its answer. A panic of `job_accepted` or `job_refused` goes no further:
+/// the submitter has its handle, or its function.
 ///
 /// ```
 /// use resil::{Bulkhead, Observer};

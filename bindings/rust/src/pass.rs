@@ -11,7 +11,7 @@
 //! assert_eq!(first.available(), 1);
 //! # Ok::<(), resil::BulkheadError>(())
 //! ```
-use crate::bulkhead::{BulkheadError, Full};
+use crate::bulkhead::{BulkheadError, NoPermit};
 use std::ffi::c_void;
 use std::fmt;
 use std::ptr;
@@ -125,7 +125,7 @@ impl Pass {
     /// assert_eq!(pass.available(), 1);
     /// # Ok::<(), Box<dyn std::error::Error>>(())
     /// ```
-    pub fn enter(&mut self) -> Result<PassPermit<'_>, Full> {
+    pub fn enter(&mut self) -> Result<PassPermit<'_>, NoPermit> {
         self.acquire()?;
         Ok(PassPermit { pass: self })
     }
@@ -141,7 +141,7 @@ impl Pass {
     /// assert_eq!(pass.call(|| 42), Ok(42));
     /// # Ok::<(), resil::BulkheadError>(())
     /// ```
-    pub fn call<T>(&mut self, function: impl FnOnce() -> T) -> Result<T, Full> {
+    pub fn call<T>(&mut self, function: impl FnOnce() -> T) -> Result<T, NoPermit> {
         let _permit = self.enter()?;
         Ok(function())
     }
@@ -162,7 +162,7 @@ impl Pass {
     /// assert_eq!((operator.retired(), caller.available()), (0, 2));
     /// # Ok::<(), Box<dyn std::error::Error>>(())
     /// ```
-    pub fn retire(&mut self) -> Result<(), Full> {
+    pub fn retire(&mut self) -> Result<(), NoPermit> {
         self.acquire()?;
         let had = self.keep_back();
         debug_assert!(had);
@@ -211,12 +211,12 @@ impl Pass {
 
     // Takes a permit, and tries again while other threads come in between.
     #[inline]
-    pub(crate) fn acquire(&mut self) -> Result<(), Full> {
+    pub(crate) fn acquire(&mut self) -> Result<(), NoPermit> {
         loop {
             // SAFETY: as in `split`.
             match unsafe { resil_permit_try_once(self.handle, &raw mut self.handle) } {
                 TAKEN => return Ok(()),
-                FULL => return Err(Full),
+                FULL => return Err(NoPermit::Full),
                 _ => std::hint::spin_loop(),
             }
         }

@@ -69,6 +69,9 @@ impl From<BulkheadError> for RegistryError {
 /// Threads share it by reference. Whoever asks first for a name makes its bulkhead; all others get the same one. A
 /// service asks once and keeps the `Arc`, since a call of the registry takes a lock.
 ///
+/// A name stays until it is [removed](BulkheadRegistry::remove), with some KiB for its bulkhead. So names are for neighbours, of which
+/// there are few, and not for whoever calls.
+///
 /// ```
 /// use resil::BulkheadRegistry;
 /// use std::sync::Arc;
@@ -228,7 +231,23 @@ impl BulkheadRegistry {
         Ok(Arc::clone(kept.or_insert_with(|| Arc::new(bulkhead))))
     }
 
-    /// All bulkheads that were made, by their names in the order of bytes.
+    /// Removes the bulkhead of that name, and gives it; none where there is none. Whoever has it keeps it, with its permits: it may be
+    /// [closed](Bulkhead::close). Who asks for the name next makes another one.
+    ///
+    /// ```
+    /// let registry = resil::BulkheadRegistry::new(25);
+    /// let prices = registry.bulkhead("prices")?;
+    /// if let Some(removed) = registry.remove("prices") {
+    ///     removed.close();
+    /// }
+    /// assert!(prices.is_closed() && !registry.bulkhead("prices")?.is_closed());
+    /// # Ok::<(), resil::RegistryError>(())
+    /// ```
+    pub fn remove(&self, name: &str) -> Option<Arc<Bulkhead>> {
+        self.inner().instances.remove(name)
+    }
+
+    /// All bulkheads that are there, by their names in the order of bytes.
     ///
     /// ```
     /// let registry = resil::BulkheadRegistry::new(25);

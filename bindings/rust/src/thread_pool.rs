@@ -2,11 +2,13 @@
 mod book;
 mod builder;
 mod crew;
+mod door;
 mod error;
 mod handle;
 mod inside;
 mod joins;
 mod observed;
+mod patience;
 mod refused;
 mod task;
 #[cfg(test)]
@@ -128,6 +130,33 @@ impl ThreadPool {
     #[must_use]
     pub fn numbers(&self) -> PoolNumbers {
         self.crew.numbers()
+    }
+
+    /// What was [recorded](ThreadPoolBuilder::record) since the opening or the last call, as the text of a history with its head, which
+    /// the program's `judge`, `stats` and `timeline` read; none where the pool isn't recorded, or memory for what comes then runs out.
+    /// It is below a mebibyte.
+    ///
+    /// The record begins anew with it: the next text begins with events that make the state in which the pool was, all at the time of
+    /// this call, and says how many they are. So each text is judged alone, and a wait or a run across this moment is cut. All
+    /// submissions are those of caller 1, numbered anew in each text; each thread that was idle at its beginning has a submission of
+    /// caller 2 with its finish. Where more jobs wait than the record has room for, it is empty up to the next call.
+    ///
+    /// The last events of a pool come by `close`, `join` and then this. Its text is written by this thread, without the lock.
+    ///
+    /// ```
+    /// let pool = resil::ThreadPool::builder(1, 2).queue(5).record(10_000).open()?;
+    /// pool.submit(|| ())?.wait()?;
+    /// pool.close();
+    /// pool.join();
+    /// let history = pool.history().expect("the pool is recorded");
+    /// let head = "core = 1\nmax = 2\nqueue = 5\n---\nevent,caller,number,reply,core,max,at\n";
+    /// let (_, events) = history.split_once(head).expect("it has its head");
+    /// assert!(events.starts_with("submit,1,1,core,,,") && events.contains("\nidle,,,,,,"));
+    /// # Ok::<(), Box<dyn std::error::Error>>(())
+    /// ```
+    #[must_use]
+    pub fn history(&self) -> Option<String> {
+        self.crew.history()
     }
 
     /// The name of the pool, which is the beginning of its threads' names.

@@ -71,7 +71,7 @@ impl Awaited {
         let waker = Waker::from(Arc::clone(&self.caller));
         let polled = Pin::new(&mut self.permit).poll(&mut Context::from_waker(&waker));
         match polled {
-            Poll::Ready(permit) => Some(permit),
+            Poll::Ready(permit) => permit.ok(),
             Poll::Pending => None,
         }
     }
@@ -84,7 +84,7 @@ impl Awaited {
 #[test]
 fn a_free_permit_is_there_at_once() -> Checked {
     let backend = Arc::new(Bulkhead::new("backend", 2)?);
-    let permits = [block_on(backend.acquire()), block_on(backend.acquire())];
+    let permits = [block_on(backend.acquire())?, block_on(backend.acquire())?];
     assert_eq!((backend.available(), backend.numbers().waiting), (0, 0));
     drop(permits);
     assert_eq!(backend.available(), 2);
@@ -237,7 +237,7 @@ fn tasks_and_threads_wait_side_by_side() -> Checked {
                     let mut entered = 0;
                     for round in 0..ROUNDS {
                         match kind {
-                            0..4 => goes_in(&block_on(backend.acquire())),
+                            0..4 => goes_in(&block_on(backend.acquire()).ok()?),
                             4..6 => goes_in(&backend.enter_within(Duration::MAX).ok()?),
                             6 => {
                                 let limit = Duration::from_micros(u64::from(round));
@@ -323,7 +323,7 @@ fn a_permit_that_is_passed_on_is_never_free() -> Checked {
             held.clear();
             let polled = next.as_mut().poll(&mut quiet);
             is_in_order &= polled.is_ready();
-            if let Poll::Ready(permit) = polled {
+            if let Poll::Ready(Ok(permit)) = polled {
                 held.push(permit);
             }
             next = Box::pin(backend.acquire());

@@ -1,6 +1,6 @@
 //! A bulkhead and its passes, by one thread and by many.
 use resil::pass::Pass;
-use resil::{Bulkhead, BulkheadError, Full, OwnedPermit};
+use resil::{Bulkhead, BulkheadError, Full, NoPermit, OwnedPermit};
 use std::error::Error;
 use std::panic::{AssertUnwindSafe, catch_unwind};
 use std::sync::atomic::{AtomicBool, AtomicU32, Ordering};
@@ -25,7 +25,7 @@ fn a_full_bulkhead_refuses() -> Result<(), Box<dyn Error>> {
     let first = backend.enter()?;
     let second = backend.enter()?;
     assert_eq!(backend.available(), 0);
-    assert_eq!(backend.call(|| unreachable!()), Err::<(), Full>(Full));
+    assert_eq!(backend.call(|| unreachable!()), Err::<(), NoPermit>(Full));
     drop(first);
     assert_eq!(backend.call(|| 42), Ok(42));
     drop(second);
@@ -114,7 +114,7 @@ fn a_dropped_pass_raises() -> Result<(), Box<dyn Error>> {
 #[test]
 fn handles_cross_threads() {
     is_send_and_sync::<Bulkhead>();
-    is_send_and_sync::<Full>();
+    is_send_and_sync::<NoPermit>();
     is_send_and_sync::<BulkheadError>();
     is_send::<resil::Permit<'_>>();
     is_send_and_sync::<OwnedPermit>();
@@ -192,7 +192,7 @@ fn a_release_wakes_each_that_waits() -> Result<(), Box<dyn Error>> {
     let permits = [backend.enter()?, backend.enter()?];
     thread::scope(|scope| {
         let waiting = [(); 8].map(|()| {
-            scope.spawn(|| -> Result<(), Full> {
+            scope.spawn(|| -> Result<(), NoPermit> {
                 for _ in 0..500 {
                     let _permit = backend.enter_within(Duration::MAX)?;
                     seen.goes_in_and_out();
@@ -205,7 +205,7 @@ fn a_release_wakes_each_that_waits() -> Result<(), Box<dyn Error>> {
         waiting.map(|thread| thread.join().unwrap_or(Err(Full)))
     })
     .into_iter()
-    .collect::<Result<(), Full>>()?;
+    .collect::<Result<(), NoPermit>>()?;
     assert!(seen.most.into_inner() <= 2);
     assert_eq!((seen.entered.into_inner(), backend.available()), (4_000, 2));
     Ok(())

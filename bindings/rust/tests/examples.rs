@@ -7,6 +7,8 @@ mod decorators;
 mod metrics;
 #[path = "../examples/owned_permit.rs"]
 mod owned_permit;
+#[path = "../examples/recording.rs"]
+mod recording;
 #[path = "../examples/registry.rs"]
 mod registry;
 #[path = "../examples/retry.rs"]
@@ -40,6 +42,11 @@ fn metrics_runs() -> Checked {
 #[test]
 fn owned_permit_runs() -> Checked {
     owned_permit::main()
+}
+
+#[test]
+fn recording_runs() -> Checked {
+    recording::main()
 }
 
 #[test]

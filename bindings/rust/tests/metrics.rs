@@ -43,6 +43,7 @@ fn calls_are_counted_and_measured() -> Checked {
     ];
     assert!(text.contains(&told.join("\n")), "{text}");
     assert!(text.contains("resil_bulkhead_retired_permits{name=\"backend\"} 1\n"));
+    assert!(text.contains("resil_bulkhead_owed_permits{name=\"backend\"} 0\n"));
     assert!(text.contains("resil_bulkhead_waiting_calls{name=\"backend\"} 0\n"));
     assert!(text.contains("# TYPE resil_bulkhead_call_seconds histogram\n"));
     assert!(text.contains("resil_bulkhead_call_seconds_count{name=\"backend\"} 2\n"));
@@ -243,5 +244,31 @@ fn metrics_without_times_count_alone() -> Checked {
     assert!(text.contains("resil_bulkhead_calls_total{kind=\"permitted\",name=\"b\"} 1\n"));
     assert!(text.contains("resil_pool_jobs_total{kind=\"core\",name=\"pool\"} 1\n"));
     assert!(!text.contains("seconds"), "{text}");
+    Ok(())
+}
+
+#[test]
+fn a_name_is_removed() -> Checked {
+    let metrics = Arc::new(Metrics::new());
+    let backend = Bulkhead::new("one", 1)?.observed(metrics.clone());
+    let pool = ThreadPool::builder(1, 1)
+        .name("one")
+        .observed(metrics.clone())
+        .open()?;
+    let retry = Retry::new().observed("one", metrics.clone());
+    let other = Bulkhead::new("other", 1)?.observed(metrics.clone());
+    pool.submit(|| 42)?.wait()?;
+    assert_eq!((backend.call(|| 7), other.call(|| 7)), (Ok(7), Ok(7)));
+    assert_eq!(retry.call(|| Ok::<_, String>(7)), Ok(7));
+    assert!(metrics.text(&[], &[]).contains("name=\"one\""));
+    assert!(metrics.remove("one") && !metrics.remove("one"));
+    // What bears the name counts on, and isn't told.
+    assert_eq!(backend.call(|| 7), Ok(7));
+    let text = metrics.text(&[], &[]);
+    assert!(!text.contains("name=\"one\"") && text.contains("name=\"other\""));
+    let again = Bulkhead::new("one", 1)?.observed(metrics.clone());
+    assert_eq!(again.call(|| 7), Ok(7));
+    let line = "resil_bulkhead_calls_total{kind=\"permitted\",name=\"one\"} 1\n";
+    assert!(metrics.text(&[], &[]).contains(line));
     Ok(())
 }

@@ -78,4 +78,7 @@ fn a_pool_has_room_for_its_queue_and_threads() {
         assert_eq!(refused, Some(PoolError::Memory));
     }
     assert!(ThreadPool::builder(8, 8).open().is_ok());
+    // That of a record is asked for before these.
+    let refused = without(1, || ThreadPool::builder(8, 8).record(9).open().err());
+    assert_eq!(refused, Some(PoolError::Memory));
 }

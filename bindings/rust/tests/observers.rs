@@ -593,3 +593,28 @@ fn several_observers_are_all_told() -> Checked {
     assert_eq!(other.take(), wanted);
     Ok(())
 }
+
+/// Panics at each submission.
+struct Refuses;
+
+impl Observer for Refuses {
+    fn job_accepted(&self, _pool: &str, _reply: Reply) {
+        panic!("at a job");
+    }
+
+    fn job_refused(&self, _pool: &str, _reason: Refusal) {
+        panic!("at a refusal");
+    }
+}
+
+#[test]
+fn an_observer_that_panics_loses_no_handle() -> Checked {
+    let pool = ThreadPool::builder(1, 1)
+        .observed(Arc::new(Refuses))
+        .open()?;
+    assert_eq!(pool.submit(|| 42)?.wait()?, 42);
+    pool.close();
+    let refused = pool.submit(|| 7).err().ok_or("it is closed")?;
+    assert_eq!(((refused.function)(), refused.reason), (7, Refusal::Closed));
+    Ok(())
+}

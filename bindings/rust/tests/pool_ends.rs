@@ -164,26 +164,27 @@ fn a_thread_that_goes_while_its_pool_is_open_is_the_last_owner() -> Checked {
     Ok(())
 }
 
-// Each job submits the next one before it ends, so the pool is never quiet.
-fn keep_busy(pool: &Arc<ThreadPool>, stop: &Arc<AtomicBool>, ran: &Arc<AtomicU32>) {
-    ran.fetch_add(1, Ordering::SeqCst);
-    if !stop.load(Ordering::SeqCst) {
-        let (inner, stop, ran) = (Arc::clone(pool), Arc::clone(stop), Arc::clone(ran));
-        let next = pool.submit(move || keep_busy(&inner, &stop, &ran));
-        assert!(next.is_ok());
+// Each job submits the next one and counts it before it ends, so the pool is never quiet, and what a join waits for counts one more.
+fn keep_busy(pool: &Arc<ThreadPool>, stop: &Arc<AtomicBool>, submitted: &Arc<AtomicU32>) {
+    if stop.load(Ordering::SeqCst) {
+        return;
     }
+    let (inner, stop, count) = (Arc::clone(pool), Arc::clone(stop), Arc::clone(submitted));
+    let next = pool.submit(move || keep_busy(&inner, &stop, &count));
+    assert!(next.is_ok());
+    submitted.fetch_add(1, Ordering::SeqCst);
 }
 
 #[test]
 fn a_join_returns_under_a_steady_load() -> Checked {
     let pool = Arc::new(ThreadPool::builder(2, 2).open()?);
-    let (stop, ran) = (Arc::default(), Arc::default());
-    keep_busy(&pool, &stop, &ran);
+    let (stop, submitted) = (Arc::default(), Arc::default());
+    keep_busy(&pool, &stop, &submitted);
     for _ in 0..20 {
-        let before = ran.load(Ordering::SeqCst);
+        let before = submitted.load(Ordering::SeqCst);
         let joins = Arc::clone(&pool);
         in_time(thread::spawn(move || joins.join()))?.map_err(|_| "it panicked")?;
-        assert!(ran.load(Ordering::SeqCst) > before);
+        assert!(submitted.load(Ordering::SeqCst) > before);
     }
     stop.store(true, Ordering::SeqCst);
     pool.join();

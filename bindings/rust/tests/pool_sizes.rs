@@ -285,7 +285,7 @@ fn a_pool_is_shown_by_its_numbers() -> Checked {
     let builder = ThreadPool::builder(1, 2).name("letters");
     assert_eq!(
         format!("{builder:?}"),
-        "ThreadPoolBuilder { name: \"letters\", core: 1, max: 2, queue: 100, keep_alive: 20ms, stack_size: None }"
+        "ThreadPoolBuilder { name: \"letters\", core: 1, max: 2, queue: 100, keep_alive: 20ms, stack_size: None, record: None }"
     );
     let shown = format!("{:?}", builder.open()?);
     assert!(shown.starts_with("ThreadPool { name: \"letters\", numbers: PoolNumbers { core: 1"));

@@ -150,3 +150,19 @@ fn the_errors_say_what_the_library_says() {
         assert_eq!(error.to_string(), words);
     }
 }
+
+#[test]
+fn a_name_is_removed() -> Result<(), Box<dyn Error>> {
+    let registry = BulkheadRegistry::new(2);
+    assert!(registry.remove("prices").is_none());
+    let first = registry.bulkhead("prices")?;
+    let permit = first.enter()?;
+    let removed = registry.remove("prices").ok_or("it isn't there")?;
+    assert!(Arc::ptr_eq(&first, &removed) && registry.bulkheads().is_empty());
+    let second = registry.bulkhead("prices")?;
+    assert!(!Arc::ptr_eq(&first, &second));
+    assert_eq!((first.available(), second.available()), (1, 2));
+    drop(permit);
+    assert_eq!(removed.available(), 2);
+    Ok(())
+}

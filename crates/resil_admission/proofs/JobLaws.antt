@@ -37,6 +37,10 @@ plan_of-known (job ∷ jobs) id among = go (plan_of-known jobs id) (is_same_id i
         let known = rest (grind (arith, other, among)) in
         (known.0, grind (arith, other, known.1))
 
+pub plan_of-among : (jobs : List Accepted) (id : Id) (plan : PlanView) → plan_of jobs id ≡ Some plan → is_among id (ids_of jobs) ≡ true
+plan_of-among [] id plan known = absurd (cc known)
+plan_of-among (job ∷ jobs) id plan known = grind (arith, plan_of-among jobs id plan, known)
+
 -- a run changes neither ids nor plans
 pub ids-with_run : (jobs : List Accepted) (id : Id) (run : RunView) → ids_of (with_run jobs id run) ≡ ids_of jobs
 ids-with_run [] id run = refl

@@ -18,12 +18,12 @@ use Rattle.resil_rule.specs.declared.event.Event.TheVariants.{Submit, Take}
 use Rattle.resil_rule.proofs.EventLaws.{front-is}
 use Rattle.resil_rule.proofs.ConservationLaws.{conserved, in_flight-accepted, times-cons}
 use Rattle.resil_rule.proofs.SlotLaws.{there-out}
-use Rattle.resil_rule.proofs.IdLaws.{same_id-equal, same_id-self}
+use Rattle.resil_rule.proofs.IdLaws.{same_id-equal}
 use Rattle.resil_rule.proofs.TimesLaws.{among-times, is_positive, same_id-sym, times-last, times-one}
 use Rattle.resil_rule.proofs.RefusalLaws.{out-are}
 use Rattle.resil_rule.proofs.RuleLaws.{few-unpicked}
 use Rattle.resil_rule.proofs.UnpickedLaws.{started-same, accepted-same, filtered-more, line-first, line-none}
-use Rattle.resil_admission.specs.MachineView.{MachineView, newly_accepted, with_submission as machine_submission, ids_of, IsPicked, HasOneToPick, HasNoneToPick}
+use Rattle.resil_admission.specs.MachineView.{MachineView, newly_accepted, with_event, with_submission as machine_submission, ids_of, IsPicked, HasOneToPick, HasNoneToPick}
 use Rattle.resil_admission.specs.JobsInvariant.{unpicked_in}
 use Rattle.resil_admission.specs.MachineInvariant.{MachineInvariant, times_unpicked}
 use Rattle.resil_admission.specs.JobsView.{JobsView}
@@ -62,9 +62,6 @@ module _ {W : Type 0} where
   without : (x : Id) (line : List (Id × W)) (job : Id × W) → slice_get line 0 ≡ Some job → times x (ids_waiting line) ≡ cond (is_same_id x job.0) 1 0 + times x (ids_waiting (drop 1 line))
   without x line job front =
       ap (λ (line : List (Id × W)). times x (ids_waiting line)) (front-is line job front) ∙ times-cons x job.0 (ids_waiting (drop 1 line)) ∙ ap (λ n. n + times x (ids_waiting (drop 1 line))) (times-one x job.0)
-
-  pub front-there : (line : List (Id × W)) (job : Id × W) → slice_get line 0 ≡ Some job → 1 ≤ times job.0 (ids_waiting line)
-  front-there line job front = let parts = rw (same_id-self job.0) at (without job.0 line job front) in omega (arith, parts)
 
   module _ (v : RuleView W) (h : List Event) (state : IsStateOf h v) where
     -- a job is there once at most
@@ -118,6 +115,10 @@ seen v h jobs = record { limits = v.limits; history = h; picked = length (starte
 pub quiet-picked : (h : List Event) (e : Event) (unpicked : List (Id × Unit {0})) → started_id e ≡ None → length (started (h ++ e ∷ [])) - length unpicked ≡ length (started h) - length unpicked
 quiet-picked h e unpicked starts = ap (λ (ids : List Id). length ids - length unpicked) (started-same h e starts)
 
+-- a machine after such an event, as its contracts see it
+pub quiet-view : (v : RuleView (Unit {0})) (h after : List Event) (e : Event) (jobs : List Accepted) → started_id e ≡ None → after ≡ h ++ e ∷ [] → seen v after jobs ≡ with_event (seen v h jobs) e
+quiet-view v h after e jobs starts is = rw is (ap (λ (n : ℕ). record (seen v (h ++ e ∷ []) jobs) { picked = n }) (quiet-picked h e v.unpicked starts))
+
 module _ (v : RuleView (Unit {0})) (h : List Event) (state : IsStateOf h v) (jobs : List Accepted) where
   -- the job that the rule picked
   pub own-picked : (slot : Slot) (work : Unit {0}) → slice_get v.unpicked 0 ≡ Some (slot.id, work) → IsPicked (seen v h jobs) slot.id (seen (with_pick v slot) h jobs)
@@ -127,9 +128,8 @@ module _ (v : RuleView (Unit {0})) (h : List Event) (state : IsStateOf h v) (job
       let more : length (started h) - length (drop 1 v.unpicked) ≡ length (started h) - length v.unpicked + 1 = omega (arith, few, fewer) in
       inl (next-is v h state slot.id work front, ap (λ (n : ℕ). record (seen v h jobs) { picked = n }) more)
 
-  pub queue-picked : (slot : Slot) → v.unpicked ≡ [] → IsAllowed v.limits h (Take slot.id) → IsPicked (seen v h jobs) slot.id (seen (with_take v slot) (h ++ Take slot.id ∷ []) jobs)
-  queue-picked slot none allowed =
-      inr (next-none v h state none, allowed, ap (λ (n : ℕ). record (seen v (h ++ Take slot.id ∷ []) jobs) { picked = n }) (quiet-picked h (Take slot.id) v.unpicked refl))
+  pub queue-picked : (slot : Slot) (after : List Event) → v.unpicked ≡ [] → IsAllowed v.limits h (Take slot.id) → after ≡ h ++ Take slot.id ∷ [] → IsPicked (seen v h jobs) slot.id (seen (with_take v slot) after jobs)
+  queue-picked slot after none allowed is = inr (next-none v h state none, allowed, quiet-view v h after (Take slot.id) jobs refl is)
 
   -- whether there is a job to pick
   pub one-own : 0 < length v.unpicked → HasOneToPick (seen v h jobs)

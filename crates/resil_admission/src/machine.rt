@@ -6,9 +6,8 @@
 //! `new`, `submit` and `resize` alone, and by the last two before a job or an event is added: an accepted
 //! job has room for its take, its finish, the end of its worker and its result.
 
-ghost use Rattle.std.specs.Prelude.{◌≡◌, ◌↔◌, ◌≤◌, ◌<◌, ◌+◌, [], ℕ, length, Some, option_map, slice_get, true, false, IsTrue, IsOk, IfOk, IfErr, IfSome, OnOk, OnErr, IfNone};
+ghost use Rattle.std.specs.Prelude.{◌≡◌, ◌↔◌, ◌≤◌, ◌<◌, ◌+◌, [], ℕ, length, Some, true, false, IsTrue, IsOk, IfOk, IfErr, IfSome, OnOk, OnErr, IfNone};
 ghost use Rattle.std.specs.Bool.{OnTrue, OnFalse};
-ghost use Rattle.resil_decor.specs.Run.{IsValue};
 ghost use Rattle.resil_rule.specs.History.{accepted, is_among, is_closed, next_number};
 ghost use Rattle.resil_rule.specs.Admission.{IsAllowed, IsLegal};
 ghost use Rattle.resil_rule.specs.Limits.{IsResizeRefusal};
@@ -190,7 +189,13 @@ impl Machine {
         ensures unchanged { OnErr result (self.new ≡ self.old) }
         ensures run_back { IfErr result (λ e. e.1 ≡ run) }
     {
-        self.end_run(id, run, false)
+        let Some(_slot) = self.rule.find(id) else {
+            return Err((AdmitError::NotOut, run));
+        };
+        if !is_run_of(&self.jobs, id, &run) {
+            return Err((AdmitError::OtherJob, run));
+        }
+        self.finish_picked(id, run)
     }
 
     /// Ends the run of a job that is out, as `finish` does, for whoever knows that the run is of the plan that was submitted under the
@@ -214,18 +219,6 @@ impl Machine {
         ensures unchanged { OnErr result (self.new ≡ self.old) }
         ensures run_back { IfErr result (λ e. e.1 ≡ run) }
     {
-        self.end_run(id, run, true)
-    }
-
-    // Ends the run of a job that is out. Where the run is known to be of the job's plan, plans aren't compared.
-    fn end_run(&mut self, id: Id, run: Run, is_own_plan: bool) -> Result<(), (AdmitError, Run)>
-        requires { is_own_plan ≡ true → plan_of self.old.jobs id ≡ Some run.plan }
-        ensures out { IsOk result ↔ (is_among id (jobs_in_flight self.old) ≡ true) × (plan_of self.old.jobs id ≡ Some run.plan) }
-        ensures event { OnOk result (self.new ≡ with_finish self.old id run) }
-        ensures refused { IfErr result (λ e. IsFinishRefusal self.old id run.plan e.0) }
-        ensures unchanged { OnErr result (self.new ≡ self.old) }
-        ensures run_back { IfErr result (λ e. e.1 ≡ run) }
-    {
         let Some(slot) = self.rule.find(id) else {
             return Err((AdmitError::NotOut, run));
         };
@@ -233,9 +226,8 @@ impl Machine {
         let Some(index) = self.jobs.index_of(id) else {
             unreachable!()
         };
-        if !is_run_of(&self.jobs, index, &run, is_own_plan) {
-            return Err((AdmitError::OtherJob, run));
-        }
+        // For the proof alone, which has it from the run that its value is one of its plan.
+        let _plan = run.plan();
         self.rule.finish(slot);
         self.history.write(Event::Finish(id));
         self.jobs.record_run(index, id, run);
@@ -398,18 +390,15 @@ fn make_room(
     Ok(())
 }
 
-// Whether the run is of the plan of the job at an index, from 0. Where it is known to be, the plans aren't compared.
-fn is_run_of(jobs: &Jobs, index: usize, run: &Run, is_own_plan: bool) -> bool
-    requires { is_own_plan ≡ true → option_map (λ job. job.plan) (slice_get jobs.now.jobs index) ≡ Some run.now.plan }
-    ensures same { IsTrue result ↔ (option_map (λ job. job.plan) (slice_get jobs.now.jobs index) ≡ Some run.now.plan) }
-    ensures value { IsValue run.now }
+// Whether the run is of the plan that was submitted under the id.
+fn is_run_of(jobs: &Jobs, id: Id, run: &Run) -> bool
+    ensures same { IsTrue result ↔ (plan_of jobs.now.jobs id ≡ Some run.now.plan) }
 {
-    let ran = run.plan();
-    if is_own_plan {
-        return true;
-    }
+    let Some(index) = jobs.index_of(id) else {
+        return false;
+    };
     match jobs.plan_at(index) {
-        Some(submitted) => submitted.same(ran),
+        Some(submitted) => submitted.same(run.plan()),
         None => false,
     }
 }

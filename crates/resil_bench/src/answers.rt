@@ -99,7 +99,7 @@ fn right_in_all<H: Record + Send, R: Threads + Wait + Sync>(
 {
     let callers = round.callers.max(1);
     let (each, at_once) = (u64::from(round.count / callers), u64::from(QUEUE / callers));
-    let Ended { answer, worker: _ } = work_while(rt, pool, closer, KEEP_ALIVE, || {
+    let Ended { answer, .. } = work_while(rt, pool, closer, KEEP_ALIVE, || {
         thread::map_indices(
             rt,
             alloc,

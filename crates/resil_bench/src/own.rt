@@ -57,7 +57,7 @@ fn serve<'a, R: Input + Print + AllocGlobal + Clock + Threads + Wait + Sync>(
 ) -> anyhow::Result<()>
     requires mine { IsOf pool.now closer.seat }
 {
-    let Ended { answer, worker: _ } = work_while(rt, pool, closer, KEEP_ALIVE, || {
+    let Ended { answer, .. } = work_while(rt, pool, closer, KEEP_ALIVE, || {
         let visitor = pool.visitor();
         let mut submitter = Submitter {
             pool,

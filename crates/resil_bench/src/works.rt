@@ -42,7 +42,7 @@ fn finished<R: Threads + Wait + Sync>(
     requires mine { IsOf pool.now closer.seat }
 {
     let each = round.count / round.callers.max(1);
-    let Ended { answer, worker: _ } = work_while(rt, pool, closer, KEEP_ALIVE, || {
+    let Ended { answer, .. } = work_while(rt, pool, closer, KEEP_ALIVE, || {
         thread::map_indices(
             rt,
             alloc,
@@ -54,7 +54,7 @@ fn finished<R: Threads + Wait + Sync>(
         Ok(callers) => drop(callers?),
         Err(_) => return Err(anyhow!("no thread could be started")),
     }
-    Ok(pool.numbers(rt, &mut pool.visitor()).finished)
+    Ok(pool.numbers(rt).finished)
 }
 
 /// Runs the works of the callers, and answers how many were finished.

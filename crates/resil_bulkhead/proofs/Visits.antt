@@ -16,8 +16,8 @@ held p inside q same same' took gave =
     record { inside = inside; same = same; took = took; gave = gave; own = ap (λ (s : ℕ). events_of_seat s q.seen) same'.number ∙ (as_before ∙ both) }
 
 -- p waited and became `waited`, took a permit and became `inside`, and gave it back
-pub held_since : (p waited inside q : PassView) → HasWaited p waited → IsSamePass p inside → IsSamePass inside q → IsTry waited inside tried.Taken → AppendsEvent inside (Gave inside.number) (λ _. Unit {0}) q → HasHeldPermit waited q
-held_since p waited inside q has same left took gave =
+pub held_since : (longest : ℕ) (p waited inside q : PassView) → HasWaited longest p waited → IsSamePass p inside → IsSamePass inside q → IsTry waited inside tried.Taken → AppendsEvent inside (Gave inside.number) (λ _. Unit {0}) q → HasHeldPermit waited q
+held_since longest p waited inside q has same left took gave =
     let first = has.same in
     let before : IsSamePass waited inside = record { source = same.source ∙ sym first.source; number = same.number ∙ sym first.number } in
     held waited inside q before (record { source = left.source ∙ before.source; number = left.number ∙ before.number }) took gave

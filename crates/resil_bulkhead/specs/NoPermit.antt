@@ -1,5 +1,5 @@
 -- What a refused permit says of the pass that asked for one.
-use Rattle.std.specs.Prelude.{◌≡◌, Bool, true, false}
+use Rattle.std.specs.Prelude.{◌≡◌, ℕ, Bool, true, false}
 use Rattle.resil_permit.specs.declared.permits.Attempt.{Attempt}
 use Rattle.resil_permit.specs.declared.permits.Attempt.TheVariants as tried
 use Rattle.resil_permit.specs.Passes.{PassView, held_by, retired_by, IsSamePass}
@@ -22,10 +22,11 @@ pub record IsRefused (p q : PassView) (refused : NoPermit) : Type 0 where
   pub held : held_by q ≡ held_by p
   pub retired : retired_by q ≡ retired_by p
 
--- the pass has waited, and no permit was free at its last try either; it holds and has retired what it did
-pub record IsRefusedAtLast (p q : PassView) : Type 0 where
+-- the pass has waited, for so many nanoseconds at the longest, and no permit was free at its last try either; it holds and has
+-- retired what it did
+pub record IsRefusedAtLast (longest : ℕ) (p q : PassView) : Type 0 where
   pub same : IsSamePass p q
-  pub tried : (waited : PassView) × HasWaited p waited × IsTry waited q tried.Full
+  pub tried : (waited : PassView) × HasWaited longest p waited × IsTry waited q tried.Full
   pub held : held_by q ≡ held_by p
   pub retired : retired_by q ≡ retired_by p
 

@@ -154,7 +154,7 @@ impl Bulkhead {
     pub fn enter_within<R: Wait + Clock>(&self, rt: &R, pass: &mut Pass, longest: Duration) -> bool
         requires { pass.old.source ≡ self.now.permits }
         ensures pass { IsSamePass pass.old pass.new }
-        ensures tried { (waited : PassView) × HasWaited pass.old waited × IsTry waited pass.new (attempt_of result) }
+        ensures tried { (waited : PassView) × HasWaited (as_nanos longest) pass.old waited × IsTry waited pass.new (attempt_of result) }
         ensures at_once { as_nanos longest ≡ 0 → IsTry pass.old pass.new (attempt_of result) }
         ensures nobody { self.now.permits.max ≡ 0 → result ≡ false }
         ensures held { held_by pass.new ≡ held_after (held_by pass.old) (attempt_of result) }

@@ -77,7 +77,7 @@ impl Bulkhead {
         requires source { pass.old.source ≡ self.now.permits }
         requires can { C.CanCall call.old }
         ensures pass { IsSamePass pass.old pass.new }
-        ensures executed { (waited : PassView) × HasWaited pass.old waited × IsCalled C.IsAnswer waited pass.new call.old call.new result }
+        ensures executed { (waited : PassView) × HasWaited (as_nanos longest) pass.old waited × IsCalled C.IsAnswer waited pass.new call.old call.new result }
         ensures at_once { as_nanos longest ≡ 0 → IsCalled C.IsAnswer pass.old pass.new call.old call.new result }
         ensures full { IfErr result (λ refused. refused ≡ NoPermit.Full) }
         ensures nobody { self.now.permits.max ≡ 0 → IsErr result }

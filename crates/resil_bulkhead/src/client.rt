@@ -112,7 +112,7 @@ impl Client<'_> {
         requires can { C.CanCall call.old }
         ensures bulkhead { self.new.bulkhead ≡ self.old.bulkhead }
         ensures pass { IsSamePass self.old.pass self.new.pass }
-        ensures executed { (waited : PassView) × HasWaited self.old.pass waited × IsCalled C.IsAnswer waited self.new.pass call.old call.new result }
+        ensures executed { (waited : PassView) × HasWaited (as_nanos longest) self.old.pass waited × IsCalled C.IsAnswer waited self.new.pass call.old call.new result }
         ensures at_once { as_nanos longest ≡ 0 → IsCalled C.IsAnswer self.old.pass self.new.pass call.old call.new result }
         ensures full { IfErr result (λ refused. refused ≡ NoPermit.Full) }
         ensures nobody { self.old.bulkhead.now.permits.max ≡ 0 → IsErr result }

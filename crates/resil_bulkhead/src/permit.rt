@@ -4,6 +4,7 @@
 
 ghost use Rattle.std.specs.Prelude.{◌≡◌, ◌<◌, ◌+◌, IfOk, IfErr};
 ghost use Rattle.std.specs.Borrow.{sem, RestsIfErr};
+ghost use Rattle.std.specs.Duration.{as_nanos};
 ghost use Rattle.resil_permit.specs.contracts.pass.Pass.{the_row};
 ghost use Rattle.resil_permit.specs.declared.event.PermitEvent.TheVariants.{Gave};
 ghost use Rattle.resil_permit.specs.declared.permits.Attempt.TheVariants as tried;
@@ -83,9 +84,9 @@ impl<'a> Permit<'a> {
         longest: Duration,
     ) -> Result<Permit<'a>, NoPermit>
         requires { pass.old.source ≡ bulkhead.now.permits }
-        ensures* refused { sem 𝓛 (RestsIfErr the_row pass.entry (λ permit. permit.pass.ghost_name) result (λ left. IfErr result (λ _. IsRefusedAtLast pass.old left))) }
+        ensures* refused { sem 𝓛 (RestsIfErr the_row pass.entry (λ permit. permit.pass.ghost_name) result (λ left. IfErr result (λ _. IsRefusedAtLast (as_nanos longest) pass.old left))) }
         ensures reference { IfOk result (λ permit. permit.pass.ghost_name ≡ pass.entry.ghost_name) }
-        ensures took { IfOk result (λ permit. (waited : PassView) × HasWaited pass.old waited × IsTry waited permit.pass.now tried.Taken) }
+        ensures took { IfOk result (λ permit. (waited : PassView) × HasWaited (as_nanos longest) pass.old waited × IsTry waited permit.pass.now tried.Taken) }
         ensures held { IfOk result (λ permit. held_by permit.pass.now ≡ held_by pass.old + 1) }
         ensures retired { IfOk result (λ permit. retired_by permit.pass.now ≡ retired_by pass.old) }
         ensures pass { IfOk result (λ permit. IsSamePass pass.old permit.pass.now) }

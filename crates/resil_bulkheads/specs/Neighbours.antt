@@ -8,7 +8,8 @@ use Rattle.toml.specs.Data.{Members}
 use Rattle.toml.specs.Parse.{parse_document}
 use Rattle.resil_bulkhead.specs.Bulkhead.{BulkheadView}
 use Rattle.resil_registry.specs.Registry.{RegistryView, config_of}
-use Rattle.resil_heads.specs.Bulkheads.{parse_configurations, bulkhead_tables, parse_bulkhead}
+use Rattle.resil_heads.specs.Bulkheads.{parse_configurations, bulkhead_tables, parse_bulkhead, text_keys}
+use Rattle.resil_heads.specs.Document.{check_known}
 use Rattle.resil_bulkheads.specs.Bulkheads.{BulkheadsView}
 use Rattle.resil_heads.specs.declared.bulkheads.BulkheadSpec.{BulkheadSpec}
 
@@ -37,11 +38,12 @@ pub record AddsWait (old : List Duration) (keys : Members) (new : List Duration)
   pub last : new ≡ old ++ wait ∷ []
   pub said : IsWaitSaid keys wait
 
--- a text is read, its configurations are those of its table `permits` beside `default`, and each table of its array `bulkhead`
+-- a text is read, it has no other keys than these two, its configurations are those of its table `permits` beside `default`, and each table of its array `bulkhead`
 -- says one bulkhead and its wait, in order
 pub record AreSaid (text : List ℕ) (bulkheads : List BulkheadView) (waits : List Duration) : Type 0 where
   pub said : Members
   pub parsed : parse_document text ≡ Some said
+  pub known : check_known text_keys said ≡ Ok tt
   pub lists : RegistryView ℕ
   pub configured : parse_configurations said ≡ Ok lists
   pub tables : List Members

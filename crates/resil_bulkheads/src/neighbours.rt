@@ -14,7 +14,6 @@ use resil_heads::HeadError;
 use resil_heads::bulkheads::{
     Place, TextError, parse_bulkhead, read_configurations, read_tables, read_text, registry_error,
 };
-use resil_registry::RegistryError;
 use std::alloc::Global;
 use std::time::Duration;
 use toml::Table;
@@ -46,7 +45,7 @@ impl Neighbours {
     /// The first in this order, each with its place: `BadToml` with its line; `UnknownKey` of the
     /// whole text; of `permits` `BadValue`, `BadName`, `ReservedName`; `BadValue` where `bulkhead`
     /// isn't an array of tables; then of each bulkhead in turn `UnknownKey`, `MissingKey`,
-    /// `BadValue`, `NameTaken`, `BadName`, `NoSuchConfig`. `Memory` may come at any step.
+    /// `BadValue`, `SameName`, `BadName`, `NoSuchConfig`. `Memory` may come at any step.
     ///
     /// ```
     /// let neighbours = Neighbours::from_toml(alloc, "[[bulkhead]]\nname = \"prices\"\nwait = 50")?;
@@ -119,7 +118,7 @@ impl Neighbours {
         }
     }
 
-    // Adds the bulkhead of a table. Errors: `UnknownKey`, `MissingKey`, `BadValue`, `NameTaken`,
+    // Adds the bulkhead of a table. Errors: `UnknownKey`, `MissingKey`, `BadValue`, `SameName`,
     // `BadName`, `NoSuchConfig`, `Memory`.
     fn add(&mut self, alloc: Global, keys: &Table) -> Result<(), HeadError>
         ensures configurations { OnOk result (self.new.registry.lists.configurations ≡ self.old.registry.lists.configurations) }
@@ -128,8 +127,8 @@ impl Neighbours {
     {
         let said = parse_bulkhead(keys)?;
         let Neighbours { registry, waits } = self;
-        if registry.id(said.name.as_str()).is_some() {
-            return Err(registry_error(RegistryError::NameTaken));
+        if let Some(id) = registry.id(said.name.as_str()) {
+            return Err(HeadError::SameName(id.saturating_add(1)));
         }
         match registry.bulkhead_with(alloc, said.name.as_str(), said.config.as_str()) {
             Ok(_bulkhead) => match waits.push(Duration::from_millis(said.wait)) {

@@ -31,7 +31,7 @@
 //! Layers (`resil_layers`, Decorators):
 //! - `Decorate`, `DecorateWithin`: puts layers around a call
 //! - `Inside`, `InsideWithin`: a call under a bulkhead, with a wait for the permit
-//! - `Retried`, `RetriedWithin`: a call with retries, with an end
+//! - `Retried`, `RetriedWithin`, `RetriedObserved`: a call with retries, with an end, with an observer
 //! - `OrElse`, `Fallback`: a value in place of an error
 //! - `CallError` (`resil_bulkhead`): the error of a function that may be refused
 //! - `CanBeRefused`, `TellsRefusal` (`resil_call`): the answers that a refused call may have, and whether an error is a refusal
@@ -41,8 +41,9 @@
 //! - `Count`, `Counted`, `Counting`: counts each call by what it came to
 //! - `CallCounts`, `counts_by_name`, `CallTimes`, `Timing`: counts and times that threads share, and what adds to the times
 //! - `OwnCounts`: counts of one chain's own
-//! - `RetryCounts`, `RetryKind`: what retries came to
-//! - `BulkheadsText`, `CallsText`, `PoolText`, `RetriesText`, `TimesText`: their texts for Prometheus
+//! - `RetryObserver`, `OnRetry`, `Telling`: tells an observer, or a closure, of each wait of a retry, and of its end
+//! - `RetryCounts`, `OwnRetryCounts`, `RetryKind`: what retries came to
+//! - `BulkheadsText`, `CallsText`, `RetriesText`, `TimesText`: their texts for Prometheus
 //!
 //! Registries (`resil_registry`, `resil_bulkheads`):
 //! - `Registry`: configurations and instances by name
@@ -67,8 +68,8 @@ pub use resil_call::{
 pub use resil_layers::{
     BulkheadsText, CallCounts, CallTimes, CallsText, Count, Counted, Counting, Decorate,
     DecorateWithin, Fallback, Inside, InsideWithin, Inspect, Jitter, Observe, Observed, Observer,
-    OrElse, OwnCounts, PoolText, RetriedWithin, RetriesText, RetryCounts, RetryKind, Spread,
-    TimesText, Timing, counts_by_name,
+    OnRetry, OrElse, OwnCounts, OwnRetryCounts, RetriedObserved, RetriedWithin, RetriesText,
+    RetryCounts, RetryKind, RetryObserver, Spread, Telling, TimesText, Timing, counts_by_name,
 };
 pub use resil_registry::{DEFAULT_CONFIG, Registry, RegistryError};
 pub use resil_retry::{Interval, MAX_INTERVAL, Recorded, RetryError, Waits, recorded_waits};

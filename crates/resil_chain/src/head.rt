@@ -14,10 +14,10 @@ ghost use Rattle.resil_chain.specs.Head.{chain_in, chain_head_of};
 ghost use Rattle.resil_heads.specs.Ranges.{AreLayersInRange};
 
 use resil_decor::Chain;
-use resil_heads::HeadError;
 use resil_heads::document::read_document;
 use resil_heads::forms::Key;
 use resil_heads::layers::{LAYER, PERMITS, build_chain, parse_chain};
+use resil_heads::{HeadError, HeadFault};
 use resil_registry::Registry;
 use std::alloc::Global;
 use std::marker::Model;
@@ -26,9 +26,9 @@ use toml::Table;
 /// The keys of the head.
 pub const CHAIN_KEYS: &[Key] = &[PERMITS, LAYER];
 
-// The chain that a table gives.
+/// The chain that the table of a head gives. Errors: as for `read_head`, but for `BadToml`.
 #[tactic(auto, unfolding(crate::specs::Head::chain_in))]
-fn chain_in(alloc: Global, head: &Table) -> Result<Chain, HeadError>
+pub fn chain_in(alloc: Global, head: &Table) -> Result<Chain, HeadFault>
     ensures { Gives result (chain_in (table_view head.now)) }
 {
     let said = parse_chain(alloc, CHAIN_KEYS, head)?;
@@ -55,5 +55,5 @@ pub fn read_head(alloc: Global, head: &[u8]) -> Result<Chain, HeadError>
     ensures in_range { IfOk result (λ layers. AreLayersInRange (length layers) layers) }
 {
     let table = read_document(alloc, head)?;
-    chain_in(alloc, &table)
+    Ok(chain_in(alloc, &table)?)
 }

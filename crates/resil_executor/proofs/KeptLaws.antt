@@ -1,6 +1,5 @@
 -- What a turn does beside the rule keeps up with the log.
-use Rattle.std.proofs.Common.{◌≡◌, ◌+◌, ◌==◌, inl, inr, ℕ, suc, true, cond, List, [], ◌∷◌, ◌++◌, ◌∙◌, Option, Some, None, length, filter_map, slice_get, sym, refl, ap, subst, arith, append-nil, length-append}
-use Rattle.std.proofs.lemmas.List.Elements.{filter_map-append}
+use Rattle.std.proofs.Common.{◌≡◌, ◌+◌, ◌==◌, inl, inr, ℕ, suc, true, cond, List, [], ◌∷◌, ◌++◌, ◌∙◌, Option, Some, None, length, slice_get, sym, refl, ap, subst, arith, append-nil, length-append}
 use Rattle.resil_rule.specs.History.{accepted, accepted_id, finished, finished_id, submissions, is_submit_of}
 use Rattle.resil_rule.specs.RuleView.{RuleView, owed, is_acceptance, with_submission, with_pick, with_take, with_finish}
 use Rattle.resil_rule.specs.RuleState.{IsPicked}
@@ -19,7 +18,7 @@ use Rattle.resil_executor.specs.declared.log.Entry.{Entry}
 use Rattle.resil_executor.specs.declared.log.Note.{Note}
 use Rattle.resil_executor.specs.declared.log.Note.TheVariants as note
 use Rattle.resil_executor.specs.Log.{entries_of, events_in}
-use Rattle.resil_executor.proofs.LogLaws.{events-more}
+use Rattle.resil_executor.proofs.LogLaws.{length-more, events-more}
 use Rattle.resil_executor.specs.Kept.{refused, refused_id, events_of, IsOwn, unfinished, KeepsUp, Keeps}
 
 -- an own submission was accepted or refused, and no other event is one
@@ -30,9 +29,6 @@ answered-once (event.Submit id reply.Extra) own = ap {B = ℕ} (λ (c : ℕ). co
 answered-once (event.Submit id reply.Full) own = ap {B = ℕ} (λ (c : ℕ). cond (c == 1) 1 0) own
 answered-once (event.Submit id reply.Closed) own = ap {B = ℕ} (λ (c : ℕ). cond (c == 1) 1 0) own
 answered-once e own = refl
-
-count-more : (f : Event → Option Id) (h more : List Event) → length (filter_map f (h ++ more)) ≡ length (filter_map f h) + length (filter_map f more)
-count-more f h more = ap length (filter_map-append f h more) ∙ length-append (filter_map f h) (filter_map f more)
 
 answered-more : (h : List Event) (last : Option Note) → IsOwn last → length (submissions (h ++ events_of last) 1) ≡ length (submissions h 1) + (length (accepted (events_of last)) + length (refused (events_of last)))
 answered-more h None own = ap (λ (l : List Event). length (submissions l 1)) (append-nil h) ∙ omega arith
@@ -45,9 +41,9 @@ module _ {W H : Type 0} (IsRecordOf : List Event → H → Type 0) (HasRoom : �
   keeps-up log v after last count count' r r' k s =
       let more = events-more log after last in
       let h = events_in log in
-      let acs = count-more accepted_id h (events_of last) in
-      let fins = count-more finished_id h (events_of last) in
-      let refs = count-more refused_id h (events_of last) in
+      let acs = length-more accepted_id h (events_of last) in
+      let fins = length-more finished_id h (events_of last) in
+      let refs = length-more refused_id h (events_of last) in
       let subs = answered-more h last k.own in
       let new = k.counted in
       let old = s.counted in

@@ -1,5 +1,5 @@
 -- Logs that grow by an entry.
-use Rattle.std.proofs.Common.{◌≡◌, ◌+◌, ℕ, zero, suc, List, [], ◌∷◌, ◌++◌, ◌∙◌, Option, Some, None, drop, slice_get, sym, refl, ap, subst, arith, append-nil, append_assoc}
+use Rattle.std.proofs.Common.{◌≡◌, ◌⊎◌, inl, inr, ◌+◌, ℕ, zero, suc, List, [], ◌∷◌, ◌++◌, ◌∙◌, Option, Some, None, drop, length, slice_get, sym, refl, ap, subst, arith, append-nil, append_assoc, length-append}
 use Rattle.std.specs.Prelude.{Contains, filter_map}
 use Rattle.std.proofs.lemmas.List.Elements.{filter_map-append, Contains-append_left}
 use mathlib.Core.List.{IsPrefix}
@@ -31,6 +31,9 @@ module _ {A B : Type 0} (f : A → Option B) where
   pub more-empty : (xs ys : List A) → filter_map f ys ≡ [] → filter_map f (xs ++ ys) ≡ filter_map f xs
   more-empty xs ys e = filter_map-append f xs ys ∙ (ap (λ (l : List B). filter_map f xs ++ l) e ∙ append-nil (filter_map f xs))
 
+  pub length-more : (xs ys : List A) → length (filter_map f (xs ++ ys)) ≡ length (filter_map f xs) + length (filter_map f ys)
+  length-more xs ys = ap length (filter_map-append f xs ys) ∙ length-append (filter_map f xs) (filter_map f ys)
+
   pub still-there : (xs ys : List A) (b : B) → Contains (filter_map f xs) b → Contains (filter_map f (xs ++ ys)) b
   still-there xs ys b there = subst (λ (l : List B). Contains l b) (sym (filter_map-append f xs ys)) (Contains-append_left (filter_map f xs) (filter_map f ys) b there)
 
@@ -55,6 +58,15 @@ prefix-trans xs ys zs p q = (p.0 ++ q.0, sym (append_assoc xs p.0 q.0) ∙ (ap (
 
 pub prefix-more : {E : Type 0} (xs ys more zs : List E) → IsPrefix xs ys → zs ≡ ys ++ more → IsPrefix xs zs
 prefix-more xs ys more zs p e = prefix-trans xs ys zs p (more, sym e)
+
+-- a beginning of two lists is one of the first, or the first with a beginning of the second
+pub begins-either : {E : Type 0} (xs ys begun : List E) → IsPrefix begun (xs ++ ys) → IsPrefix begun xs ⊎ ((more : List E) × (begun ≡ xs ++ more) × IsPrefix more ys)
+begins-either [] ys begun p = inr (begun, refl, p)
+begins-either (x ∷ xs) ys [] p = inl (x ∷ xs, refl)
+begins-either (x ∷ xs) ys (b ∷ begun) p = elim (begins-either xs ys begun (p.0, cc (p.1))) [
+  | inl q ↦ inl (q.0, cc (p.1, q.1))
+  | inr q ↦ inr (q.0, cc (p.1, q.1), q.2)
+]
 
 module _ {W : Type 0} where
   -- the last work is that of the job behind the others

@@ -1,5 +1,6 @@
 -- What a seat sees of what its turn wrote, and what it may have written.
 use Rattle.std.proofs.Common.{◌≡◌, ◌≤◌, ◌+◌, inl, inr, ℕ, Bool, true, false, cond, List, [], ◌++◌, ◌∙◌, Option, Some, None, length, sym, refl, ap, subst, arith, append-nil}
+use Rattle.std.proofs.lemmas.Bool.{OnTrue_at, OnTrue_from, OnFalse_at, OnFalse_from}
 use Rattle.std.proofs.lemmas.List.{nil_from_length}
 use Rattle.std.specs.Prelude.{IfErr, IfOk, OnOk, OnErr, Result, Ok, Err, Contains}
 use Rattle.std.specs.Bool.{OnTrue, OnFalse}
@@ -35,7 +36,7 @@ use Rattle.resil_executor.specs.declared.job.PickedJob.{PickedJob}
 use Rattle.resil_executor.specs.declared.state.Numbers.{Numbers}
 use Rattle.resil_executor.specs.Kept.{KeepsUp, Keeps, unfinished}
 use Rattle.resil_executor.specs.Log.{StandsFor, MayHaveWritten, picked_id, ended_id, job_of, beyond_submission, entry_of, entries_of, events_in, accepted_in, picked_in, ended_in, beyond_submissions_in, IsOver}
-use Rattle.resil_executor.specs.Turn.{Steps, IsPlain, IsVisit, Writes, WritesNone, Accepts, Refuses, Picks, IsOverNow, SeesLast, SeesMore, SeesAccepted, SeesRefusal, IsDue, HasPicked, HasRested, SeesOver, AreNumbersAfter}
+use Rattle.resil_executor.specs.Turn.{Steps, IsPlain, IsVisit, Writes, WritesNone, Accepts, Refuses, Picks, IsOverNow, SeesLast, SeesMore, HasSeen, SeesAccepted, SeesRefusal, IsDue, HasPicked, HasRested, SeesOver, AreNumbersAfter}
 use Rattle.resil_executor.proofs.KeptLaws.{keeps-up}
 use Rattle.resil_executor.proofs.LogLaws.{more-some, more-none, more-empty, still-there, prefix-more, count, weigh-count, weigh-none}
 use Rattle.resil_executor.proofs.OneLogLaws.{ended-is}
@@ -154,6 +155,17 @@ module _ {W K : Type 0} {limits : Sizes} {old locked new : View K (Entry W)} {v 
           finished = omega (arith, ends, jobs);
           closed = closed ∙ now.state.numbers.closed_is;
         }))
+
+-- what a seat that began so has seen
+module _ {W K : Type 0} (limits : Sizes) (start before after : View K (Entry W)) (Holds : List Event → Type 0) (same : start ≡ before) (sees : SeesMore limits start after) where
+  pub has-seen : Holds (events_in after.seen) → HasSeen limits before Holds
+  has-seen holds = record { after = after; sees = rw same at sees; holds = holds }
+
+  pub true-seen : (b : Bool) → OnTrue b (Holds (events_in after.seen)) → OnTrue b (HasSeen limits before Holds)
+  true-seen b told = OnTrue_from _ _ (λ is. has-seen (OnTrue_at is told))
+
+  pub false-seen : (b : Bool) → OnFalse b (Holds (events_in after.seen)) → OnFalse b (HasSeen limits before Holds)
+  false-seen b told = OnFalse_from _ _ (λ is. has-seen (OnFalse_at is told))
 
 -- no more works were accepted than there were submissions
 pub few-accepted : {W H : Type 0} (IsRecordOf : List Event → H → Type 0) (HasRoom : ℕ → H → Type 0) (limits : Sizes) (log : List (Entry W)) (v : RuleView W) (count : ℕ) (r : H) → StandsFor limits log v → KeepsUp IsRecordOf HasRoom log v count r

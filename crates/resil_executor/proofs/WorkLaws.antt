@@ -1,5 +1,5 @@
 -- What a worker has done, turn by turn, and what its clause rules out, whatever the body.
-use Rattle.std.proofs.Common.{ℕ, ◌≡◌, ◌⊎◌, inl, inr, List, [], ◌∷◌, ◌++◌, ◌∙◌, Option, Some, length, sym, refl, ap, subst, arith, append-nil, append_assoc, length-append}
+use Rattle.std.proofs.Common.{ℕ, ◌≡◌, ◌≤◌, ◌⊎◌, inl, inr, List, [], ◌∷◌, ◌++◌, ◌∙◌, Option, Some, length, sym, refl, ap, subst, arith, append-nil, append_assoc, length-append}
 use Rattle.std.specs.Prelude.{Contains}
 use Rattle.std.proofs.lemmas.List.{append_cancel_left}
 use Rattle.std.proofs.lemmas.List.Elements.{filter_map-append, Contains-append_cases}
@@ -20,13 +20,33 @@ use Rattle.resil_executor.specs.declared.log.Note.{Note}
 use Rattle.resil_executor.specs.declared.log.Note.TheVariants as note
 use Rattle.resil_executor.specs.declared.worker.AtWork.{AtWork}
 use Rattle.resil_executor.specs.Log.{MayHaveWritten, picked_id, ended_id, job_of, entry_of, entries_of, accepted_in, picked_in, ended_in}
-use Rattle.resil_executor.specs.Turn.{Picks, HasPicked, HasWorked, WasRun, SeesLast}
+use Rattle.resil_executor.specs.Turn.{Picks, HasPicked, HasRested, HasOneInHand, HasWorked, WasRun, SeesLast}
 use Rattle.resil_executor.specs.Laws.{PickedIsEnded, EndedWasPicked, OnlyWorkersPick}
-use Rattle.resil_executor.proofs.LogLaws.{one-some, one-none, more-some, more-none, still-there, contains-one, nothing-there, prefix-trans, prefix-more}
+use Rattle.resil_executor.proofs.LogLaws.{one-some, one-none, more-some, more-none, still-there, contains-one, nothing-there, length-more, prefix-trans, prefix-more, begins-either}
 
 module _ {W : Type 0} where
   still-accepted : (xs ys : List (Entry W)) (job : Id × W) → IsPrefix xs ys → Contains (accepted_in xs) job → Contains (accepted_in ys) job
   still-accepted xs ys job p there = subst (λ (l : List (Entry W)). Contains (accepted_in l) job) p.1 (still-there (λ (e : Entry W). job_of e.note e.work) xs p.0 job there)
+
+  -- where one job was picked at most there was one in hand at most
+  one-in_hand : (part : List (Entry W)) → length (picked_in part) ≤ 1 → HasOneInHand part
+  one-in_hand part few begun p =
+      let more = ap (λ (l : List (Entry W)). length (picked_in l)) p.1 in
+      let both = length-more (λ (e : Entry W). picked_id e.note) begun p.0 in
+      omega (arith, few, more, both)
+
+  -- and so it goes on behind a part whose jobs were ended
+  still-in_hand : (xs ys : List (Entry W)) → ended_in xs ≡ picked_in xs → HasOneInHand xs → HasOneInHand ys → HasOneInHand (xs ++ ys)
+  still-in_hand xs ys same one other begun p = elim (begins-either xs ys begun p) [
+    | inl q ↦ one begun q
+    | inr q ↦ (
+        let few = other q.0 q.2 in
+        let ends = ap length same in
+        let picked = ap (λ (l : List (Entry W)). length (picked_in l)) q.1 ∙ length-more (λ (e : Entry W). picked_id e.note) xs q.0 in
+        let ended = ap (λ (l : List (Entry W)). length (ended_in l)) q.1 ∙ length-more (λ (e : Entry W). ended_id e.note) xs q.0 in
+        omega (arith, few, ends, picked, ended)
+        )
+  ]
 
 module _ {W K : Type 0} where
   last-begins : (limits : Sizes) (before after : View K (Entry W)) (event : Event) → SeesLast limits before event after → IsPrefix before.seen after.seen
@@ -34,7 +54,17 @@ module _ {W K : Type 0} where
 
 module _ {W C O K : Type 0} (limits : Sizes) (HasRun : C → W → O → C → Type 0) where
   pub works-none : (a : View K (Entry W)) → HasWorked limits HasRun a a
-  works-none a = record { begins = ([], append-nil a.seen); part = []; wrote = sym (append-nil a.own); same = refl; ran = λ id there. absurd (nothing-there [] id refl there) }
+  works-none a = record { begins = ([], append-nil a.seen); part = []; wrote = sym (append-nil a.own); same = refl; one_at_once = one-in_hand [] (omega arith); ran = λ id there. absurd (nothing-there [] id refl there) }
+
+  pub rested-works : (a b : View K (Entry W)) → HasRested limits a b → HasWorked limits HasRun a b
+  rested-works a b r = record {
+    begins = r.begins;
+    part = r.part;
+    wrote = r.wrote;
+    same = r.ended ∙ sym r.picked;
+    one_at_once = one-in_hand r.part (let none = ap length r.picked in omega (arith, none));
+    ran = λ id there. absurd (nothing-there (ended_in r.part) id r.ended there);
+  }
 
   pub ran-works : (a b c : View K (Entry W)) (id ran_id : Id) (work : W) → HasPicked limits id work a b → SeesLast limits b (event.Finish ran_id) c → ran_id ≡ id → WasRun HasRun work → HasWorked limits HasRun a c
   ran-works a b c id ran_id work p f same_id ran = record {
@@ -42,6 +72,7 @@ module _ {W C O K : Type 0} (limits : Sizes) (HasRun : C → W → O → C → T
     part = p.entry ∷ end ∷ [];
     wrote = f.wrote ∙ (ap (λ (l : List (Entry W)). l ++ end ∷ []) p.wrote ∙ append_assoc a.own (p.entry ∷ []) (end ∷ []));
     same = ended ∙ sym picked;
+    one_at_once = one-in_hand (p.entry ∷ end ∷ []) (let one = ap length picked in omega (arith, one));
     ran = λ x there.
         let is : id ≡ x = contains-one id x (subst (λ (l : List Id). Contains l x) ended there) in
         subst (λ (i : Id). (w : W) × Contains (accepted_in c.seen) (i, w) × WasRun HasRun w) is (work, still-accepted b.seen c.seen (id, work) (last-begins limits b c (event.Finish ran_id) f) p.known, ran);
@@ -62,6 +93,7 @@ module _ {W C O K : Type 0} (limits : Sizes) (HasRun : C → W → O → C → T
     part = x.part ++ y.part;
     wrote = y.wrote ∙ (ap (λ (l : List (Entry W)). l ++ y.part) x.wrote ∙ append_assoc a.own x.part y.part);
     same = both ∙ (ap (λ (l : List Id). l ++ ended_in y.part) x.same ∙ (ap (λ (l : List Id). picked_in x.part ++ l) y.same ∙ sym (filter_map-append (λ (e : Entry W). picked_id e.note) x.part y.part)));
+    one_at_once = still-in_hand x.part y.part x.same x.one_at_once y.one_at_once;
     ran = λ id there. elim (split id there) [
       | inl old ↦ (let was = x.ran id old in (was.0, still-accepted b.seen c.seen (id, was.0) y.begins was.1, was.2))
       | inr new ↦ y.ran id new

@@ -25,3 +25,11 @@ module _ {X K : Type 0} where
   SeesNoAnswer limits before work after (Refused why) = SeesRefusal limits before why after
   SeesNoAnswer limits before work after OutOfTime = SeesItAccepted limits before work after
   SeesNoAnswer limits before work after Unrun = SeesItAccepted limits before work after
+
+  -- a visitor that began so has seen that the work was accepted
+  abbrev pub WasSubmitted : Sizes → View K (Entry X) → X → Type 0
+  WasSubmitted limits before work = (after : View K (Entry X)) × SeesItAccepted limits before work after
+
+  -- a visitor that began so has seen what goes with no answer
+  abbrev pub WasUnanswered : Sizes → View K (Entry X) → X → NoAnswer → Type 0
+  WasUnanswered limits before work none = (after : View K (Entry X)) × SeesNoAnswer limits before work after none

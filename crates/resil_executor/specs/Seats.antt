@@ -7,6 +7,7 @@ use Rattle.resil_lock.specs.Lock.{first_view, visitor_view}
 use Rattle.resil_executor.specs.declared.log.Entry.{Entry}
 use Rattle.resil_executor.specs.declared.opening.Opening.{Opening}
 use Rattle.resil_executor.specs.declared.executor.Executor.{Executor}
+use Rattle.resil_executor.specs.Turn.{HasWorkedSinceHiredBy, SeesOver}
 
 module _ {W H : _} where
   -- the sizes of the opening
@@ -28,6 +29,12 @@ module _ {W H : _} where
   -- the seat is of this pool, and knows how it was opened
   abbrev pub IsOf : {S : Type 0} → Executor W H → Seat S (View (Opening H) (Entry W)) → Type 0
   IsOf pool seat = IsAt pool seat × (seat.me.0.key ≡ pool.lock.table.shared.key)
+
+  -- a worker's seat of this pool, which has left it: it has seen the end, and ended no job but those that it picked and whose work was run so
+  pub record HasLeft {S : Type 0} (pool : Executor W H) (Was : W → Type 0) (seat : Seat S (View (Opening H) (Entry W))) : Type 0 where
+    pub mine : IsOf pool seat
+    pub worked : HasWorkedSinceHiredBy (limits_of pool) Was seat.me.0
+    pub over : SeesOver (limits_of pool) seat.me.0
 
 -- what a seat has seen of the log, and what it wrote
 abbrev pub known_to : {S V : Type 0} → Seat S V → V

@@ -4,7 +4,7 @@ use mathlib.Core.List.{IsPrefix}
 use Rattle.resil_rule.specs.Limits.{Sizes}
 use Rattle.resil_rule.specs.History.{times, running, waiting, workers, is_closed, core_size, max_size, submissions, accepted, finished}
 use Rattle.resil_rule.specs.Admission.{IsAllowed, IsLegal}
-use Rattle.resil_rule.specs.RuleView.{RuleView, busy, made_by}
+use Rattle.resil_rule.specs.RuleView.{RuleView, busy, made_by, HasOneToPick}
 use Rattle.resil_rule.specs.RuleState.{HasNoneToPick}
 use Rattle.resil_rule.specs.declared.event.Id.{Id}
 use Rattle.resil_rule.specs.declared.event.Event.{Event}
@@ -81,9 +81,17 @@ module _ {W : Type 0} where
   abbrev pub IsOverNow : RuleView W → Type 0
   IsOverNow v = (v.closed ≡ true) × (v.waiting ≡ []) × (busy v ≡ 0)
 
+  -- a worker has something to do: its pool is over, which it is to see, or there is a job to pick, which may begin
+  abbrev pub HasWork : RuleView W → Type 0
+  HasWork v = IsOverNow v ⊎ (HasOneToPick v × MayBegin v)
+
   -- a seat picked a job of this id and hasn't ended it
   abbrev pub IsDue : Id → List (Entry W) → Type 0
   IsDue id own = times id (ended_in own) < times id (picked_in own)
+
+  -- One job in hand at most: in each beginning of what a seat wrote, at most one job more was picked than ended.
+  abbrev pub HasOneInHand : List (Entry W) → Type 0
+  HasOneInHand part = (begun : List (Entry W)) → IsPrefix begun part → length (picked_in begun) ≤ length (ended_in begun) + 1
 
   -- A work was run by its own `run`.
   abbrev pub WasRun : {C O : Type 0} → (C → W → O → C → Type 0) → W → Type 0
@@ -144,6 +152,12 @@ module _ {W K : Type 0} where
   abbrev pub WasRefused : Sizes → View K (Entry W) → Refused → W → Type 0
   WasRefused limits before why work = (after : View K (Entry W)) × SeesRefusal limits before why after
 
+  -- A seat that began so has seen a legal history of which this holds, and wrote nothing.
+  pub record HasSeen (limits : Sizes) (before : View K (Entry W)) (Holds : List Event → Type 0) : Type 0 where
+    pub after : View K (Entry W)
+    pub sees : SeesMore limits before after
+    pub holds : Holds (events_in after.seen)
+
   -- A seat picked this job, which was accepted with this work, and wrote nothing else.
   pub record HasPicked (limits : Sizes) (id : Id) (work : W) (before after : View K (Entry W)) : Type 0 where
     pub begins : IsPrefix before.seen after.seen
@@ -164,18 +178,26 @@ module _ {W K : Type 0} where
     pub picked : picked_in part ≡ []
     pub ended : ended_in part ≡ []
 
-  -- What a worker's seat wrote: the jobs that it ended are those that it picked, in their order, and each was run by the own `run` of the work
-  -- that was accepted under its id.
-  pub record HasWorked {C O : Type 0} (limits : Sizes) (HasRun : C → W → O → C → Type 0) (before after : View K (Entry W)) : Type 0 where
+  -- What a worker's seat wrote: the jobs that it ended are those that it picked, in their order, one at a time, and each was run by the own `run` of
+  -- the work that was accepted under its id.
+  pub record HasWorkedBy (limits : Sizes) (Was : W → Type 0) (before after : View K (Entry W)) : Type 0 where
     pub begins : IsPrefix before.seen after.seen
     pub part : List (Entry W)
     pub wrote : after.own ≡ before.own ++ part
     pub same : ended_in part ≡ picked_in part
-    pub ran : (id : Id) → Contains (ended_in part) id → (work : W) × Contains (accepted_in after.seen) (id, work) × WasRun HasRun work
+    pub one_at_once : HasOneInHand part
+    pub ran : (id : Id) → Contains (ended_in part) id → (work : W) × Contains (accepted_in after.seen) (id, work) × Was work
 
-  -- All that a worker's seat wrote since it was hired: the jobs that it ended are those that it picked, and each was run.
+  -- the same, by what a run may have met and left
+  abbrev pub HasWorked : {C O : Type 0} → Sizes → (C → W → O → C → Type 0) → View K (Entry W) → View K (Entry W) → Type 0
+  HasWorked limits HasRun before after = HasWorkedBy limits (WasRun HasRun) before after
+
+  -- All that a worker's seat wrote since it was hired: the jobs that it ended are those that it picked, one at a time, and each was run.
+  abbrev pub HasWorkedSinceHiredBy : Sizes → (W → Type 0) → View K (Entry W) → Type 0
+  HasWorkedSinceHiredBy limits Was v = (hired : View K (Entry W)) × (hired.seen ≡ []) × (hired.own ≡ []) × HasWorkedBy limits Was hired v
+
   abbrev pub HasWorkedSinceHired : {C O : Type 0} → Sizes → (C → W → O → C → Type 0) → View K (Entry W) → Type 0
-  HasWorkedSinceHired limits HasRun v = (hired : View K (Entry W)) × (hired.seen ≡ []) × (hired.own ≡ []) × HasWorked limits HasRun hired v
+  HasWorkedSinceHired limits HasRun v = HasWorkedSinceHiredBy limits (WasRun HasRun) v
 
   -- The pool is over, and no job was picked twice by this seat.
   pub record SeesOver (limits : Sizes) (v : View K (Entry W)) : Type 0 where

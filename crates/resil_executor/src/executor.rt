@@ -8,6 +8,7 @@ use crate::opening::Opening;
 use crate::state::BoxedState;
 use resil_lock::{Lock, LockSeat};
 use resil_rule::{Limits, NoRecord, Record};
+use std::alloc::Global;
 
 /// A pool of threads for one's own work, which threads share by `&`. `H` is the record of its history: `NoRecord`
 /// keeps none, `LastEvents` the last events, and `AllEvents` all of them.
@@ -23,6 +24,8 @@ pub struct Executor<W: Drop, H: Record = NoRecord> {
     pub lock: Lock<BoxedState<W, H>>,
     // The sizes of the opening.
     pub(crate) limits: Limits,
+    // Where memory is asked for as threads are started.
+    pub(crate) alloc: Global,
     ghost sizes: { lock.table.shared.key.limits ≡ limits },
 }
 

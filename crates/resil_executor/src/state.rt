@@ -3,7 +3,7 @@
 //! The record has room for whatever may come of what the rule has: the end of each job that runs, the take and the
 //! end of each that waits, the end of each worker, and the closing. A submission and a resize make room for
 //! more before they change anything, so that only these two can be refused for want of memory.
-ghost use Rattle.std.specs.Prelude.{◌≡◌, ◌≤◌, ◌⊎◌, ◌+◌, ◌<◌, [], ◌++◌, ◌∷◌, List, true, false, suc, length, slice_get, IfOk, IfErr, IfSome, IfNone, OnOk, OnErr, Some, None as nothing};
+ghost use Rattle.std.specs.Prelude.{◌≡◌, ◌≤◌, ◌⊎◌, ◌+◌, ◌<◌, [], ◌++◌, ◌∷◌, List, true, false, suc, length, slice_get, IfOk, IfErr, IfSome, IfNone, OnOk, OnErr, IsTrue, ◌↔◌, Some, None as nothing};
 ghost use Rattle.std.specs.Bool.{OnTrue, OnFalse};
 ghost use Rattle.resil_rule.specs.History.{is_among};
 ghost use Rattle.resil_rule.specs.Slots.{ids_out};
@@ -11,7 +11,7 @@ ghost use Rattle.resil_rule.specs.Limits.{IsResizeRefusal};
 ghost use Rattle.resil_rule.specs.RuleState.{IsStateOf, Follows};
 ghost use Rattle.resil_rule.specs.RuleView.{opened, busy, owed, made_by, is_acceptance, with_finish, MayEndIdle};
 ghost use Rattle.resil_rule.specs.declared.event.Event.{Event as AnEvent};
-ghost use Rattle.resil_executor.specs.Turn.{Steps, Writes, WritesNone, Accepts, Refuses, Picks, IsPlain, IsVisit, HasNoneToRun, IsOverNow, MayBegin};
+ghost use Rattle.resil_executor.specs.Turn.{Steps, Writes, WritesNone, Accepts, Refuses, Picks, IsPlain, IsVisit, HasNoneToRun, HasWork, IsOverNow, MayBegin};
 ghost use Rattle.resil_lock.specs.Work.{OnFound, OnNothing, OnOver};
 ghost use Rattle.resil_executor.specs.Kept.{unfinished, events_of, Keeps, LacksRoom};
 ghost use Rattle.resil_executor.specs.declared.log.Note.TheVariants as note;
@@ -53,7 +53,7 @@ pub enum Refused {
 /// How a pool stands between two turns.
 ///
 /// ```
-/// let numbers = pool.numbers(&rt, &mut visitor);
+/// let numbers = pool.numbers(&rt);
 /// println!(rt; "{} run, {} wait", numbers.running, numbers.waiting)?;
 /// ```
 #[derive(Clone, Copy, Debug, PartialEq, Eq)]
@@ -106,6 +106,7 @@ impl<W: Drop, H: Record> Model for BoxedState<W, H> {
 impl<W: Drop, H: Record> Guarded for BoxedState<W, H> {
     ghost use Rattle.resil_executor.specs.Log.{StandsFor, MayHaveWritten, entries_of};
     ghost use Rattle.resil_executor.specs.Kept.{KeepsUp};
+    ghost use Rattle.resil_executor.specs.Turn.{HasWork};
 
     type Key = Opening<H>;
 
@@ -116,6 +117,8 @@ impl<W: Drop, H: Record> Guarded for BoxedState<W, H> {
     ghost MayHaveWritten = { MayHaveWritten };
 
     ghost written = { λ state. entries_of state.rule state.last };
+
+    ghost HasWork = { λ state. HasWork state.rule };
 
     fn has_work(&self) -> bool {
         self.inner.has_work()
@@ -178,9 +181,12 @@ impl<W: Drop, H: Record> State<W, H> {
         })
     }
 
-    // Whether a worker has something to do: there is a job to pick, or the pool is closed.
-    fn has_work(&self) -> bool {
-        self.rule.closed()
+    // Whether a worker has something to do: there is a job to pick that may begin, or the pool is over. While the last jobs of a
+    // closed pool run, those without a job sleep.
+    fn has_work(&self) -> bool
+        ensures { IsTrue result ↔ HasWork self.now.rule }
+    {
+        self.is_over()
             || self.rule.unpicked() > 0
             || (self.rule.waiting() > 0 && self.rule.has_idle_worker() && !self.holds_back())
     }
@@ -351,7 +357,7 @@ impl<W: Drop, H: Record> State<W, H> {
 
     // Whether the pool is closed, and nothing waits and nothing runs.
     fn is_over(&self) -> bool
-        ensures { OnTrue result (IsOverNow self.now.rule) }
+        ensures { IsTrue result ↔ IsOverNow self.now.rule }
     {
         self.rule.closed() && self.rule.waiting() == 0 && self.rule.running() == 0
     }

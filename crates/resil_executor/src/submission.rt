@@ -1,53 +1,122 @@
 //! Works in a chain: each call submits one and waits for its answer.
 
-ghost use Rattle.std.specs.Prelude.{IfOk, IfErr, OnOk};
-ghost use Rattle.resil_executor.specs.Seats.{limits_of, IsOf, known_to};
-ghost use Rattle.resil_executor.specs.Dispatch.{SeesItAccepted, SeesNoAnswer};
+ghost use Rattle.std.specs.Prelude.{◌≡◌, false, IfOk, IfErr, OnOk};
+ghost use Rattle.resil_executor.specs.Turn.{SeesRefusal};
+ghost use Rattle.resil_executor.specs.Seats.{limits_of, new_visitor, IsOf, known_to};
+ghost use Rattle.resil_executor.specs.Dispatch.{is_refused, SeesItAccepted, SeesNoAnswer, WasSubmitted, WasUnanswered};
 
-use crate::executor::Visitor;
+use crate::executor::{Executor, Visitor};
 use crate::no_answer::NoAnswer;
-use crate::works::WorkPool;
+use crate::state::Refused;
 use resil_rule::Record;
-use resil_task::Answers;
 use resil_task::by_hand::Task;
+use resil_task::{Answers, Pending};
 use std::alloc::Global;
 use std::sync::Wait;
 use std::time::{Clock, Duration};
 
-/// Submits a work, in one turn, and waits for its answer so long at most (Resilience4j user guide, Decorators:
-/// `withThreadPoolBulkhead`). In a closure it is a call, in which each attempt has a work of its own. A work whose answer comes too late
-/// is run all the same.
-///
-/// # Errors
-///
-/// In this order: `Refused` where the pool refuses it, with why; `OutOfTime` where nothing came in time, or the clock couldn't be read;
-/// `Unrun` where the work was let go without a run.
-///
-/// ```
-/// let ask = || submit_within(PriceOf { item: 7 }, &prices, &rt, alloc, &mut prices.visitor(), longest);
-/// let price: u32 = FromFn(ask).retried(&policy, Sleep::new(&rt)).or_else(|_none| 0).call();
-/// ```
-pub fn submit_within<R: Wait + Clock, X: Answers, H: Record>(
-    work: X,
-    pool: &WorkPool<X, H>,
-    rt: &R,
-    alloc: Global,
-    visitor: &mut Visitor<Task<X>, H>,
+impl<X: Answers, H: Record> Executor<Task<X>, H> {
+    /// Submits a work, in one turn, and waits for its answer so long at most (Resilience4j user guide, Decorators:
+    /// `withThreadPoolBulkhead`). In a closure it is a call, in which each attempt has a work of its own. A work whose answer comes too late
+    /// is run all the same. What the clauses say was seen by a visitor of the call's own; `submit_within_by` takes one.
+    ///
+    /// # Errors
+    ///
+    /// In this order: `Refused` where the pool refuses it, with why; `OutOfTime` where nothing came in time, or the clock couldn't be read;
+    /// `Unrun` where the work was let go without a run.
+    ///
+    /// ```
+    /// let ask = || prices.submit_within(&rt, alloc, PriceOf { item: 7 }, longest);
+    /// let price: u32 = FromFn(ask).retried(&policy, Sleep::new(&rt)).or_else(|_none| 0).call();
+    /// ```
+    pub fn submit_within<R: Wait + Clock>(
+        &self,
+        rt: &R,
+        alloc: Global,
+        work: X,
+        longest: Duration,
+    ) -> Result<X::Output, NoAnswer>
+        requires can { X.CanRun work }
+        ensures answered { IfOk result (X.IsAnswer work) }
+        ensures accepted { OnOk result (WasSubmitted (limits_of self.now) (new_visitor self.now) work) }
+        ensures none { IfErr result (WasUnanswered (limits_of self.now) (new_visitor self.now) work) }
+    {
+        let mut visitor = self.visitor();
+        self.submit_within_by(rt, alloc, &mut visitor, work, longest)
+    }
+
+    /// The same by a visitor, which has seen the submission then.
+    ///
+    /// # Errors
+    ///
+    /// Those of `submit_within`.
+    ///
+    /// ```
+    /// let mut visitor = prices.visitor();
+    /// let price = prices.submit_within_by(&rt, alloc, &mut visitor, PriceOf { item: 7 }, longest);
+    /// ```
+    pub fn submit_within_by<R: Wait + Clock>(
+        &self,
+        rt: &R,
+        alloc: Global,
+        visitor: &mut Visitor<Task<X>, H>,
+        work: X,
+        longest: Duration,
+    ) -> Result<X::Output, NoAnswer>
+        requires mine { IsOf self.now visitor.old.seat }
+        requires can { X.CanRun work }
+        ensures mine { IsOf self.now visitor.new.seat }
+        ensures answered { IfOk result (X.IsAnswer work) }
+        ensures accepted { OnOk result (SeesItAccepted (limits_of self.now) (known_to visitor.old.seat) work (known_to visitor.new.seat)) }
+        ensures none { IfErr result (SeesNoAnswer (limits_of self.now) (known_to visitor.old.seat) work (known_to visitor.new.seat)) }
+    {
+        match self.submit_awaited(rt, alloc, visitor, work, longest) {
+            Ok(awaited) => awaited.answer(rt),
+            Err(refused) => Err(NoAnswer::Refused(refused)),
+        }
+    }
+
+    // Submits a work whose answer is then waited for so long at most.
+    fn submit_awaited<R: Wait>(
+        &self,
+        rt: &R,
+        alloc: Global,
+        visitor: &mut Visitor<Task<X>, H>,
+        work: X,
+        longest: Duration,
+    ) -> Result<Awaited<X>, Refused>
+        requires mine { IsOf self.now visitor.old.seat }
+        requires can { X.CanRun work }
+        ensures mine { IsOf self.now visitor.new.seat }
+        ensures work { IfOk result (λ awaited. awaited.pending ≡ work) }
+        ensures longest { IfOk result (λ awaited. awaited.longest ≡ longest) }
+        ensures accepted { OnOk result (SeesItAccepted (limits_of self.now) (known_to visitor.old.seat) work (known_to visitor.new.seat)) }
+        ensures refused { IfErr result (λ why. SeesRefusal (limits_of self.now) (known_to visitor.old.seat) why (known_to visitor.new.seat)) }
+    {
+        match self.submit_by(rt, alloc, visitor, work) {
+            Ok((_id, pending)) => Ok(Awaited { pending, longest }),
+            Err((refused, _work)) => Err(refused),
+        }
+    }
+}
+
+// What an answer is waited for with, and how long at most.
+#[derive(Drop)]
+struct Awaited<X: Answers> {
+    pending: Pending<X>,
     longest: Duration,
-) -> Result<X::Output, NoAnswer>
-    requires mine { IsOf pool.now visitor.old.seat }
-    requires can { X.CanRun work }
-    ensures mine { IsOf pool.now visitor.new.seat }
-    ensures answered { IfOk result (X.IsAnswer work) }
-    ensures accepted { OnOk result (SeesItAccepted (limits_of pool.now) (known_to visitor.old.seat) work (known_to visitor.new.seat)) }
-    ensures none { IfErr result (SeesNoAnswer (limits_of pool.now) (known_to visitor.old.seat) work (known_to visitor.new.seat)) }
-{
-    match pool.submit_by(rt, alloc, visitor, work) {
-        Ok((_id, pending)) => match pending.wait_for(rt, longest) {
+}
+
+impl<X: Answers> Awaited<X> {
+    // Waits for the answer.
+    fn answer<R: Wait + Clock>(self, rt: &R) -> Result<X::Output, NoAnswer>
+        ensures answered { IfOk result (X.IsAnswer self.pending) }
+        ensures none { IfErr result (λ none. is_refused none ≡ false) }
+    {
+        match self.pending.wait_for(rt, self.longest) {
             Ok(Ok(answer)) => Ok(answer),
             Ok(Err(_work)) => Err(NoAnswer::Unrun),
             Err(_pending) => Err(NoAnswer::OutOfTime),
-        },
-        Err((refused, _work)) => Err(NoAnswer::Refused(refused)),
+        }
     }
 }

@@ -1,17 +1,18 @@
 //! The threads of a pool, and its end.
-ghost use Rattle.std.specs.Prelude.{◌≡◌, IfOk, IfErr, length};
+ghost use Rattle.std.specs.Prelude.{◌≡◌, ◌≤◌, [], IfOk, IfErr, OnErr, length, vec_capacity};
 ghost use Rattle.std.specs.List.{All};
-ghost use Rattle.std.specs.Iterator.{IsFinite};
-ghost use Rattle.resil_executor.specs.Turn.{HasWorkedSinceHired, SeesOver};
-ghost use Rattle.resil_executor.specs.Seats.{limits_of, IsOf, known_to};
+ghost use Rattle.resil_executor.specs.Turn.{HasWorkedBy, HasWorkedSinceHired, SeesOver, WasRun};
+ghost use Rattle.resil_executor.specs.Seats.{limits_of, IsLike, IsOf, HasLeft, known_to};
 
 use crate::executor::{Executor, ExecutorCloser, ExecutorWorker};
 use resil_rule::Record;
 use resil_task::by_hand::Run;
 use std::alloc::{AllocError, Global};
+use std::marker::PhantomData;
+use std::snapshot::Snapshot;
 use std::sync::Wait;
-use std::thread::{Scope, Threads};
-use std::{iter, thread};
+use std::thread;
+use std::thread::{Promise, PromisedHandle, Scope, Threads};
 
 // After how many empty looks a worker that ends a closed pool would be idle. It doesn't matter, since there is no idling.
 const ANY_KEEP_ALIVE: u32 = 1;
@@ -50,37 +51,51 @@ impl<W: Drop, H: Record> Executor<W, H> {
 /// let ended = work_while(&rt, &pool, closer, 20, || ask(&rt, &pool)); // `Executor<W>`, where `W: Run<()> + Drop + Send`
 /// ```
 pub trait ThreadWork<C>: Drop + Send + Sized {
-    ghost use Rattle.resil_executor.specs.Seats.{IsOf};
+    ghost use Rattle.resil_executor.specs.Turn.{HasWorkedBy, SeesOver};
+    ghost use Rattle.resil_executor.specs.Seats.{limits_of, IsOf, known_to};
 
-    /// Works on a thread of its own until the pool is over, as `Executor::work` says. The context is dropped then.
+    /// It was run, in a context that a thread had.
+    ghost WasRunThere: { Self → Type 0 };
+
+    /// Works on a thread of its own until the pool is over, as `Executor::work` says. The context is dropped then. The worker
+    /// that comes back has seen the end, and ended no job that it didn't run.
     fn work_at<H: Record + Send, R: Wait>(
         rt: &R,
         pool: &Executor<Self, H>,
         worker: ExecutorWorker<Self, H>,
         context: C,
         keep_alive: u32,
-    )
-        requires { IsOf pool.now worker.seat };
+    ) -> ExecutorWorker<Self, H>
+        requires mine { IsOf pool.now worker.seat }
+        ensures mine { IsOf pool.now result.seat }
+        ensures worked { HasWorkedBy (limits_of pool.now) WasRunThere (known_to worker.seat) (known_to result.seat) }
+        ensures over { SeesOver (limits_of pool.now) (known_to result.seat) };
 }
 
 impl<C: Drop, W: Run<C> + Drop + Send> ThreadWork<C> for W {
+    ghost WasRunThere = { WasRun W.HasRun };
+
     fn work_at<H: Record + Send, R: Wait>(
         rt: &R,
         pool: &Executor<W, H>,
         worker: ExecutorWorker<W, H>,
         context: C,
         keep_alive: u32,
-    )
-        requires { IsOf pool.now worker.seat }
+    ) -> ExecutorWorker<W, H>
+        requires mine { IsOf pool.now worker.seat }
+        ensures mine { IsOf pool.now result.seat }
+        ensures worked { HasWorkedBy (limits_of pool.now) (WasRun W.HasRun) (known_to worker.seat) (known_to result.seat) }
+        ensures over { SeesOver (limits_of pool.now) (known_to result.seat) }
     {
         let mut worker = worker;
         let mut context = context;
         pool.work(rt, &mut worker, &mut context, keep_alive);
+        worker
     }
 }
 
-/// What the end of a pool leaves: what the closure answered, and the worker that ended the pool and has seen its end. All
-/// that was accepted is finished then.
+/// What the end of a pool leaves: what the closure answered, the worker that ended the pool and has seen its end, and those of
+/// the threads. All that was accepted is finished then.
 ///
 /// ```
 /// let ended = work_while(&rt, &pool, closer, 20, || ask(&rt, &pool));
@@ -92,6 +107,8 @@ pub struct Ended<T, F, W: Drop, H: Record> {
     pub answer: Result<T, F>,
     /// The worker of the calling thread. Contracts see in it what the pool's log was at its end.
     pub worker: ExecutorWorker<W, H>,
+    /// The workers of the threads that were started, one for each. Contracts see in them that each ran what it ended.
+    pub workers: Vec<ExecutorWorker<W, H>>,
 }
 
 /// Who works for a pool while a closure runs, and in which contexts.
@@ -141,13 +158,48 @@ impl<C: Copy> Workers<C> {
     }
 }
 
-// Starts a thread for each context, and says whether one was started. One that can't be started is left out, with its
-// context.
+// What the thread of a worker promises of it.
+#[derive(Drop)]
+struct Leaves<'s, C, W: ThreadWork<C>, H: Record> {
+    pool: &'s Executor<W, H>,
+    context: PhantomData<C>,
+}
+
+impl<'s, C, W: ThreadWork<C>, H: Record> Promise<ExecutorWorker<W, H>> for Leaves<'s, C, W, H> {
+    ghost use Rattle.resil_executor.specs.Seats.{HasLeft};
+
+    ghost kept_by = { λ p worker. HasLeft p.pool.now W.WasRunThere worker.seat };
+}
+
+// The threads that were started, and room for their workers.
+#[derive(Drop)]
+struct Crew<'s, C, W: ThreadWork<C>, H: Record> {
+    threads: Vec<PromisedHandle<ExecutorWorker<W, H>, Leaves<'s, C, W, H>>>,
+    workers: Vec<ExecutorWorker<W, H>>,
+}
+
+// Room for so many threads and their workers; for none, where memory runs out.
+fn room_for<'s, C, W: ThreadWork<C>, H: Record>(alloc: Global, count: usize) -> Crew<'s, C, W, H>
+    ensures none { (result.threads.items ≡ []) × (result.workers.items ≡ []) }
+    ensures room { vec_capacity result.threads ≤ vec_capacity result.workers }
+    ensures few { vec_capacity result.threads ≤ count }
+{
+    let threads = Vec::with_capacity(alloc, count);
+    let workers = Vec::with_capacity(alloc, count);
+    match (threads, workers) {
+        (Ok(threads), Ok(workers)) => Crew { threads, workers },
+        _ => Crew {
+            threads: Vec::new(alloc),
+            workers: Vec::new(alloc),
+        },
+    }
+}
+
+// Starts a thread for each context, while there is room. One that can't be started is left out, with its context.
 fn start_workers<
     's,
     E: 's,
     C: Drop + Send + 's,
-    I: Iterator<Item = C> + Drop,
     W: ThreadWork<C>,
     H: Record + Send + 's,
     R: Threads + Wait + Sync,
@@ -156,83 +208,97 @@ fn start_workers<
     rt: &'s R,
     pool: &'s Executor<W, H>,
     closer: &mut ExecutorCloser<W, H>,
-    contexts: I,
+    contexts: Vec<C>,
     keep_alive: u32,
-) -> bool
+    crew: Crew<'s, C, W, H>,
+) -> Crew<'s, C, W, H>
     requires mine { IsOf pool.now closer.old.seat }
-    requires can { I.can_next contexts }
-    requires finite { IsFinite (I.remaining contexts) }
-    ensures mine { IsOf pool.now closer.new.seat }
+    requires none { crew.threads.items ≡ [] }
+    ensures same { IsLike closer.old.seat closer.new.seat }
+    ensures workers { result.workers ≡ crew.entry.workers }
+    ensures room { vec_capacity result.threads ≡ vec_capacity crew.entry.threads }
+    ensures promised { All (λ t. t.promise.pool.now ≡ pool.entry.now) result.threads.items }
 {
-    let mut started = false;
+    let Crew {
+        mut threads,
+        workers,
+    } = crew;
     for context in contexts {
+        if threads.len() == threads.capacity() {
+            break;
+        }
         let worker = pool.hire(closer);
-        let spawned = scope.spawn(
-            move ||
-                requires { IsOf pool.now worker.seat }
+        let promise = Leaves {
+            pool,
+            context: PhantomData,
+        };
+        let spawned = scope.spawn_with(
+            promise,
+            move || -> ExecutorWorker<W, H>
+                requires mine { IsOf pool.now worker.seat }
+                requires blank { ((known_to worker.seat).seen ≡ []) × ((known_to worker.seat).own ≡ []) }
+                ensures { HasLeft pool.entry.now W.WasRunThere result.seat }
             { W::work_at(rt, pool, worker, context, keep_alive) },
         );
-        started |= spawned.is_ok();
+        if let Ok(thread) = spawned {
+            threads.push_reserved(thread);
+        }
     }
-    started
+    Crew { threads, workers }
 }
 
-// Runs `user` while a thread for each context works for the pool, if there is one. Then it ends the pool in the context
-// `own`, and waits for the threads.
-fn work_beside<
-    C: Drop + Send,
-    I: Iterator<Item = C> + Drop,
-    W: Run<C> + ThreadWork<C>,
-    H: Record + Send,
-    T,
-    R: Threads + Wait + Sync,
-    F: FnOnce() -> T,
->(
+// Waits for the threads, and gives their workers.
+fn join_workers<'s, C, W: ThreadWork<C>, H: Record, R: Threads>(
     rt: &R,
-    pool: &Executor<W, H>,
-    closer: ExecutorCloser<W, H>,
-    contexts: I,
-    own: C,
-    keep_alive: u32,
-    user: F,
-) -> Ended<T, F, W, H>
-    requires mine { IsOf pool.now closer.seat }
-    requires can { I.can_next contexts }
-    requires finite { IsFinite (I.remaining contexts) }
-    requires user { F.pre user }
-    ensures answer { IfOk result.answer (F.post user) }
-    ensures back { IfErr result.answer (λ back. back ≡ user) }
-    ensures mine { IsOf pool.now result.worker.seat }
-    ensures worked { HasWorkedSinceHired (limits_of pool.now) W.HasRun (known_to result.worker.seat) }
-    ensures over { SeesOver (limits_of pool.now) (known_to result.worker.seat) }
+    _pool: &'s Executor<W, H>,
+    crew: Crew<'s, C, W, H>,
+) -> Vec<ExecutorWorker<W, H>>
+    requires none { crew.workers.items ≡ [] }
+    requires room { vec_capacity crew.threads ≤ vec_capacity crew.workers }
+    requires promised { All (λ t. t.promise.pool.now ≡ _pool.now) crew.threads.items }
+    ensures number { length result.items ≡ length crew.entry.threads.items }
+    ensures each { All (λ worker. HasLeft _pool.entry.now W.WasRunThere worker.seat) result.items }
 {
-    let (mut closer, answer) = thread::scope(
-        thread::scope_env(),
-        rt,
-        move |scope| -> (ExecutorCloser<W, H>, Result<T, F>)
-            requires mine { IsOf pool.now closer.seat }
-            requires can { I.can_next contexts }
-            requires finite { IsFinite (I.remaining contexts) }
-            requires user { F.pre user }
-            ensures mine { IsOf pool.entry.now result.0.seat }
-            ensures answer { IfOk result.1 (F.post user) }
-            ensures back { IfErr result.1 (λ back. back ≡ user) }
-        {
-            let mut closer = closer;
-            let started = start_workers(scope, rt, pool, &mut closer, contexts, keep_alive);
-            let done = if started { Ok(user()) } else { Err(user) };
-            pool.close(rt, &mut closer);
-            (closer, done)
-        },
-    );
-    let mut own = own;
-    let worker = pool.end(rt, &mut closer, &mut own);
-    Ended { answer, worker }
+    let Crew {
+        threads,
+        mut workers,
+    } = crew;
+    for thread in threads {
+        workers.push_reserved(thread.join(rt));
+    }
+    workers
 }
 
-/// Has as many threads work for the pool as its greatest size, while `user` runs on this one. Then it ends the pool, and
-/// waits for the threads. A thread that can't be started is left out; where none can, `user` isn't run and comes back. The
-/// pool is ended then too. When this call comes back, each accepted work has been run.
+// Calls the closure before the pool is closed: its closer has written nothing since it was handed in.
+fn call_unclosed<W: Drop, H: Record, T, F: FnOnce() -> T>(
+    _closer: &ExecutorCloser<W, H>,
+    _handed_in: Snapshot<ExecutorCloser<W, H>>,
+    user: F,
+) -> T
+    requires unclosed { (known_to _closer.now.seat).own ≡ (known_to _handed_in.value.seat).own }
+    requires user { F.pre user }
+    ensures { F.post user result }
+{
+    user()
+}
+
+// So many threads without a context; none, where memory runs out.
+fn lone_workers(alloc: Global, threads: u32, keep_alive: u32) -> Workers<()>
+    ensures few { length result.contexts.items ≤ threads }
+{
+    match Workers::alike(alloc, (), threads, keep_alive) {
+        Ok(workers) => workers,
+        Err(AllocError) => Workers {
+            contexts: Vec::new(alloc),
+            own: (),
+            keep_alive,
+        },
+    }
+}
+
+/// Has as many threads work for the pool as its greatest size, while `user` runs on this one. Then it closes the pool, waits
+/// for the threads, and ends it. A thread that can't be started is left out; where none can, or memory runs out for them,
+/// `user` isn't run and comes back. The pool is ended then too. When this call comes back, each accepted work is finished.
 ///
 /// After `keep_alive` empty looks in a row an idle worker of the rule may end, as `Executor::work` says.
 ///
@@ -259,9 +325,12 @@ pub fn work_while<
     ensures mine { IsOf pool.now result.worker.seat }
     ensures worked { HasWorkedSinceHired (limits_of pool.now) W.HasRun (known_to result.worker.seat) }
     ensures over { SeesOver (limits_of pool.now) (known_to result.worker.seat) }
+    ensures few { length result.workers.items ≤ (limits_of pool.now).max }
+    ensures none { OnErr result.answer (length result.workers.items ≡ 0) }
+    ensures each { All (λ worker. HasLeft pool.now W.WasRunThere worker.seat) result.workers.items }
 {
-    let contexts = iter::repeat_n((), pool.limits().max() as usize);
-    work_beside(rt, pool, closer, contexts, (), keep_alive, user)
+    let workers = lone_workers(pool.alloc, pool.limits().max(), keep_alive);
+    work_while_with(rt, pool, closer, workers, user)
 }
 
 /// The same for works that need something of their worker: a thread for each context works for the pool, and lends its context
@@ -287,19 +356,49 @@ pub fn work_while_with<
     ensures mine { IsOf pool.now result.worker.seat }
     ensures worked { HasWorkedSinceHired (limits_of pool.now) W.HasRun (known_to result.worker.seat) }
     ensures over { SeesOver (limits_of pool.now) (known_to result.worker.seat) }
+    ensures few { length result.workers.items ≤ length workers.contexts.items }
+    ensures none { OnErr result.answer (length result.workers.items ≡ 0) }
+    ensures each { All (λ worker. HasLeft pool.now W.WasRunThere worker.seat) result.workers.items }
 {
     let Workers {
         contexts,
-        own,
+        mut own,
         keep_alive,
     } = workers;
-    work_beside(
+    let (mut closer, answer, workers) = thread::scope(
+        thread::scope_env(),
         rt,
-        pool,
-        closer,
-        contexts.into_iter(),
-        own,
-        keep_alive,
-        user,
-    )
+        move |scope| -> (
+            ExecutorCloser<W, H>,
+            Result<T, F>,
+            Vec<ExecutorWorker<W, H>>,
+        )
+            requires mine { IsOf pool.now closer.seat }
+            requires user { F.pre user }
+            ensures mine { IsOf pool.entry.now result.0.seat }
+            ensures answer { IfOk result.1 (F.post user) }
+            ensures back { IfErr result.1 (λ back. back ≡ user) }
+            ensures few { length result.2.items ≤ length contexts.items }
+            ensures none { OnErr result.1 (length result.2.items ≡ 0) }
+            ensures each { All (λ worker. HasLeft pool.entry.now W.WasRunThere worker.seat) result.2.items }
+        {
+            let mut closer = closer;
+            let handed_in = Snapshot::of(&closer);
+            let room = room_for(pool.alloc, contexts.len());
+            let crew = start_workers(scope, rt, pool, &mut closer, contexts, keep_alive, room);
+            let done = if crew.threads.is_empty() {
+                Err(user)
+            } else {
+                Ok(call_unclosed(&closer, handed_in, user))
+            };
+            pool.close(rt, &mut closer);
+            (closer, done, join_workers(rt, pool, crew))
+        },
+    );
+    let worker = pool.end(rt, &mut closer, &mut own);
+    Ended {
+        answer,
+        worker,
+        workers,
+    }
 }

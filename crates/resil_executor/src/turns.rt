@@ -6,7 +6,7 @@ ghost use Rattle.resil_rule.specs.Limits.{IsResizeRefusal};
 ghost use Rattle.resil_rule.specs.RuleView.{is_acceptance};
 ghost use Rattle.resil_executor.specs.Log.{events_in};
 ghost use Rattle.resil_executor.specs.Kept.{LacksRoom};
-ghost use Rattle.resil_executor.specs.Turn.{SeesLast, SeesMore, SeesAccepted, SeesRefusal, AreNumbersAfter, AllFinished};
+ghost use Rattle.resil_executor.specs.Turn.{SeesLast, SeesMore, SeesAccepted, SeesRefusal, HasSeen, AreNumbersAfter, AllFinished};
 ghost use Rattle.resil_executor.specs.Seats.{limits_of, blank_of, new_visitor, IsAt, IsOf, known_to, IsLike};
 
 use crate::executor::{Executor, ExecutorCloser, ExecutorWorker, Visitor};
@@ -22,7 +22,7 @@ use std::time::{Clock, Duration, Instant};
 
 impl<W: Drop, H: Record> Executor<W, H> {
     /// An open pool of these limits, with a record of no event yet, and what closes it. It takes all its memory here, but
-    /// for the record of all events, which grows by each submission and resize.
+    /// for the record of all events, which grows by each submission and resize, and the handles of threads (`work_while`).
     ///
     /// # Errors
     ///
@@ -48,7 +48,12 @@ impl<W: Drop, H: Record> Executor<W, H> {
             return Err(AdmitError::Memory);
         };
         let (lock, seat) = Lock::new(alloc, BoxedState { inner }, &opening)?;
-        Ok((Executor { lock, limits }, ExecutorCloser { seat }))
+        let pool = Executor {
+            lock,
+            limits,
+            alloc,
+        };
+        Ok((pool, ExecutorCloser { seat }))
     }
 
     /// The sizes of the opening.
@@ -198,19 +203,33 @@ impl<W: Drop, H: Record> Executor<W, H> {
         ensures sees { SeesMore (limits_of self.now) (known_to visitor.old.seat) (known_to visitor.new.seat) }
         ensures closed { result ≡ is_closed (events_in (known_to visitor.new.seat).seen) }
     {
-        self.numbers(rt, visitor).closed
+        self.numbers_by(rt, visitor).closed
     }
 
     /// Waits until all that was accepted is finished, and says whether it is, as its last look saw it: at most so long, or until the
     /// clock can't be read. It looks each millisecond, and once at least. It closes nothing, writes nothing, and counts works that are
-    /// submitted meanwhile (ExecutorService, `awaitTermination`, of an open pool).
+    /// submitted meanwhile (ExecutorService, `awaitTermination`, of an open pool). What the clauses say was seen by a visitor of the call's
+    /// own; `join_for_by` takes one.
     ///
     /// ```
-    /// if !pool.join_for(&rt, &mut visitor, Duration::from_secs(2)) {
+    /// if !pool.join_for(&rt, Duration::from_secs(2)) {
     ///     println!(rt; "some works aren't finished")?;
     /// }
     /// ```
-    pub fn join_for<R: Clock + Wait>(
+    pub fn join_for<R: Clock + Wait>(&self, rt: &R, duration: Duration) -> bool
+        ensures joined { OnTrue result (HasSeen (limits_of self.now) (new_visitor self.now) AllFinished) }
+        ensures not_joined { OnFalse result (HasSeen (limits_of self.now) (new_visitor self.now) (λ history. ¬ AllFinished history)) }
+    {
+        let mut visitor = self.visitor();
+        self.join_for_by(rt, &mut visitor, duration)
+    }
+
+    /// The same by a visitor, which has seen then what the last look saw.
+    ///
+    /// ```
+    /// let joined = pool.join_for_by(&rt, &mut visitor, Duration::from_secs(2));
+    /// ```
+    pub fn join_for_by<R: Clock + Wait>(
         &self,
         rt: &R,
         visitor: &mut Visitor<W, H>,
@@ -224,7 +243,7 @@ impl<W: Drop, H: Record> Executor<W, H> {
     {
         let start = Instant::now(rt).ok();
         for _ in rt.forever() {
-            let numbers = self.numbers(rt, visitor);
+            let numbers = self.numbers_by(rt, visitor);
             if numbers.running == 0 && numbers.waiting == 0 {
                 return true;
             }
@@ -236,8 +255,21 @@ impl<W: Drop, H: Record> Executor<W, H> {
         unreachable!()
     }
 
-    /// How the pool stands, in one turn, which writes nothing.
-    pub fn numbers<R: Wait>(&self, rt: &R, visitor: &mut Visitor<W, H>) -> Numbers
+    /// How the pool stands, in one turn, which writes nothing. What the clause says was seen by a visitor of the call's own; `numbers_by`
+    /// takes one.
+    pub fn numbers<R: Wait>(&self, rt: &R) -> Numbers
+        ensures { HasSeen (limits_of self.now) (new_visitor self.now) (λ history. AreNumbersAfter (limits_of self.now) history result) }
+    {
+        let mut visitor = self.visitor();
+        self.numbers_by(rt, &mut visitor)
+    }
+
+    /// The same by a visitor, which has seen then what the numbers are of.
+    ///
+    /// ```
+    /// let numbers = pool.numbers_by(&rt, &mut visitor);
+    /// ```
+    pub fn numbers_by<R: Wait>(&self, rt: &R, visitor: &mut Visitor<W, H>) -> Numbers
         requires mine { IsOf self.now visitor.old.seat }
         ensures mine { IsOf self.now visitor.new.seat }
         ensures sees { SeesMore (limits_of self.now) (known_to visitor.old.seat) (known_to visitor.new.seat) }

@@ -7,11 +7,33 @@ use resil_input::csv_rows::has_fields;
 use std::alloc::Global;
 use std::fmt;
 
+/// How a row is written under a header: its word, and the names of the fields that it uses.
+#[derive(Clone, Copy)]
+pub(crate) struct Written {
+    header: &'static [&'static str],
+    row: Row,
+}
+
+impl fmt::Display for Written {
+    fn fmt<W: fmt::Write>(&self, f: &mut fmt::Formatter<W>) -> fmt::Result {
+        f.write_str(self.row.0)?;
+        for (index, column) in self.header.iter().enumerate().skip(1) {
+            f.write_char(',')?;
+            if self.row.1.contains(&index) {
+                f.write_str(column)?;
+            }
+        }
+        Ok(())
+    }
+}
+
 /// What is wrong with a row.
 #[derive(Clone, Copy)]
 pub(crate) enum RowFault {
-    /// How many fields it has, and how many it has to have.
-    Width(usize, usize),
+    /// How many fields it has, and how many it has to have; and how such a row is written, where its first field is one's.
+    Width(usize, usize, Option<Written>),
+    /// It is a resize, which needs this header.
+    Resize(&'static [&'static str]),
     /// A field, and what that has to be.
     Field(&'static str, Form),
     /// The first field, and what there is for it.
@@ -21,8 +43,16 @@ pub(crate) enum RowFault {
 impl fmt::Display for RowFault {
     fn fmt<W: fmt::Write>(&self, f: &mut fmt::Formatter<W>) -> fmt::Result {
         match *self {
-            RowFault::Width(found, wanted) => {
-                write!(f, "the header has {wanted} fields, and it has {found}")
+            RowFault::Width(found, wanted, written) => {
+                write!(f, "the header has {wanted} fields, and it has {found}")?;
+                match written {
+                    Some(written) => write!(f, "; write `{written}`"),
+                    None => Ok(()),
+                }
+            }
+            RowFault::Resize(header) => {
+                let header = Listed(header, ",");
+                write!(f, "a resize needs the header `{header}`")
             }
             RowFault::Field(column, form) => write!(f, "the field {column} has to be {form}"),
             RowFault::Word(column, words) => {
@@ -67,8 +97,7 @@ pub(crate) fn read_record(
 
 /// The line of a record that was read in the body of an input: behind the line ends before it.
 pub(crate) fn line_of<'a>(input: &'a [u8], body: &[u8], record: &ByteRecord) -> Line<'a> {
-    let position = record.position().map_or(0, |position| position.byte());
-    let start = usize::try_from(position).unwrap_or(0);
+    let start = start_of(record);
     let rest = body.iter().skip(start);
     let ends = rest.take_while(|byte| matches!(**byte, b'\n' | b'\r'));
     let before = input.len().saturating_sub(body.len());
@@ -76,14 +105,41 @@ pub(crate) fn line_of<'a>(input: &'a [u8], body: &[u8], record: &ByteRecord) -> 
     Line::from(input, place.saturating_add(ends.count()))
 }
 
+/// The body up to the end of its record at a position, where the header is at 0; `None` where memory runs out.
+pub(crate) fn part_upto(alloc: Global, body: &[u8], position: usize) -> Option<&[u8]> {
+    match read_record(alloc, body, position.saturating_add(1))? {
+        Some(next) => body.get(..start_of(&next)),
+        None => Some(body),
+    }
+}
+
+// Where a record that was read begins, with the line ends before it.
+fn start_of(record: &ByteRecord) -> usize {
+    let position = record.position().map_or(0, |position| position.byte());
+    usize::try_from(position).unwrap_or(0)
+}
+
+// How a row is written under a header, where it is one.
+fn written_as(header: &'static [&'static str], row: Option<Row>) -> Option<Written> {
+    match row {
+        Some(row) => Some(Written { header, row }),
+        None => None,
+    }
+}
+
+// The row that a record is by its first field, if it is one.
+fn row_of(body: Body, record: &ByteRecord) -> Option<Row> {
+    let word = record.get(0)?;
+    let found = body.rows.iter().find(|row| row.0.as_bytes() == word);
+    found.copied()
+}
+
 // The fields that a record uses, by its first field; none where that is no row.
 fn used(body: Body, record: &ByteRecord) -> Option<&'static [usize]> {
     if body.rows.is_empty() {
         return Some(&[0, 1]);
     }
-    let word = record.get(0)?;
-    let found = body.rows.iter().find(|row| row.0.as_bytes() == word)?;
-    Some(found.1)
+    Some(row_of(body, record)?.1)
 }
 
 // What is wrong with a record of as many fields as the header, if it is no row; there are this many callers.
@@ -120,8 +176,13 @@ pub(crate) fn row_fault(
     if !has_fields(header, body.header) {
         return None;
     }
+    let row = row_of(body, record);
+    if row.is_none() && row_of(bodies, record).is_some() {
+        return Some(RowFault::Resize(bodies.header));
+    }
     if record.len() != header.len() {
-        return Some(RowFault::Width(record.len(), header.len()));
+        let written = written_as(body.header, row);
+        return Some(RowFault::Width(record.len(), header.len(), written));
     }
     field_fault(body, record, callers)
 }

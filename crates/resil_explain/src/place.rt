@@ -13,6 +13,8 @@ const SHOWN_LEN: usize = 80;
 pub(crate) struct Line<'a> {
     /// Its number, from 1.
     pub number: usize,
+    /// In bytes, from 1, where its text is shown from the fault on, which is far from its start; else 0.
+    pub column: usize,
     /// Its text from some byte on, without its end.
     pub text: &'a [u8],
 }
@@ -46,46 +48,51 @@ impl<'a> Line<'a> {
     {
         Line {
             number: number_at(input, place),
+            column: 0,
             text: text_from(input, place),
         }
     }
 
-    /// The line of a place of the input, with all its text.
+    /// The line of a place of the input, with all its text where the place is among what is shown of that.
     pub(crate) fn around(input: &'a [u8], place: usize) -> Line<'a>
         ensures number { result.number ≡ count_by (λ byte. byte == 10) (take place input.entry.now) + 1 }
     {
         let before = input.get(..place).unwrap_or(input);
         let end = before.iter().rposition(|byte| *byte == b'\n');
         let start = end.map_or(0, |end| end.saturating_add(1));
+        let column = place.saturating_sub(start).saturating_add(1);
+        let is_far = column > SHOWN_LEN;
         Line {
             number: number_at(input, place),
-            text: text_from(input, start),
+            column: if is_far { column } else { 0 },
+            text: text_from(input, if is_far { place } else { start }),
         }
     }
 }
 
 impl<'a> fmt::Display for Line<'a> {
     fn fmt<W: fmt::Write>(&self, f: &mut fmt::Formatter<W>) -> fmt::Result {
-        let number = self.number;
+        let (number, column) = (self.number, self.column);
+        write!(f, "line {number}")?;
+        if column > 0 {
+            write!(f, ", column {column}")?;
+        }
         let text = Shown(self.text);
-        write!(f, "line {number}, `{text}`: ")
+        write!(f, ", `{text}`: ")
     }
 }
 
-// Whether a line gives a value to a key.
-fn gives(line: &[u8], key: &str) -> bool {
-    let rest = line.trim_ascii_start().strip_prefix(key.as_bytes());
-    rest.is_some_and(|rest| rest.trim_ascii_start().starts_with(b"="))
-}
-
-/// Where the line of a key begins, of those of a part that begins at this place.
-pub(crate) fn start_of_key(part: &[u8], from: usize, key: &str) -> Option<usize> {
-    let mut start = from;
-    for line in part.split_inclusive(|byte| *byte == b'\n') {
-        if gives(line, key) {
-            return Some(start);
+/// The first line that is nearly the separator, with all bytes before its line feed: apart from blanks, it begins with two dashes.
+pub(crate) fn near_separator(input: &[u8]) -> Option<Line<'_>> {
+    for (index, text) in input.split(|byte| *byte == b'\n').enumerate() {
+        if text.trim_ascii_start().starts_with(b"--") {
+            let number = index.saturating_add(1);
+            return Some(Line {
+                number,
+                column: 0,
+                text,
+            });
         }
-        start = start.saturating_add(line.len());
     }
     None
 }

@@ -1,11 +1,13 @@
 //! What the rule of admission answers at a row, once it has carried out those before it.
 
+use crate::body::part_upto;
 use crate::told::{Subject, Told};
 use resil_heads::answer::rule_at_last;
-use resil_replay::events::read_rows as read_history;
+use resil_heads::history;
 use resil_replay::head::read_head;
 use resil_replay::rows::{ReplayRow, read_rows};
-use resil_rule::{Event, Id, Reply, Rule};
+use resil_replay::timed::read_history;
+use resil_rule::{Event, Id, Limits, Reply, Rule};
 use std::fmt;
 
 /// The numbers of a pool, as they are written.
@@ -39,10 +41,19 @@ fn event_of(row: ReplayRow) -> Event {
     }
 }
 
-// The events of a body.
-fn events_of(told: Told<'_>, body: &[u8]) -> Option<Vec<Event>> {
+// The limits that the head of a pool gives.
+fn limits_of(told: Told<'_>, head: &[u8]) -> Option<Limits> {
+    match told.subject {
+        Subject::History => history::read_head(told.alloc, head).ok(),
+        _ => read_head(told.alloc, head).ok(),
+    }
+}
+
+// The events of a body, up to the one at a position, from 1, or more of them.
+fn events_of(told: Told<'_>, body: &[u8], position: usize) -> Option<Vec<Event>> {
     if !matches!(told.subject, Subject::Replay) {
-        return read_history(told.alloc, body).ok();
+        let part = part_upto(told.alloc, body, position)?;
+        return Some(read_history(told.alloc, part).ok()?.events);
     }
     let read = read_rows(told.alloc, body).ok()?;
     let events = read.rows.iter().map(|row| event_of(*row));
@@ -56,8 +67,8 @@ pub(crate) fn rule_at(
     body: &[u8],
     position: usize,
 ) -> Option<(Rule<u8>, Event)> {
-    let limits = read_head(told.alloc, head).ok()?;
-    let events = events_of(told, body)?;
+    let limits = limits_of(told, head)?;
+    let events = events_of(told, body, position)?;
     rule_at_last(
         told.alloc,
         limits,

@@ -30,16 +30,13 @@ pub(crate) fn keys_of_layer(layer: &Table) -> (&'static str, &'static [Key]) {
 pub(crate) fn key_of(name: &str) -> &'static str {
     match name {
         "CoreOutOfRange" => "core",
-        "MaxOutOfRange" => "max",
         "QueueOutOfRange" => "queue",
         "TooManyPermits" => "permits",
-        "BadName" => "name",
-        "ReservedName" => "default",
         "NoSuchConfig" => "config",
         "IntervalTooLong" => "interval",
         "BadMultiplier" => "multiplier",
         "CapBelowInitial" => "cap",
-        "NoAttempts" | "TooManyAttempts" | "TooManyCalls" => "attempts",
+        "NoAttempts" | "TooManyAttempts" => "attempts",
         _ => "",
     }
 }
@@ -48,14 +45,9 @@ pub(crate) fn key_of(name: &str) -> &'static str {
 pub(crate) fn said_of(name: &str) -> Option<&'static str> {
     Some(match name {
         "TooLong" => "an input has at most 1048576 bytes",
-        "NoBody" => "no line is `---` alone, which parts the head from the body",
         "CoreOutOfRange" => "the core size is from 1 to 64",
-        "MaxOutOfRange" => "the greatest size is from the core size to 64",
         "QueueOutOfRange" => "the queue has 1 to 65536 places",
         "TooManyPermits" => "there are at most 65535 permits",
-        "BadName" => {
-            "a name of a bulkhead or of a configuration has 1 to 64 bytes: ASCII letters, digits, `-`, `_` and `.`"
-        }
         "ReservedName" => "the configuration `default` is there already, and has 25 permits",
         "NoSuchConfig" => "a configuration is one of the table `permits`, or `default`",
         "IntervalTooLong" => "`interval` and `cap` are at most 31536000000 ms",
@@ -65,8 +57,6 @@ pub(crate) fn said_of(name: &str) -> Option<&'static str> {
         "NoAttempts" => "a retry has at least 1 attempt",
         "TooManyAttempts" => "a retry has at most 1000 attempts",
         "TooManyLayers" => "a chain has at most 8 layers",
-        "TooManyCalls" => "the attempts of all retries of a chain come to at most 1000, multiplied",
-        "BadValue" => "a value of the head isn't of its kind, or not in the range of its key",
         "NotLoaded" => "an exchange needs a load of its caller before it that showed `loaded`",
         "NotHolding" => "an add or a retire needs a permit that its caller holds",
         "StillLoaded" => "its caller has loaded, and its next step is an exchange",

@@ -1,18 +1,19 @@
 //! What is said behind the line of an output, by what the line names.
 
 use crate::body::{line_of, read_record, remark, row_fault};
-use crate::head::{fault_of, refused_layer};
-use crate::layers::layers_of;
-use crate::place::{Line, Listed};
+use crate::head::fault_of;
+use crate::place::{Line, Listed, Shown, near_separator};
 use crate::pool::{Numbers, rule_at};
 use crate::table::said_of;
+use csv::ByteRecord;
 use resil_chain::head::CHAIN_KEYS;
 use resil_heads::answer::answer_to;
 use resil_heads::forms::{Body, Key};
 use resil_heads::run::{RUN_BODY, RUN_KEYS};
+use resil_input::csv_rows::has_fields;
 use resil_input::framing::split_input;
 use resil_replay::head::POOL_KEYS;
-use resil_replay::{events, rows};
+use resil_replay::{events, rows, timed};
 use resil_weave::head::WEAVE_KEYS;
 use std::alloc::Global;
 use std::str;
@@ -22,8 +23,10 @@ use std::str;
 pub(crate) enum Subject {
     /// `replay`.
     Replay,
-    /// A history: `audit`, `stats` and `timeline`.
+    /// `audit`.
     Audit,
+    /// A history under the head of its pool or of a `run`, behind which results may stand: `judge`, `stats` and `timeline`.
+    History,
     /// `chain`.
     Chain,
     /// `weave`.
@@ -39,7 +42,7 @@ impl Subject {
             Subject::Replay | Subject::Audit => POOL_KEYS,
             Subject::Chain => CHAIN_KEYS,
             Subject::Weave => WEAVE_KEYS,
-            Subject::Run(_) => RUN_KEYS,
+            Subject::History | Subject::Run(_) => RUN_KEYS,
         }
     }
 
@@ -47,11 +50,25 @@ impl Subject {
     fn body(self) -> Body {
         match self {
             Subject::Replay => rows::BODY,
-            Subject::Audit => events::BODY,
+            Subject::Audit | Subject::History => events::BODY,
             Subject::Chain => resil_chain::rows::BODY,
             Subject::Weave => resil_weave::rows::BODY,
             Subject::Run(_) => RUN_BODY,
         }
+    }
+
+    // What its bodies of this header may have.
+    fn body_under(self, header: &ByteRecord) -> Body {
+        if matches!(self, Subject::History) && has_fields(header, timed::BODY.header) {
+            timed::BODY
+        } else {
+            self.body()
+        }
+    }
+
+    // Whether its rows are events of a pool, to which the rule has an answer.
+    fn is_of_pool(self) -> bool {
+        matches!(self, Subject::Replay | Subject::Audit | Subject::History)
     }
 
     // The number of callers that a row may name.
@@ -92,8 +109,9 @@ pub(crate) fn explain<R: Eprint + AllocGlobal>(
     }
     let (place, name) = text.strip_prefix("refused ")?.split_once(' ')?;
     match place {
-        "head" => explain_head(rt, told, line, name),
+        "head" => explain_head(rt, told, name),
         "body" => explain_header(rt, told),
+        "input" if name == "NoBody" => explain_separator(rt, told),
         _ => match place.parse() {
             Ok(row) => explain_row(rt, told, row, name),
             Err(_) => explain_name(rt, name),
@@ -113,8 +131,26 @@ fn explain_line<R: Eprint>(rt: &R, input: &[u8], place: usize, what: &str) -> Op
     eprintln!(rt; "resil: {line}{what}").ok()
 }
 
+// Says where the line that parts a head from a body nearly is, or where it has to be.
+fn explain_separator<R: Eprint>(rt: &R, told: Told<'_>) -> Option<()> {
+    if let Some(line) = near_separator(told.input) {
+        return eprintln!(rt;
+            "resil: {line}this is not `---` alone, which parts the head from the body"
+        ).ok();
+    }
+    let keys = told.subject.keys();
+    let sizes = if keys.iter().any(|key| key.name() == "core") {
+        "`core = ..`, `max = ..` and "
+    } else {
+        ""
+    };
+    eprintln!(rt;
+        "resil: no line is `---` alone, which parts the head from the body; put {sizes}`---` before the rows"
+    ).ok()
+}
+
 // Says what a head is refused for.
-fn explain_head<R: Eprint>(rt: &R, told: Told<'_>, line: &[u8], name: &str) -> Option<()> {
+fn explain_head<R: Eprint>(rt: &R, told: Told<'_>, name: &str) -> Option<()> {
     let (head, _) = split_input(told.input)?;
     let text = match str::from_utf8(head) {
         Ok(text) => text,
@@ -124,12 +160,8 @@ fn explain_head<R: Eprint>(rt: &R, told: Told<'_>, line: &[u8], name: &str) -> O
     };
     match toml::table_from_str(told.alloc, text) {
         Ok(table) => {
-            let layers = layers_of(told.alloc, head)?;
-            let number = refused_layer(told, head, &layers, line)?;
-            match fault_of(told, (head, &layers), &table, number, name) {
-                Some(fault) => eprintln!(rt; "resil: {fault}").ok(),
-                None => explain_name(rt, name),
-            }
+            let fault = fault_of(told, text, &table, name)?;
+            eprintln!(rt; "resil: {fault}").ok()
         }
         Err(error) => explain_line(rt, told.input, error.span()?.start, error.message()),
     }
@@ -138,17 +170,28 @@ fn explain_head<R: Eprint>(rt: &R, told: Told<'_>, line: &[u8], name: &str) -> O
 // Says what the header of a body is, and what stands in its place.
 fn explain_header<R: Eprint>(rt: &R, told: Told<'_>) -> Option<()> {
     let (_, text) = split_input(told.input)?;
-    if let Some(record) = read_record(told.alloc, text, 0)? {
-        let line = line_of(told.input, text, &record);
-        let remark = remark(line.text);
-        eprintln!(rt; "resil: {line}this is no header of a body{remark}").ok()?;
+    match read_record(told.alloc, text, 0)? {
+        Some(record) => {
+            let line = line_of(told.input, text, &record);
+            let remark = remark(line.text);
+            eprintln!(rt; "resil: {line}this is no header of a body{remark}").ok()?;
+            if matches!(told.subject, Subject::Audit) && has_fields(&record, timed::BODY.header) {
+                return Some(());
+            }
+        }
+        None => eprintln!(rt; "resil: the body is empty").ok()?,
     }
     let body = told.subject.body();
     let header = Listed(body.without_resizes().header, ",");
     eprintln!(rt; "resil: a body begins with the header `{header}`").ok()?;
     if body.has_resizes {
         let header = Listed(body.header, ",");
-        eprintln!(rt; "resil: or, where the pool is resized, with `{header}`").ok()?;
+        eprint!(rt; "resil: or, where the pool is resized, with `{header}`").ok()?;
+        if matches!(told.subject, Subject::History) {
+            let header = Listed(timed::BODY.header, ",");
+            eprint!(rt; ", or, with times, `{header}`").ok()?;
+        }
+        eprintln!(rt; "").ok()?;
     }
     Some(())
 }
@@ -161,11 +204,19 @@ fn explain_row<R: Eprint>(rt: &R, told: Told<'_>, row: usize, name: &str) -> Opt
     let line = line_of(told.input, body, &record);
     if name == "BadRow" {
         let subject = told.subject;
-        let fault = row_fault(subject.body(), &record, &header, subject.callers())?;
+        let body = subject.body_under(&header);
+        let fault = row_fault(body, &record, &header, subject.callers())?;
         let remark = remark(line.text);
         return eprintln!(rt; "resil: row {row}, {line}{fault}{remark}").ok();
     }
-    if !matches!(told.subject, Subject::Replay | Subject::Audit) {
+    if name == "TimeGoesBack" {
+        let before = read_record(told.alloc, body, row.saturating_sub(1))??;
+        let (time, earlier) = (Shown(record.get(6)?), Shown(before.get(6)?));
+        return eprintln!(rt;
+            "resil: row {row}, {line}its time {time} is lower than that of the row before it, {earlier}"
+        ).ok();
+    }
+    if !told.subject.is_of_pool() {
         let allowed = said_of(name)?;
         return eprintln!(rt; "resil: row {row}, {line}{allowed}").ok();
     }

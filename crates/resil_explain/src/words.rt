@@ -1,5 +1,6 @@
 //! The words that a program is started with, and which of them is refused.
 
+use crate::judge::name_judge;
 use crate::place::Shown;
 use crate::told::{Subject, explain};
 use resil_input::output::Output;
@@ -11,6 +12,9 @@ use std::rt::Env;
 
 // How many words are looked at.
 const MOST_WORDS: usize = 64;
+
+// The commands of `resil_look`.
+const LOOK_COMMANDS: &[&str] = &["judge", "stats", "timeline"];
 
 /// The words that a program was started with, as texts (beyond the port). Errors: `Usage` where a word is no text, `NoMemory`.
 pub fn own_words(rt: &(impl Env + AllocGlobal)) -> Result<Vec<String>, Output> {
@@ -52,6 +56,17 @@ fn accepted(alloc: Global, words: &[&str]) -> Option<usize> {
     Some(most)
 }
 
+// Says on standard error at which word the words are refused, if there is one, and what is allowed there.
+fn say_words<R: Eprint>(rt: &R, word: Option<&&str>, allowed: &str) {
+    match word {
+        Some(word) => {
+            let word = Shown(word.as_bytes());
+            drop(eprintln!(rt; "resil: the words are refused at `{word}`; {allowed}"));
+        }
+        None => drop(eprintln!(rt; "resil: there is no command; {allowed}")),
+    }
+}
+
 // Says on standard error which of the words is refused, where they are.
 fn explain_words<R: Eprint>(rt: &R, alloc: Global, words: &[&str]) {
     let Some(most) = accepted(alloc, words) else {
@@ -62,12 +77,20 @@ fn explain_words<R: Eprint>(rt: &R, alloc: Global, words: &[&str]) {
     } else {
         "run takes --hold and --callers N, N from 1 to 64; the other commands take no more words"
     };
-    match words.get(most.max(1)) {
-        Some(word) => {
-            let word = Shown(word.as_bytes());
-            drop(eprintln!(rt; "resil: the words are refused at `{word}`; {allowed}"));
+    say_words(rt, words.get(most.max(1)), allowed);
+}
+
+// The same of the words of `resil_look`.
+fn explain_look_words<R: Eprint>(rt: &R, words: &[&str]) {
+    match words.get(1) {
+        Some(word) if LOOK_COMMANDS.contains(word) => {
+            say_words(
+                rt,
+                words.get(2),
+                "the commands judge, stats and timeline take no more words",
+            );
         }
-        None => drop(eprintln!(rt; "resil: there is no command; {allowed}")),
+        word => say_words(rt, word, "the commands are judge, stats and timeline"),
     }
 }
 
@@ -84,7 +107,11 @@ pub fn explain_command<R: Eprint + AllocGlobal>(
         explain_words(rt, rt.alloc(), words);
     } else if code == 1 || line.starts_with(b"illegal ") {
         if let Some(subject) = requested_subject(rt.alloc(), words) {
-            let _said = explain(rt, subject, line, input.unwrap_or(&[]));
+            let input = input.unwrap_or(&[]);
+            let said = explain(rt, subject, line, input);
+            if said.is_some() && matches!(subject, Subject::Audit) {
+                let _named = name_judge(rt, line, input);
+            }
         }
     }
 }
@@ -92,12 +119,14 @@ pub fn explain_command<R: Eprint + AllocGlobal>(
 /// The same of `resil_look`, whose inputs are histories.
 pub fn explain_look<R: Eprint + AllocGlobal>(
     rt: &R,
-    _words: &[&str],
+    words: &[&str],
     code: u8,
     line: &[u8],
     input: Option<&[u8]>,
 ) {
-    if code == 1 {
-        let _said = explain(rt, Subject::Audit, line, input.unwrap_or(&[]));
+    if code == 2 {
+        explain_look_words(rt, words);
+    } else if code == 1 || line.starts_with(b"illegal ") {
+        let _said = explain(rt, Subject::History, line, input.unwrap_or(&[]));
     }
 }

@@ -1,8 +1,7 @@
 //! A pool in a chain: each attempt has a new work run by the pool, and 0 stands for no answer in time.
 
 use resil_calls::{Call, Decorate, FromFn, NoPause, RetryPolicy};
-use resil_pools::{Answers, Limits, NoAnswer, NoRecord, Work, WorkPool, submit_within, work_while};
-use std::alloc::Global;
+use resil_pools::{Answers, Limits, NoRecord, Work, WorkPool, work_while};
 use std::sync::Wait;
 use std::thread::Threads;
 use std::time::{Clock, Duration};
@@ -21,15 +20,10 @@ impl Work for HalfOf {
     }
 }
 
-/// A half by the pool, waited for 2 s at most.
-fn half<R: Clock + Wait>(rt: &R, alloc: Global, pool: &WorkPool<HalfOf>) -> Result<u32, NoAnswer> {
-    let visitor = &mut pool.visitor();
-    submit_within(HalfOf(14), pool, rt, alloc, visitor, Duration::from_secs(2))
-}
-
-/// The same by three attempts, and 0 where none has an answer.
+/// A half by the pool, in three attempts, each waited for 2 s at most, and 0 where none has an answer.
 fn half_or_0<R: AllocGlobal + Clock + Wait>(rt: &R, pool: &WorkPool<HalfOf>) -> u32 {
-    FromFn(|| half(rt, rt.alloc(), pool))
+    let longest = Duration::from_secs(2);
+    FromFn(|| pool.submit_within(rt, rt.alloc(), HalfOf(14), longest))
         .retried(&RetryPolicy::defaults(), NoPause)
         .or_else(|_none| 0)
         .call()

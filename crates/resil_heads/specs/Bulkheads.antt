@@ -10,6 +10,10 @@ use Rattle.resil_heads.specs.Keys.{each, parse_at, parse_required_at, parse_tabl
 use Rattle.resil_heads.specs.declared.bulkheads.BulkheadSpec.{BulkheadSpec}
 use Rattle.resil_heads.specs.declared.error.HeadError.{HeadError}
 
+-- the keys of a text, of which none is required
+abbrev pub text_keys : Keys
+text_keys = record { known = codes "permits" ∷ codes "bulkhead" ∷ []; required = [] }
+
 -- the registry of a text without its bulkheads: `default` with 25 permits, and the configurations of the table `permits`
 unfoldable pub parse_configurations : Members → Result (RegistryView ℕ) HeadError
 parse_configurations text =

@@ -64,6 +64,7 @@ head_name head.MissingKey = codes "MissingKey"
 head_name head.BadValue = codes "BadValue"
 head_name (head.Limits why) = pool_name why
 head_name head.TooManyPermits = codes "TooManyPermits"
+head_name (head.SameName number) = codes "SameName"
 head_name (head.Registry why) = registry_name why
 head_name (head.Retry why) = retry_name why
 head_name (head.Chain why) = chain_name why

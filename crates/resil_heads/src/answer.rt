@@ -13,6 +13,8 @@ pub enum Answer {
     Next(u16, u64),
     /// The job at the front of the queue.
     Front(Id),
+    /// The core size of a resize, and the greatest size that one may set.
+    Greatest(u32, u32),
     /// In words.
     Because(&'static str),
 }
@@ -28,6 +30,10 @@ impl fmt::Display for Answer {
             Answer::Front(Id { caller, number }) => {
                 write!(f, "the job at the front of the queue is {caller},{number}")
             }
+            Answer::Greatest(core, max) => write!(
+                f,
+                "the greatest size is from the core size, {core}, to that of the head, {max}"
+            ),
             Answer::Because(why) => f.write_str(why),
         }
     }
@@ -88,7 +94,7 @@ pub fn answer_to(rule: &Rule<u8>, event: Event) -> Answer {
         Event::Close => Answer::Because("the pool is closed already"),
         Event::Resized { core, max } => match rule.check_sizes(core, max) {
             Err(AdmitError::CoreOutOfRange) => Answer::Because("the core size is from 1 to 64"),
-            _ => Answer::Because("the greatest size is from the core size to that of the head"),
+            _ => Answer::Greatest(core, rule.limits().max()),
         },
     }
 }

@@ -8,12 +8,13 @@
 ghost use Rattle.std.specs.Prelude.{◌≡◌, Ok, Some, map, IfOk};
 ghost use Rattle.toml.specs.Parse.{parse_document};
 ghost use Rattle.toml.specs.View.{table_view};
-ghost use Rattle.resil_heads.specs.Bulkheads.{parse_configurations, bulkhead_tables, parse_bulkhead};
+ghost use Rattle.resil_heads.specs.Bulkheads.{parse_configurations, bulkhead_tables, parse_bulkhead, text_keys};
 ghost use Rattle.resil_heads.specs.Checks.{Gives};
+ghost use Rattle.resil_heads.specs.Document.{check_known};
 
 use crate::document::{check_keys, check_known};
-use crate::error::HeadError;
-use crate::forms::{Form, Key, WAIT};
+use crate::error::{HeadError, HeadFault};
+use crate::forms::{Form, Key};
 pub use crate::keys::HeadText;
 use crate::keys::{parse_text, required, tables_at, text_at, wait_at};
 use crate::layers::PERMITS;
@@ -32,7 +33,7 @@ const TEXT_KEYS: &[Key] = &[PERMITS, Key::Optional("bulkhead", Form::Tables("bul
 const BULKHEAD_KEYS: &[Key] = &[
     Key::Required("name", Form::Text),
     Key::Optional("config", Form::Text),
-    Key::Optional("wait", WAIT),
+    Key::Optional("wait", Form::Wait),
 ];
 
 /// What a text says of a bulkhead.
@@ -97,7 +98,8 @@ fn line_at(text: &str, index: usize) -> usize {
 ///
 /// In this order: `BadToml` with its line, or `Memory`; `UnknownKey`.
 pub fn read_text(alloc: Global, text: &str) -> Result<Table, TextError>
-    ensures { IfOk result (λ table. parse_document text.now ≡ Some (table_view table)) }
+    ensures parsed { IfOk result (λ table. parse_document text.now ≡ Some (table_view table)) }
+    ensures known { IfOk result (λ table. check_known text_keys (table_view table) ≡ Ok tt) }
 {
     match toml::table_from_str(alloc, text) {
         Ok(table) => match check_known(TEXT_KEYS, &table) {
@@ -113,7 +115,7 @@ pub fn read_text(alloc: Global, text: &str) -> Result<Table, TextError>
 
 // The configurations of a text in a registry. Errors: `BadValue`, `Registry`, `Memory`.
 #[tactic(auto, unfolding(crate::specs::Bulkheads::parse_configurations))]
-fn parse_configurations(alloc: Global, text: &Table) -> Result<Registry<u16>, HeadError>
+fn parse_configurations(alloc: Global, text: &Table) -> Result<Registry<u16>, HeadFault>
     ensures { Gives result (parse_configurations (table_view text.now)) }
 {
     let permits = permits_in(text)?;
@@ -132,7 +134,7 @@ pub fn read_configurations(alloc: Global, text: &Table) -> Result<Registry<u16>,
 {
     match parse_configurations(alloc, text) {
         Ok(names) => Ok(names),
-        Err(why) => Err(at(Place::Permits, why)),
+        Err(fault) => Err(at(Place::Permits, fault.why())),
     }
 }
 

@@ -1,4 +1,4 @@
-//! Why a head is refused.
+//! Why a head is refused, and which part of it.
 
 ghost use Rattle.std.specs.Prelude.{◌≡◌};
 ghost use Rattle.resil_heads.specs.declared.error.HeadError.TheVariants.{Memory};
@@ -8,6 +8,7 @@ use resil_registry::RegistryError;
 use resil_retry::RetryError;
 use resil_rule::AdmitError;
 use std::alloc::{AllocError, AllocFailed};
+use std::marker::Model;
 use thiserror::Error;
 
 /// Why a head is refused. `Memory` may come at any stage; the other errors are in the order of the
@@ -35,6 +36,9 @@ pub enum HeadError {
     /// There are more permits than a word can count.
     #[error("there are more than 65535 permits")]
     TooManyPermits,
+    /// A bulkhead of a text has the name of one before it, by the number of that one, from 1.
+    #[error("bulkhead {0} has that name already")]
+    SameName(usize),
     /// The registry refuses a configuration or a bulkhead.
     #[error(transparent)]
     Registry(RegistryError),
@@ -59,5 +63,84 @@ impl<T: Drop> From<AllocFailed<T>> for HeadError {
 
     fn from(_refused: AllocFailed<T>) -> HeadError {
         HeadError::Memory
+    }
+}
+
+/// A part of a head.
+#[derive(Clone, Copy)]
+pub enum Part {
+    /// The head itself, by its own keys, or the chain of its layers.
+    Head,
+    /// The configuration at this place of those in byte order of their names, from 0.
+    Configuration(usize),
+    /// The layer at this place, from 0.
+    Layer(usize),
+}
+
+/// Why a head is refused, with the part that is. Contracts see why alone.
+#[derive(Drop)]
+pub struct HeadFault {
+    why: HeadError,
+    part: Part,
+}
+
+impl Model for HeadFault {
+    ghost use Rattle.resil_heads.specs.declared.error.HeadError.{HeadError};
+
+    ghost Value = { HeadError };
+
+    ghost view = { λ fault. fault.why };
+}
+
+impl HeadFault {
+    /// A part that is refused for this reason.
+    pub fn new(part: Part, why: HeadError) -> HeadFault
+        ensures { result ≡ why }
+    {
+        HeadFault { why, part }
+    }
+
+    /// Why it is refused.
+    pub fn why(&self) -> HeadError
+        ensures { result ≡ self.now }
+    {
+        self.why
+    }
+
+    /// The part that is refused.
+    pub fn part(&self) -> Part {
+        self.part
+    }
+}
+
+impl From<HeadError> for HeadFault {
+    ghost from_gives = { λ why fault. fault ≡ why };
+
+    fn from(why: HeadError) -> HeadFault {
+        HeadFault::new(Part::Head, why)
+    }
+}
+
+impl From<HeadFault> for HeadError {
+    ghost from_gives = { λ fault why. why ≡ fault };
+
+    fn from(fault: HeadFault) -> HeadError {
+        fault.why
+    }
+}
+
+impl From<AllocError> for HeadFault {
+    ghost from_gives = { λ _ fault. fault ≡ Memory };
+
+    fn from(_refused: AllocError) -> HeadFault {
+        HeadFault::new(Part::Head, HeadError::Memory)
+    }
+}
+
+impl<T: Drop> From<AllocFailed<T>> for HeadFault {
+    ghost from_gives = { λ _ fault. fault ≡ Memory };
+
+    fn from(_refused: AllocFailed<T>) -> HeadFault {
+        HeadFault::new(Part::Head, HeadError::Memory)
     }
 }

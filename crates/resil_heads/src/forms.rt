@@ -11,18 +11,19 @@ use resil_input::outcome_text::parse_outcome;
 use std::fmt;
 use toml::Value;
 
-/// An integer of a head from 0 to 4,294,967,295.
-pub const COUNT: Form = Form::Integer(0, 4_294_967_295);
-
-/// Milliseconds of a head.
-pub const WAIT: Form = Form::Integer(0, 9_223_372_036_854_775_807);
+/// The permits of a configuration.
+pub const PERMIT_COUNT: Form = Form::Integer(0, 65_535);
 
 /// What a value of a head or a field of a row may be. It is written as what is wanted there.
 #[derive(Clone, Copy)]
 pub enum Form {
     /// An integer of a head, from the least to the greatest.
     Integer(i64, i64),
+    /// An integer of a head that is read where it is from 0 to 4,294,967,295, and then taken from the least to the greatest.
+    Count(u32, u32),
     AnyInteger,
+    /// Milliseconds of a head, of which a retry waits so many at most.
+    Wait,
     Flag,
     Text,
     /// The kind of a layer.
@@ -55,11 +56,18 @@ impl fmt::Display for Form {
             Form::Integer(least, greatest) => {
                 return write!(f, "an integer from {least} to {greatest}");
             }
+            Form::Count(least, greatest) => {
+                return write!(f, "an integer from {least} to {greatest}");
+            }
             Form::Number(least, greatest) => {
-                return write!(f, "a number from {least} to {greatest}");
+                return write!(
+                    f,
+                    "a number from {least} to {greatest}, without a sign or leading zeros"
+                );
             }
             Form::Tables(name) => return write!(f, "an array of tables, each `[[{name}]]`"),
             Form::AnyInteger => "an integer of 64 bits",
+            Form::Wait => "an integer from 0 to 31536000000",
             Form::Flag => "true or false",
             Form::Text => "a text",
             Form::Layer => "`\"retry\"`, `\"bulkhead\"` or `\"fallback\"`",
@@ -68,13 +76,15 @@ impl fmt::Display for Form {
                 "`\"never\"`, or a text of `=`, `<` or `>=` and an integer of 64 bits"
             }
             Form::Kinds => "an array of the texts `E0` to `E65535`, `FULL` and `EXCEEDED`",
-            Form::Fraction => "an array of two integers from 0 to 4294967295",
+            Form::Fraction => "an array `[p, q]` of two integers, 1 <= q <= p <= 1000",
             Form::Configurations => "a table that has an integer from 0 to 65535 for each name",
             Form::Word => "a row of the command",
-            Form::Caller => "a caller of this run, from 1 to what `--callers` says, 1 without it",
+            Form::Caller => {
+                "a caller of this run, from 1 to what `--callers` says, 1 without it, without a sign or leading zeros"
+            }
             Form::Reply => "core, queued, extra, full or closed",
             Form::Script => {
-                "outcomes with `;` between them, each V and an integer, E and 0 to 65535, FULL or EXCEEDED"
+                "outcomes with `;` between them, each V and an integer, E and 0 to 65535, FULL or EXCEEDED, without leading zeros"
             }
             Form::Grants => "letters y and n, or none",
             Form::Empty => "empty in such a row",
@@ -90,7 +100,9 @@ impl Form {
             (Form::Integer(least, greatest), Value::Integer(integer)) => {
                 least <= *integer && *integer <= greatest
             }
+            (Form::Count(..), value) => is_count(value),
             (Form::AnyInteger, Value::Integer(_)) => true,
+            (Form::Wait, Value::Integer(integer)) => *integer >= 0,
             (Form::Flag, Value::Boolean(_)) => true,
             (Form::Text, Value::String(_)) => true,
             (Form::Layer, Value::String(text)) => {
@@ -105,7 +117,7 @@ impl Form {
             }
             (Form::Fraction, Value::Array(items)) => items.len() == 2 && items.iter().all(is_count),
             (Form::Tables(_), Value::Array(items)) => items.iter().all(Value::is_table),
-            (Form::Configurations, Value::Table(table)) => table.values().all(is_permits),
+            (Form::Configurations, Value::Table(_)) => true,
             _ => false,
         }
     }
@@ -138,10 +150,6 @@ fn is_number(field: &[u8], least: u64, greatest: u64) -> bool {
 
 fn is_count(value: &Value) -> bool {
     matches!(value, Value::Integer(0..=4_294_967_295))
-}
-
-fn is_permits(value: &Value) -> bool {
-    matches!(value, Value::Integer(0..=65_535))
 }
 
 /// A key that a table may have, with what its value may be.

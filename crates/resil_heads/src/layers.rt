@@ -15,7 +15,7 @@ mod build;
 pub(crate) mod bulkheads;
 mod values;
 
-use crate::error::HeadError;
+use crate::error::{HeadError, HeadFault, Part};
 use crate::forms::{Form, Key};
 use crate::layers::build::build_layers;
 pub use crate::layers::bulkheads::{DEFAULT_PERMITS, byte_order_is_of_members};
@@ -24,7 +24,7 @@ pub use crate::layers::values::{
     BULKHEAD_KEYS, EXPONENTIAL_RETRY_KEYS, FALLBACK_KEYS, FIXED_RETRY_KEYS, LAYER_KEYS,
 };
 use crate::layers::values::{LayerSpec, requested_layers};
-use resil_decor::Chain;
+use resil_decor::{Chain, Layer, MAX_CALLS, MAX_LAYERS};
 use resil_registry::Registry;
 use std::alloc::Global;
 use std::marker::Model;
@@ -81,7 +81,7 @@ pub fn parse_chain<'a>(
     alloc: Global,
     keys: &[Key],
     head: &'a Table,
-) -> Result<ChainSpec<'a>, HeadError>
+) -> Result<ChainSpec<'a>, HeadFault>
     ensures { Gives result (parse_chain (keys_of keys.now) (table_view head.now)) }
 {
     let permits = permits_in(head)?;
@@ -93,6 +93,22 @@ pub fn parse_chain<'a>(
     })
 }
 
+// The first of layers that make no chain which is one too many, or with which there are too many calls.
+fn excess(layers: &[Layer]) -> Part {
+    let mut calls = 1u32;
+    if layers.len() <= MAX_LAYERS {
+        for (place, layer) in layers.iter().enumerate() {
+            if let Layer::Retry(retry) = layer {
+                calls = calls.saturating_mul(retry.max_attempts());
+            }
+            if calls > MAX_CALLS {
+                return Part::Layer(place);
+            }
+        }
+    }
+    Part::Layer(MAX_LAYERS)
+}
+
 /// The chain that is requested, with its bulkheads.
 ///
 /// # Errors
@@ -100,11 +116,13 @@ pub fn parse_chain<'a>(
 /// The first in this order: `Registry` for the first configuration that can't be added; `Retry` or
 /// `Registry` for the first layer that can't be built; `Chain`. `Memory` may come at any step.
 #[tactic(auto, unfolding(crate::specs::Layers::build_chain))]
-pub fn build_chain(alloc: Global, said: ChainSpec) -> Result<BuiltChain, HeadError>
+pub fn build_chain(alloc: Global, said: ChainSpec) -> Result<BuiltChain, HeadFault>
     ensures { Gives result (build_chain said.entry) }
 {
     let mut bulkheads = configured(alloc, said.configurations)?;
     let layers = build_layers(alloc, &mut bulkheads, said.layers)?;
-    let chain = Chain::new(layers).map_err(|(why, _)| HeadError::Chain(why))?;
-    Ok(BuiltChain { chain, bulkheads })
+    match Chain::new(layers) {
+        Ok(chain) => Ok(BuiltChain { chain, bulkheads }),
+        Err((why, layers)) => Err(HeadFault::new(excess(&layers), HeadError::Chain(why))),
+    }
 }

@@ -73,7 +73,7 @@ pub enum RunRefusal {
 }
 
 // The word that is printed for a refused head: the variant's name, and for what another crate
-// refuses the name of its refusal. `Memory` is never printed.
+// refuses the name of its refusal. `Memory` and `SameName` are never printed.
 fn head_name(why: HeadError) -> &'static str
     ensures { result.now ≡ head_name why }
 {
@@ -85,6 +85,7 @@ fn head_name(why: HeadError) -> &'static str
         HeadError::BadValue => "BadValue",
         HeadError::Limits(why) => pool_name(why),
         HeadError::TooManyPermits => "TooManyPermits",
+        HeadError::SameName(_) => "SameName",
         HeadError::Registry(why) => registry_name(why),
         HeadError::Retry(why) => retry_name(why),
         HeadError::Chain(why) => chain_name(why),

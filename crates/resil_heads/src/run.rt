@@ -1,7 +1,7 @@
 //! What an input of `run` may have: the keys of its head, and the fields of its rows. They stand below the command, so that
 //! `resil_explain` knows them and depends on no thread.
 
-use crate::forms::{Body, COUNT, Form, Key};
+use crate::forms::{Body, Form, Key};
 use crate::layers::{LAYER, PERMITS};
 use crate::sizes::{CORE, MAX, QUEUE};
 
@@ -10,7 +10,7 @@ pub const RUN_KEYS: &[Key] = &[
     CORE,
     MAX,
     QUEUE,
-    Key::Optional("keep_alive", COUNT),
+    Key::Optional("keep_alive", Form::Count(0, 4_294_967_295)),
     PERMITS,
     LAYER,
 ];

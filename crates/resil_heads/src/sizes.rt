@@ -9,19 +9,19 @@ ghost use Rattle.resil_rule.specs.declared.error.AdmitError.{AdmitError};
 ghost use Rattle.resil_heads.specs.Sizes.{parse_sizes, parse_limits};
 
 use crate::error::HeadError;
-use crate::forms::{COUNT, Key};
+use crate::forms::{Form, Key};
 use crate::keys::{count_at, parse_count, required};
 use resil_rule::Limits;
 use toml::Table;
 
 /// The core size, in workers.
-pub const CORE: Key = Key::Required("core", COUNT);
+pub const CORE: Key = Key::Required("core", Form::Count(1, 64));
 
 /// The greatest size, in workers.
-pub const MAX: Key = Key::Required("max", COUNT);
+pub const MAX: Key = Key::Required("max", Form::Count(1, 64));
 
 /// The capacity of the queue, in jobs.
-pub const QUEUE: Key = Key::Optional("queue", COUNT);
+pub const QUEUE: Key = Key::Optional("queue", Form::Count(1, 65_536));
 
 // The capacity of the queue where a head names none, in jobs (Resilience4j user guide, Bulkhead,
 // `queueCapacity`).

@@ -16,8 +16,8 @@ use thiserror::Error;
 /// The greatest length of an input, in bytes: one mebibyte (a limit of this program).
 pub const MAX_INPUT_LEN: usize = 1_048_576;
 
-// The greatest number of bytes that one read asks for (what a pipe of Linux holds).
-const MAX_READ_LEN: usize = 65_536;
+// The greatest number of bytes that one read asks for. Room for them is zeroed at each start, so there are few.
+const MAX_READ_LEN: usize = 16_384;
 
 /// A read failed.
 #[derive(Clone, Copy, Debug, Error)]

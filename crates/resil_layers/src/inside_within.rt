@@ -1,6 +1,7 @@
 //! A bulkhead around a call, as a call that waits for its permit.
 
 ghost use Rattle.std.specs.Prelude.{◌≡◌, Result};
+ghost use Rattle.std.specs.Duration.{as_nanos};
 ghost use Rattle.resil_permit.specs.Passes.{PassView};
 ghost use Rattle.resil_permit.specs.Waits.{HasWaited};
 ghost use Rattle.resil_bulkhead.specs.declared.no_permit.NoPermit.{NoPermit};
@@ -37,7 +38,7 @@ impl<'a, R: Wait + Clock, T: Drop, E: Drop + From<NoPermit>, C: Call<Output = Re
     ghost CanCall = { λ x. C.CanCall x.call };
 
     ghost IsAnswer = { λ x answer y.
-        (executed : Result (Result T E) NoPermit) × (waited : PassView) × (y.bulkhead ≡ x.bulkhead) × HasWaited x.pass waited
+        (executed : Result (Result T E) NoPermit) × (waited : PassView) × (y.bulkhead ≡ x.bulkhead) × HasWaited (as_nanos x.longest) x.pass waited
         × IsCalled C.IsAnswer waited y.pass x.call y.call executed × IsAnswerOrRefusal E.from_gives executed answer };
 
     fn call(&mut self) -> Result<T, E> {

@@ -6,8 +6,9 @@
 //! is said by its outermost layer's `IsAnswer`, which speaks of the next one's.
 //!
 //! Where an observer stands in a chain says what it is told of. Around the function that is each call that was permitted,
-//! around a bulkhead the refusals too, inside a retry each attempt, and around it the whole. No lock is held then. Counts
-//! are words that threads add to and an operator reads, as a text for Prometheus.
+//! around a bulkhead the refusals too, inside a retry each attempt, and around it the whole. An observer of the retry itself
+//! is told of each wait before it, and of the end. No lock is held then. Counts are words that threads add to and an
+//! operator reads, as a text for Prometheus.
 //!
 //! A jitter is a pause around another one, so that callers who were refused together don't come back together (user guide,
 //! Retry: randomized intervals). It draws each wait from a generator of its own, which begins with a seed, so two runs from one
@@ -22,6 +23,7 @@ mod inside;
 mod inside_within;
 mod jitter;
 mod observed;
+mod retried_observed;
 mod retried_within;
 mod retry_counts;
 mod text;
@@ -35,7 +37,8 @@ pub use inside::Inside;
 pub use inside_within::InsideWithin;
 pub use jitter::{Jitter, Spread};
 pub use observed::{Inspect, Observe, Observed, Observer};
+pub use retried_observed::{OnRetry, RetriedObserved, RetryObserver, Telling};
 pub use retried_within::{DecorateWithin, RetriedWithin};
-pub use retry_counts::{RetryCounts, RetryKind};
-pub use text::{BulkheadsText, CallsText, PoolText, RetriesText, TimesText};
+pub use retry_counts::{OwnRetryCounts, RetryCounts, RetryKind};
+pub use text::{BulkheadsText, CallsText, RetriesText, TimesText};
 pub use timing::{CallTimes, Timing};

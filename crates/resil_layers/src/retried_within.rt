@@ -6,7 +6,11 @@ ghost use Rattle.resil_call.specs.declared.limit.Deadline.{Deadline};
 ghost use Rattle.resil_call.specs.declared.tried.Tried.{Tried};
 ghost use Rattle.resil_call.specs.Retry.{IsRetriedWithin};
 
-use resil_call::{BackoffFor, Call, Deadline, Pause, RetryPolicy, RetryTest, retry_within};
+use crate::retried_observed::{RetriedObserved, RetryObserver, Telling};
+use resil_call::{
+    BackoffFor, Call, Deadline, Pause, RetryPolicy, RetryTest, WaitLimit, retry_within,
+};
+use std::marker::PhantomData;
 use std::time::{Clock, Duration};
 
 /// A call that tries another one again, with no wait that would end later than `longest` after it
@@ -86,6 +90,53 @@ pub trait DecorateWithin: Call + Sized {
             clock,
             longest,
             pause,
+            call: self,
+        }
+    }
+
+    /// The same with any limit, which is made anew for each call, and with an observer, which is told of each wait before it, and
+    /// of the end.
+    ///
+    /// ```
+    /// let counts = RetryCounts::new("prices");
+    /// let logging = OnRetry(|attempt: u32, milliseconds: u64| log(attempt, milliseconds));
+    /// let limit = || Deadline::after(&rt, Duration::from_secs(2));
+    /// let mut chain = FromFn(|| ask(&neighbour))
+    ///     .retried_observed(&policy, Sleep::new(&rt), limit, (&counts, logging));
+    /// let price = chain.call();
+    /// println!(rt; "{} waits", counts.waits())?;
+    /// ```
+    fn retried_observed<
+        'a,
+        B: BackoffFor<Self::Output>,
+        A: RetryTest<Self::Output>,
+        P: Pause,
+        L: WaitLimit,
+        F: Fn() -> L,
+        O: RetryObserver<Self::Output>,
+    >(
+        self,
+        policy: &'a RetryPolicy<B, A>,
+        pause: P,
+        limit: F,
+        observer: O,
+    ) -> RetriedObserved<'a, Self::Output, B, A, Self, P, F, O>
+        requires attempts { 1 ≤ policy.now.max_attempts }
+        ensures call { result.call ≡ self }
+        ensures policy { result.policy.now ≡ policy.now }
+        ensures pause { result.told.pause ≡ pause }
+        ensures limit { result.limit ≡ limit }
+        ensures observer { result.told.observer ≡ observer }
+    {
+        RetriedObserved {
+            policy,
+            limit,
+            told: Telling {
+                attempt: 1,
+                pause,
+                observer,
+                of: PhantomData,
+            },
             call: self,
         }
     }

@@ -1,8 +1,10 @@
 //! Counts of calls that are tried again.
 
 ghost use Rattle.std.specs.Prelude.{◌≡◌};
-ghost use Rattle.resil_layers.specs.RetryCounts.{retry_kind};
+ghost use Rattle.resil_layers.specs.Counting.{one_more};
+ghost use Rattle.resil_layers.specs.RetryCounts.{retry_kind, with_kind, with_end};
 
+use crate::retried_observed::RetryObserver;
 use resil_call::{End, Tried};
 use std::sync::atomic::AtomicU64;
 use std::sync::atomic::Ordering::SeqCst;
@@ -41,7 +43,8 @@ impl RetryKind {
     }
 }
 
-/// What retries came to, in words that threads add to and anybody reads. No clause speaks of what a word holds.
+/// What retries came to, in words that threads add to and anybody reads. No clause speaks of what a word holds. As the observer
+/// of a chain's retries it counts each wait before it, and adds what a retry came to.
 ///
 /// ```
 /// let counts = RetryCounts::new("prices");
@@ -59,6 +62,7 @@ pub struct RetryCounts<'a> {
     retried: AtomicU64,
     exhausted: AtomicU64,
     out_of_time: AtomicU64,
+    waits: AtomicU64,
 }
 
 impl<'a> RetryCounts<'a> {
@@ -75,6 +79,7 @@ impl<'a> RetryCounts<'a> {
             retried: AtomicU64::new(0),
             exhausted: AtomicU64::new(0),
             out_of_time: AtomicU64::new(0),
+            waits: AtomicU64::new(0),
         }
     }
 
@@ -126,5 +131,70 @@ impl<'a> RetryCounts<'a> {
     /// How many were ended by their limit.
     pub fn out_of_time(&self) -> u64 {
         self.out_of_time.load(SeqCst)
+    }
+
+    /// How many waits it was told of, each as it began.
+    pub fn waits(&self) -> u64 {
+        self.waits.load(SeqCst)
+    }
+}
+
+impl<T, E> RetryObserver<Result<T, E>> for &RetryCounts<'_> {
+    fn on_retry(&mut self, _attempt: u32, _milliseconds: u64) {
+        self.waits.fetch_add(1, SeqCst);
+    }
+
+    fn on_end(&mut self, tried: &Tried<Result<T, E>>) {
+        self.add(tried);
+    }
+}
+
+/// What the retries of one chain came to, in numbers of its own. None passes 2^64 - 1.
+#[derive(Clone, Copy, Debug, Default)]
+pub struct OwnRetryCounts {
+    /// How many waits it was told of: one before each attempt after a first one.
+    pub waits: u64,
+    /// How many retries were a success at the first attempt.
+    pub successful_without_retry: u64,
+    /// How many were one at a later attempt.
+    pub successful_with_retry: u64,
+    /// How many failed at the one attempt that was made.
+    pub failed_without_retry: u64,
+    /// How many failed at a later one.
+    pub failed_with_retry: u64,
+    /// How many had no attempt left.
+    pub exhausted: u64,
+    /// How many were ended by their limit.
+    pub out_of_time: u64,
+}
+
+// One more, up to 2^64 - 1.
+fn add_one(count: &mut u64)
+    ensures { count.new ≡ one_more count.old }
+{
+    *count = count.saturating_add(1);
+}
+
+impl<T, E> RetryObserver<Result<T, E>> for OwnRetryCounts {
+    ghost IsRetry = { λ x _ _ y. y ≡ record x { waits = one_more x.waits } };
+
+    ghost IsEnd = { λ x tried y. y ≡ with_end (with_kind x (retry_kind tried)) tried.end };
+
+    fn on_retry(&mut self, _attempt: u32, _milliseconds: u64) {
+        add_one(&mut self.waits);
+    }
+
+    fn on_end(&mut self, tried: &Tried<Result<T, E>>) {
+        match RetryKind::of(tried) {
+            RetryKind::SuccessfulWithoutRetry => add_one(&mut self.successful_without_retry),
+            RetryKind::SuccessfulWithRetry => add_one(&mut self.successful_with_retry),
+            RetryKind::FailedWithoutRetry => add_one(&mut self.failed_without_retry),
+            RetryKind::FailedWithRetry => add_one(&mut self.failed_with_retry),
+        }
+        match tried.end {
+            End::Accepted => {}
+            End::Exhausted => add_one(&mut self.exhausted),
+            End::OutOfTime => add_one(&mut self.out_of_time),
+        }
     }
 }

@@ -115,7 +115,7 @@ impl fmt::Display for CallsText<'_> {
     }
 }
 
-/// Counts of retries: what they came to, their attempts after first ones, and why no more were made.
+/// Counts of retries: what they came to, their attempts after first ones, why no more were made, and the waits that were told of.
 ///
 /// ```
 /// let counts = [RetryCounts::new("prices")];
@@ -162,6 +162,12 @@ impl fmt::Display for RetriesText<'_> {
                 write!(f, "{metric}{{name=\"{name}\",end=\"{end}\"}} {count}\n")?;
             }
         }
+        let metric = "resil_retry_events_total";
+        write_type(f, metric, "counter")?;
+        for counts in self.0 {
+            let (name, count) = (Label(counts.name()), counts.waits());
+            write!(f, "{metric}{{name=\"{name}\",kind=\"retry\"}} {count}\n")?;
+        }
         Ok(())
     }
 }
@@ -186,69 +192,6 @@ impl fmt::Display for TimesText<'_> {
         write_type(f, metric, "gauge")?;
         for times in self.0 {
             write_line(f, metric, times.name(), Seconds(times.longest()))?;
-        }
-        Ok(())
-    }
-}
-
-/// How a pool stands: its sizes, and its works. The fields have the names of those that `numbers` of a pool answers.
-///
-/// ```
-/// let Numbers { workers, running, waiting, room, core, max, accepted, refused, finished, closed: _ } = numbers;
-/// let text = PoolText { name: "orders", workers, running, waiting, room, core, max, accepted, refused, finished };
-/// ```
-#[derive(Drop)]
-pub struct PoolText<'a> {
-    /// The name of the pool.
-    pub name: &'a str,
-    /// How many workers there are.
-    pub workers: u32,
-    /// How many of them have a job.
-    pub running: usize,
-    /// How many jobs wait in the queue.
-    pub waiting: usize,
-    /// How many more may wait.
-    pub room: usize,
-    /// The core size, in workers.
-    pub core: u32,
-    /// The greatest size, in workers.
-    pub max: u32,
-    /// How many works were accepted.
-    pub accepted: u64,
-    /// How many submissions were refused.
-    pub refused: u64,
-    /// How many jobs are finished.
-    pub finished: u64,
-}
-
-impl fmt::Display for PoolText<'_> {
-    fn fmt<W: fmt::Write>(&self, f: &mut fmt::Formatter<W>) -> fmt::Result {
-        let capacity = self.waiting.saturating_add(self.room);
-        let gauges: [(&str, u64); 6] = [
-            ("queue_depth", self.waiting as u64),
-            ("queue_capacity", capacity as u64),
-            ("active_thread_count", self.running as u64),
-            ("thread_pool_size", u64::from(self.workers)),
-            ("core_thread_pool_size", u64::from(self.core)),
-            ("max_thread_pool_size", u64::from(self.max)),
-        ];
-        for (what, value) in gauges {
-            let name = Label(self.name);
-            write!(f, "# TYPE resilience4j_bulkhead_{what} gauge\n")?;
-            write!(
-                f,
-                "resilience4j_bulkhead_{what}{{name=\"{name}\"}} {value}\n"
-            )?;
-        }
-        let counters: [(&str, u64); 3] = [
-            ("accepted", self.accepted),
-            ("refused", self.refused),
-            ("finished", self.finished),
-        ];
-        for (what, count) in counters {
-            let name = Label(self.name);
-            write!(f, "# TYPE resil_pool_{what}_total counter\n")?;
-            write!(f, "resil_pool_{what}_total{{name=\"{name}\"}} {count}\n")?;
         }
         Ok(())
     }

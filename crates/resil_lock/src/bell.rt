@@ -1,8 +1,8 @@
 //! The bell: where workers that find no job wait, without taking turns.
 //!
 //! It is made of plain words beside the lock, of which no clause speaks: contracts hold whether or not it rings. `ready`
-//! says whether the last turn left a worker something to do, a job to pick or a closed pool. Only the seat that
-//! holds the lock writes it, so its writes stand in the order of the turns; a worker reads it without a turn.
+//! says whether the last turn left a worker something to do, a job to pick or the end of its pool. Only the seat
+//! that holds the lock writes it, so its writes stand in the order of the turns; a worker reads it without a turn.
 //!
 //! At most one worker searches: it looks at `ready` for a short while. All others sleep, and so does the searcher then.
 //! A submission wakes one sleeper, which is to search, where none does. A searcher that finds a job gives the search

@@ -7,7 +7,7 @@ use std::marker::PhantomData;
 
 /// A state that stands for a log, which it needn't keep.
 pub trait Guarded: Drop {
-    ghost use Rattle.std.specs.Prelude.{ℕ, Bool, false, List};
+    ghost use Rattle.std.specs.Prelude.{ℕ, Bool, false, List, IsTrue, ◌↔◌};
     ghost use Rattle.resil_lock.specs.declared.protocol.Rank.{Rank};
 
     /// What is fixed when the lock is made.
@@ -28,8 +28,12 @@ pub trait Guarded: Drop {
     /// What the last turn wrote. A state tells it until the next turn.
     ghost written: { Self → List Self.Entry };
 
+    /// A worker has something to do.
+    ghost HasWork: { Self → Type 0 };
+
     /// Whether a worker has something to do. The lock asks at each release, for the workers that sleep.
-    fn has_work(&self) -> bool;
+    fn has_work(&self) -> bool
+        ensures { IsTrue result ↔ HasWork self.now };
 }
 
 /// A state under a lock whose members' seats may be joined away.

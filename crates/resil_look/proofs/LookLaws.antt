@@ -2,22 +2,49 @@
 use Rattle.std.proofs.Common.{◌≡◌, ℕ, List, Option, inl, inr, refl, sym, subst}
 use Rattle.resil_rule.specs.Limits.{Sizes}
 use Rattle.resil_rule.specs.declared.event.Event.{Event}
-use Rattle.resil_heads.specs.Parts.{FitsLimit}
+use Rattle.resil_heads.specs.CommandError.{IsError, from_body_error}
+use Rattle.resil_heads.specs.History.{history_head_of}
+use Rattle.resil_heads.specs.Parts.{FitsLimit, SplitsInto}
 use Rattle.resil_heads.specs.declared.command_error.CommandError.TheVariants as error
 use Rattle.resil_input.specs.Output.{bytes_of, status_of}
+use Rattle.resil_input.specs.declared.csv_rows.BodyError.{BodyError}
+use Rattle.resil_input.specs.declared.csv_rows.BodyError.TheVariants as body_error
+use Rattle.resil_replay.specs.Timed.{IsHistoryBodyError}
+use Rattle.resil_stats.specs.Results.{history_part}
 use Rattle.resil_input.specs.declared.output.Output.{Output}
 use Rattle.resil_input.specs.declared.output.Output.TheVariants as output
 use Rattle.resil_input.specs.declared.output.Status.TheVariants as status
-use Rattle.resil_look.specs.Command.{IsReadFrom, IsResultsRefusal, IsStatsError}
+use Rattle.resil_look.specs.Command.{AreRead, IsHistoryRefusal, IsOrderRefusal, IsReadFrom, IsResultsRefusal, IsStatsError}
 use Rattle.resil_look.specs.Look.{IsRefusedLine, IsRefusedOutput, IsViewOutput}
 use Rattle.resil_look.specs.declared.command.StatsError.{StatsError}
-use Rattle.resil_look.specs.declared.command.StatsError.TheVariants.{Command, BadResult}
+use Rattle.resil_look.specs.declared.command.StatsError.TheVariants.{Command, BadResult, TimeGoesBack}
 use Rattle.resil_look.specs.declared.command.View.{View}
 
--- the error of a history that was read, but not its results
-pub results-refused : (input : List ℕ) (limits : Sizes) (history : List Event) (results : Option (List ℕ)) (why : StatsError) → IsReadFrom input limits history results → IsResultsRefusal results why → IsStatsError input why
-results-refused input limits history results (Command error) read refused = rw refused tt
-results-refused input limits history results BadResult read refused = (limits, history, results, read, refused)
+-- the error of a history that can't be read
+pub history-refused : (input : List ℕ) (limits : Sizes) (body : List ℕ) (why : BodyError) → SplitsInto history_head_of input limits body → IsHistoryBodyError (history_part body) why
+    → IsError (IsHistoryRefusal input) (from_body_error why)
+history-refused input limits body body_error.Memory split is = tt
+history-refused input limits body body_error.BadHeader split is = (limits, body, split, is)
+history-refused input limits body (body_error.BadRow position) split is = (limits, body, split, is)
+
+module _ (input : List ℕ) (limits : Sizes) (history : List Event) (times : Option (List ℕ)) (results : Option (List ℕ)) (why : StatsError) (read : IsReadFrom input limits history times results) where
+  -- the error of a history that was read, but not its results
+  pub results-refused : IsResultsRefusal results why → IsStatsError input why
+  results-refused refused = go why refused
+    where
+      go : (why : StatsError) → IsResultsRefusal results why → IsStatsError input why
+      go (Command error) refused = rw refused tt
+      go BadResult refused = (limits, history, times, results, read, refused)
+      go (TimeGoesBack position) refused = absurd refused
+
+  -- the error of a history that was read with its results, and whose times don't ascend
+  pub order-refused : AreRead results → IsOrderRefusal times why → IsStatsError input why
+  order-refused are refused = go why refused
+    where
+      go : (why : StatsError) → IsOrderRefusal times why → IsStatsError input why
+      go (Command error) refused = absurd refused
+      go BadResult refused = absurd refused
+      go (TimeGoesBack position) refused = (limits, history, times, results, read, are, refused)
 
 module _ (view : View) where
   -- an output with the status of a refusal is its line
@@ -32,4 +59,6 @@ module _ (view : View) where
   refused-answers input (Command (error.Refused why)) out fits is (inl none) = rw none tt
   refused-answers input (Command (error.Refused why)) out fits is (inr line) = line-output input out _ line.0 line.1 (inr (inl (fits, why, is, refl)))
   refused-answers input BadResult out fits is (inl none) = rw none tt
-  refused-answers input BadResult out fits is (inr line) = line-output input out _ line.0 line.1 (inr (inr (fits, is, refl)))
+  refused-answers input BadResult out fits is (inr line) = line-output input out _ line.0 line.1 (inr (inr (inl (fits, is, refl))))
+  refused-answers input (TimeGoesBack position) out fits is (inl none) = rw none tt
+  refused-answers input (TimeGoesBack position) out fits is (inr line) = line-output input out _ line.0 line.1 (inr (inr (inr (fits, position, is, refl))))

@@ -2,7 +2,7 @@
 use Rattle.std.specs.Prelude.{ℕ, ◌≡◌, ◌<◌, ◌⊎◌, ◌∷◌, [], List, Option, Some, None, IfSome, codes, if◌then◌else◌, length, string_bytes}
 use Rattle.resil_heads.specs.CommandError.{IsErrorOutput}
 use Rattle.resil_heads.specs.Parts.{FitsLimit}
-use Rattle.resil_heads.specs.Refusal.{part_line, refusal_line}
+use Rattle.resil_heads.specs.Refusal.{part_line, refusal_line, row_line}
 use Rattle.resil_heads.specs.declared.refusal.Refusal.{Refusal}
 use Rattle.resil_heads.specs.declared.refusal.Refusal.TheVariants as refusal
 use Rattle.resil_input.specs.Io.{input_limit}
@@ -12,14 +12,14 @@ use Rattle.resil_input.specs.declared.output.Output.{Output}
 use Rattle.resil_input.specs.declared.output.Output.TheVariants as output
 use Rattle.resil_input.specs.declared.output.Status.TheVariants as status
 use Rattle.resil_look.specs.declared.command.StatsError.{StatsError}
-use Rattle.resil_look.specs.declared.command.StatsError.TheVariants.{Command, BadResult}
+use Rattle.resil_look.specs.declared.command.StatsError.TheVariants.{Command, BadResult, TimeGoesBack}
 use Rattle.resil_look.specs.declared.command.View.{View}
-use Rattle.resil_look.specs.declared.command.View.TheVariants.{Stats, Timeline}
-use Rattle.resil_look.specs.Command.{HasBadResult, IsHistoryRefusal, IsViewText}
+use Rattle.resil_look.specs.declared.command.View.TheVariants.{Judge, Stats, Timeline}
+use Rattle.resil_look.specs.Command.{HasBadResult, HasTimeBack, IsHistoryRefusal, IsViewText}
 
 -- what a word requests
 abbrev pub view_named : List ℕ → Option View
-view_named word = if is_same word (codes "stats") then Some Stats else if is_same word (codes "timeline") then Some Timeline else None
+view_named word = if is_same word (codes "judge") then Some Judge else if is_same word (codes "stats") then Some Stats else if is_same word (codes "timeline") then Some Timeline else None
 
 -- what the words request, of which the first is the program's name
 abbrev pub requested : List (List ℕ) → Option View
@@ -30,17 +30,23 @@ requested _ = None
 abbrev pub results_line : List ℕ
 results_line = part_line (codes "results") (codes "BadRow")
 
+-- the line of a time that goes back, by the position of its event
+abbrev pub time_line : ℕ → List ℕ
+time_line position = row_line position (codes "TimeGoesBack")
+
 -- the output where there is no text: the line that says why, or that memory ran out
 abbrev pub IsRefusedOutput : StatsError → Output → Type 0
 IsRefusedOutput (Command error) out = IsErrorOutput error out
 IsRefusedOutput BadResult out = (out ≡ output.NoMemory) ⊎ ((status_of out ≡ status.Refused) × (bytes_of out ≡ results_line))
+IsRefusedOutput (TimeGoesBack position) out = (out ≡ output.NoMemory) ⊎ ((status_of out ≡ status.Refused) × (bytes_of out ≡ time_line position))
 
--- a line that refuses an input: it is too long, its head or its history is refused, or one of its results
+-- a line that refuses an input: it is too long, its head or its history is refused, or one of its results, or a time
 abbrev pub IsRefusedLine : List ℕ → List ℕ → Type 0
 IsRefusedLine input line =
     ((input_limit < length input) × (line ≡ refusal_line refusal.TooLong))
     ⊎ (FitsLimit input × (why : Refusal) × IsHistoryRefusal input why × (line ≡ refusal_line why))
     ⊎ (FitsLimit input × HasBadResult input × (line ≡ results_line))
+    ⊎ (FitsLimit input × (position : ℕ) × HasTimeBack input position × (line ≡ time_line position))
 
 -- an output of a view for an input: the text, the line that refuses it, or the line that memory ran out
 abbrev pub IsViewOutput : View → List ℕ → Output → Type 0

@@ -1,27 +1,34 @@
-//! `stats` and `timeline`: what is read of an input, and the text of a view of the history in it.
+//! `judge`, `stats` and `timeline`: what is read of an input, and the text of a view of the history in it.
 //!
-//! The input is that of `audit`; the results of a run may stand behind the history. They are read, and
-//! a result that can't be read is refused once the history is read.
+//! The history is that of `audit`, whose verdict `judge` writes. Its head may be that of a `run`, and the results of a run may
+//! stand behind it. They are read, and a result that can't be read is refused once the history is read; then a time that goes back
+//! is. A history with times is judged as the same one without them.
 
 ghost use Rattle.std.specs.Prelude.{◌≡◌, IfOk, MatchResult, option_map};
 ghost use Rattle.resil_heads.specs.CommandError.{IsError};
 ghost use Rattle.resil_stats.specs.Results.{history_part, results_of};
-ghost use Rattle.resil_look.specs.Command.{AreRead, IsHistoryRefusal, IsNumbersText, IsReadFrom, IsResultsRefusal, IsStatsError, IsTextOf, IsViewText};
+ghost use Rattle.resil_rule.specs.Limits.{Sizes};
+ghost use Rattle.resil_rule.specs.Verdict.{IsVerdict};
+ghost use Rattle.resil_stats.specs.Stats.{legal_part};
+ghost use Rattle.resil_look.specs.Command.{AreInOrder, AreRead, AreSpansIn, IsHistoryRefusal, IsNumbersText, IsOrderRefusal, IsReadFrom, IsResultsRefusal, IsStatsError, IsTextOf, IsVerdictText, IsViewText};
 ghost use Rattle.resil_stats.specs.Svg.{IsHistorySvg};
 
+use resil_heads::history::read_head;
 use resil_heads::{CommandError, Refusal};
 use resil_input::csv_rows::BodyError;
 use resil_input::framing::split_input;
-use resil_replay::events::read_rows;
-use resil_replay::head::read_head;
-use resil_rule::{Event, Limits};
+use resil_replay::audit::verdict_text;
+use resil_replay::timed::{History, first_back, read_history};
+use resil_rule::{Event, Limits, Verdict, audit};
 use resil_stats::results::{JobResult, read_results, split_results};
-use resil_stats::{Outcomes, count, picture_of, stats_text, svg_text};
+use resil_stats::{Outcomes, Spans, count, picture_of, spans_of, stats_text, svg_text};
 use std::alloc::{AllocError, Global};
 
 /// What the words request.
 #[derive(Clone, Copy, Debug, PartialEq, Eq)]
 pub(crate) enum View {
+    /// `judge`: say whether a history is legal.
+    Judge,
     /// `stats`: count the events of a history, and write its numbers.
     Stats,
     /// `timeline`: draw a history.
@@ -31,10 +38,12 @@ pub(crate) enum View {
 /// Why there is no text.
 #[derive(Clone, Copy, Debug)]
 pub(crate) enum StatsError {
-    /// Memory ran out, or the input is refused as `audit` refuses it.
+    /// Memory ran out, or a part of the input is refused.
     Command(CommandError),
     /// A result of a run can't be read.
     BadResult,
+    /// The time of the event at this position, from 1, is lower than that of the one before it.
+    TimeGoesBack(usize),
 }
 
 // The history and the results of a body: all of it is the history where it has no results.
@@ -50,17 +59,14 @@ fn split_body(body: &[u8]) -> (&[u8], Option<&[u8]>)
 
 // The limits, the history and the text of the results of an input. Errors, in this order: `Refused` as `NoBody`; as
 // `Head`; as `BadHeader` or `BadRow`. `Memory` may come at any step.
-fn read_history(
-    alloc: Global,
-    input: &[u8],
-) -> Result<(Limits, Vec<Event>, Option<&[u8]>), CommandError>
-    ensures { MatchResult result (λ read. IsReadFrom input.now read.0 read.1.items (option_map (λ results. results.now) read.2)) (IsError (IsHistoryRefusal input.now)) }
+fn read_parts(alloc: Global, input: &[u8]) -> Result<(Limits, History, Option<&[u8]>), CommandError>
+    ensures { MatchResult result (λ read. IsReadFrom input.now read.0 read.1.events.items (option_map (λ times. times.items) read.1.times) (option_map (λ results. results.now) read.2)) (IsError (IsHistoryRefusal input.now)) }
 {
     let (head, body) = split_input(input).ok_or(Refusal::NoBody)?;
     let limits = read_head(alloc, head)?;
     let (history, results) = split_body(body);
-    let events = read_rows(alloc, history)?;
-    Ok((limits, events, results))
+    let history = read_history(alloc, history)?;
+    Ok((limits, history, results))
 }
 
 // The results of a text where there is one, else none. Errors: `Command` of `Memory` where memory runs out; `BadResult`.
@@ -77,26 +83,80 @@ fn known_results(alloc: Global, results: Option<&[u8]>) -> Result<Vec<JobResult>
     }
 }
 
-// The text of the numbers of a history. Errors: `AllocError` where memory runs out.
-fn counted(alloc: Global, limits: &Limits, history: &[Event]) -> Result<Vec<u8>, AllocError>
-    ensures { IfOk result (λ text. IsNumbersText limits.now history.now text.items) }
+// Errors: `TimeGoesBack` of the first event whose time is lower than that of the one before it.
+fn check_order(history: &History) -> Result<(), StatsError>
+    ensures { MatchResult result (λ _. AreInOrder (option_map (λ times. times.items) history.now.times)) (IsOrderRefusal (option_map (λ times. times.items) history.now.times)) }
 {
-    let stats = count(alloc, limits, history)?;
-    stats_text(alloc, &stats)
+    let Some(times) = &history.times else {
+        return Ok(());
+    };
+    match first_back(times) {
+        None => Ok(()),
+        Some(position) => Err(StatsError::TimeGoesBack(position)),
+    }
+}
+
+// The line of the verdict on a history. Errors: `AllocError` where memory runs out.
+fn judged(alloc: Global, limits: &Limits, history: &[Event]) -> Result<Vec<u8>, AllocError>
+    ensures { IfOk result (λ text. IsVerdictText limits.now history.now text.items) }
+{
+    // The only error of an audit is that memory runs out.
+    let Ok(verdict) = audit(alloc, limits, history) else {
+        return Err(AllocError);
+    };
+    verdict_text(alloc, verdict)
+}
+
+// How long jobs waited and ran, where the history has times, by its verdict. Errors: `AllocError` where memory runs out.
+fn known_spans(
+    alloc: Global,
+    history: &History,
+    verdict: Verdict,
+) -> Result<Option<Spans>, AllocError>
+    requires { (limits : Sizes) × IsVerdict limits history.now.events.items verdict }
+    ensures { IfOk result (AreSpansIn (legal_part verdict history.now.events.items) (option_map (λ times. times.items) history.now.times)) }
+{
+    let Some(times) = &history.times else {
+        return Ok(None);
+    };
+    match spans_of(alloc, &history.events, times, verdict) {
+        Ok(spans) => Ok(Some(spans)),
+        Err(error) => Err(error),
+    }
+}
+
+// The text of the numbers of a history. Errors: `AllocError` where memory runs out.
+fn counted(alloc: Global, limits: &Limits, history: &History) -> Result<Vec<u8>, AllocError>
+    ensures { IfOk result (λ text. IsNumbersText limits.now history.now.events.items (option_map (λ times. times.items) history.now.times) text.items) }
+{
+    let stats = count(alloc, limits, &history.events)?;
+    let spans = known_spans(alloc, history, stats.verdict)?;
+    stats_text(alloc, &stats, spans)
+}
+
+// The times of a history, where it has some.
+fn times_in(history: &History) -> Option<&[u64]>
+    ensures { option_map (λ times. times.now) result ≡ option_map (λ times. times.items) history.now.times }
+{
+    match &history.times {
+        Some(times) => Some(times),
+        None => None,
+    }
 }
 
 // The text of the picture of a history, with the results of its jobs. Errors: `AllocError` where memory runs out.
 fn drawn(
     alloc: Global,
     limits: &Limits,
-    history: &[Event],
+    history: &History,
     results: &[JobResult],
 ) -> Result<Vec<u8>, AllocError>
-    ensures { IfOk result (λ text. IsHistorySvg limits.now history.now text.items) }
+    ensures { IfOk result (λ text. IsHistorySvg limits.now history.now.events.items (option_map (λ times. times.items) history.now.times) text.items) }
 {
     let outcomes = Outcomes::of(alloc, results)?;
-    let picture = picture_of(alloc, limits, history)?;
-    svg_text(alloc, &picture, &outcomes)
+    let times = times_in(history);
+    let picture = picture_of(alloc, limits, &history.events, times)?;
+    svg_text(alloc, &picture, times, &outcomes)
 }
 
 // The text of a view of a history, with the results of its jobs. Errors: `AllocError` where memory runs out.
@@ -104,12 +164,13 @@ fn written(
     alloc: Global,
     view: View,
     limits: &Limits,
-    history: &[Event],
+    history: &History,
     results: &[JobResult],
 ) -> Result<Vec<u8>, AllocError>
-    ensures { IfOk result (λ text. IsTextOf view limits.now history.now text.items) }
+    ensures { IfOk result (λ text. IsTextOf view limits.now history.now.events.items (option_map (λ times. times.items) history.now.times) text.items) }
 {
     match view {
+        View::Judge => judged(alloc, limits, &history.events),
         View::Stats => counted(alloc, limits, history),
         View::Timeline => drawn(alloc, limits, history, results),
     }
@@ -119,17 +180,17 @@ fn written(
 ///
 /// # Errors
 ///
-/// In this order: `Command` of a refusal, as `audit` refuses the input: as `NoBody`; as `Head`; as
-/// `BadHeader` or `BadRow`. `BadResult` where a result can't be read. `Command` of `Memory` may come
-/// at any step.
+/// In this order: `Command` of a refusal: as `NoBody`; as `Head`; as `BadHeader` or `BadRow`, as `audit` refuses a history without
+/// times. `BadResult` where a result can't be read. `TimeGoesBack`. `Command` of `Memory` may come at any step.
 pub(crate) fn view_text(alloc: Global, view: View, input: &[u8]) -> Result<Vec<u8>, StatsError>
     ensures { MatchResult result (λ text. IsViewText view input.now text.items) (IsStatsError input.now) }
 {
-    let (limits, history, results) = match read_history(alloc, input) {
+    let (limits, history, results) = match read_parts(alloc, input) {
         Ok(read) => read,
         Err(why) => return Err(StatsError::Command(why)),
     };
     let results = known_results(alloc, results)?;
+    check_order(&history)?;
     match written(alloc, view, &limits, &history, &results) {
         Ok(text) => Ok(text),
         Err(_) => Err(StatsError::Command(CommandError::Memory)),

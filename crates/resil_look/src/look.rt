@@ -15,7 +15,7 @@ use crate::command::{StatsError, View, view_text};
 use resil_heads::{CommandError, Refusal, error_output};
 use resil_input::io::{Input, InputReader, OutputWriter, ReadError, read_input};
 use resil_input::output::{Output, write_output};
-use std::alloc::Global;
+use std::alloc::{AllocError, Global};
 
 // What the words request, of which the first is the program's name.
 fn requested(words: &[&str]) -> Option<View>
@@ -31,12 +31,24 @@ fn requested(words: &[&str]) -> Option<View>
 fn view_named(word: &str) -> Option<View>
     ensures { result ≡ view_named word.now }
 {
-    if word == "stats" {
+    if word == "judge" {
+        Some(View::Judge)
+    } else if word == "stats" {
         Some(View::Stats)
     } else if word == "timeline" {
         Some(View::Timeline)
     } else {
         None
+    }
+}
+
+// The output of a line that was made, or `NoMemory` where memory ran out for it.
+fn line_output(made: Result<String, AllocError>) -> Output
+    ensures { MatchResult made (λ line. result ≡ Output.Line line) (λ _. result ≡ Output.NoMemory) }
+{
+    match made {
+        Ok(line) => Output::Line(line),
+        Err(_) => Output::NoMemory,
     }
 }
 
@@ -46,10 +58,10 @@ fn refused(alloc: Global, error: StatsError) -> Output
 {
     match error {
         StatsError::Command(error) => error_output(alloc, error),
-        StatsError::BadResult => match "refused results BadRow\n".to_string(alloc) {
-            Ok(line) => Output::Line(line),
-            Err(_) => Output::NoMemory,
-        },
+        StatsError::BadResult => line_output("refused results BadRow\n".to_string(alloc)),
+        StatsError::TimeGoesBack(position) => {
+            line_output(format!(in alloc; "refused {position} TimeGoesBack\n"))
+        }
     }
 }
 

@@ -1,4 +1,4 @@
-//! The program `resil_look`: what a history comes to, in numbers and as a picture.
+//! The program `resil_look`: what a history comes to: a verdict, numbers, and a picture.
 //!
 //! It hands its words, its standard input and its standard output to `look`.
 #![tactic(auto)]

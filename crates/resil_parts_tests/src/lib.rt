@@ -26,6 +26,8 @@ mod permit;
 #[cfg(test)]
 mod retry;
 #[cfg(test)]
+mod retry_observed;
+#[cfg(test)]
 mod rule;
 #[cfg(test)]
 mod shared;

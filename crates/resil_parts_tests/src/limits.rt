@@ -2,6 +2,7 @@
 
 ghost use Rattle.std.specs.Prelude.{◌≡◌};
 
+use crate::shared::Ticks;
 use resil_call::{
     Backoff, ByAnswer, Call, Deadline, End, EveryError, NoPause, Pause, RetryPolicy, SameWait,
     Sleep, WaitBudget, retry, retry_in_budget, retry_within,
@@ -93,10 +94,19 @@ fn a_deadline_bars_what_passes_it(rt: HostRuntime) {
     assert!(rt; tried.answer == Err(1) && tried.attempts == 1 && tried.end == End::OutOfTime);
 }
 
-// Waits of 5 ms until 50 ms are over: at most ten, whatever else the machine does.
+// Waits of 5 ms until 50 ms are over, with 3 ms at each look: fifteen, of which the last begins at 45 ms.
+#[test]
+fn a_deadline_allows_what_ends_in_time(rt: HostRuntime) {
+    let (policy, clock) = (policy(100, SameWait(5)), Ticks::new());
+    let mut deadline = Deadline::after(&clock, Duration::from_millis(50));
+    let tried = retry_within(&policy, &mut deadline, &mut Failing(0), &mut NoPause);
+    assert!(rt; tried.end == End::OutOfTime && tried.attempts == 16);
+}
+
+// By the machine's clock at most ten, whatever else the machine does.
 #[test]
 fn a_deadline_comes_by_the_clock(rt: HostRuntime) {
-    let policy = policy(1_000_000, SameWait(5));
+    let policy = policy(100, SameWait(5));
     let mut deadline = Deadline::after(&rt, Duration::from_millis(50));
     let mut sleep = Sleep::new(&rt);
     let tried = retry_within(&policy, &mut deadline, &mut Failing(0), &mut sleep);

@@ -1,18 +1,17 @@
 //! Observers: in which order they are told, what threads count together, what a clock measures, and the texts.
 
-use crate::shared::{Always, Digits, assert_shown};
+use crate::shared::{Always, Digits, Late, Ticks, assert_shown};
 use resil_bulkhead::{Bulkhead, NoPermit};
-use resil_call::{Call, End, Tried};
+use resil_call::{Call, End, NoLimit, NoPause, RetryPolicy, Tried};
 use resil_layers::{
-    BulkheadsText, CallCounts, CallTimes, CallsText, Count, Counted, Decorate, Observe, Observer,
-    OwnCounts, PoolText, RetriesText, RetryCounts, TimesText, Timing, counts_by_name,
+    BulkheadsText, CallCounts, CallTimes, CallsText, Count, Counted, Decorate, DecorateWithin,
+    Observe, Observer, OwnCounts, RetriesText, RetryCounts, TimesText, Timing, counts_by_name,
 };
 use std::alloc::Global;
-use std::cell::Cell;
 use std::process::Abort;
 use std::sync::{Arc, Wait};
-use std::time::{Clock, Duration};
-use std::{io, thread};
+use std::thread;
+use std::time::Duration;
 
 // Writes down 1 before each call, 2 at it and 3 behind it.
 #[derive(Drop)]
@@ -78,25 +77,9 @@ fn counts_of_ones_own(rt: HostRuntime) {
     assert!(rt; own.called == 1 && own.refused == 1 && own.values == 0 && own.errors == 0);
 }
 
-// A clock that is 3 ms later at each look.
-#[derive(Drop)]
-struct Ticks(Cell<u64>);
-
-impl Clock for Ticks {
-    fn monotonic(&self) -> io::Result<Duration> {
-        let now = self.0.get().saturating_add(3);
-        self.0.set(now);
-        Ok(Duration::from_millis(now))
-    }
-
-    fn since_1970(&self) -> io::Result<Duration> {
-        Ok(Duration::ZERO)
-    }
-}
-
 #[test]
 fn calls_are_measured_by_the_clock(rt: HostRuntime) {
-    let (times, clock) = (CallTimes::new("prices"), Ticks(Cell::new(0)));
+    let (times, clock) = (CallTimes::new("prices"), Ticks::new());
     let mut call = Always(7_u8).observed(Timing::new(&times, &clock));
     assert!(rt; call.call() == 7 && call.call() == 7);
     assert!(rt; times.total() == Duration::from_millis(6));
@@ -133,32 +116,14 @@ resil_retries_total{name=\"a \\\"b\\\"\"} 3
 # TYPE resil_retry_ends_total counter
 resil_retry_ends_total{name=\"a \\\"b\\\"\",end=\"exhausted\"} 1
 resil_retry_ends_total{name=\"a \\\"b\\\"\",end=\"out_of_time\"} 1
+# TYPE resil_retry_events_total counter
+resil_retry_events_total{name=\"a \\\"b\\\"\",kind=\"retry\"} 1
 ";
 
 const TIMES: &str = "# TYPE resil_call_seconds_total counter
 resil_call_seconds_total{name=\"prices\"} 2.000050
 # TYPE resil_call_seconds_max gauge
 resil_call_seconds_max{name=\"prices\"} 1.500000
-";
-
-const POOL: &str = "# TYPE resilience4j_bulkhead_queue_depth gauge
-resilience4j_bulkhead_queue_depth{name=\"orders\"} 3
-# TYPE resilience4j_bulkhead_queue_capacity gauge
-resilience4j_bulkhead_queue_capacity{name=\"orders\"} 8
-# TYPE resilience4j_bulkhead_active_thread_count gauge
-resilience4j_bulkhead_active_thread_count{name=\"orders\"} 2
-# TYPE resilience4j_bulkhead_thread_pool_size gauge
-resilience4j_bulkhead_thread_pool_size{name=\"orders\"} 4
-# TYPE resilience4j_bulkhead_core_thread_pool_size gauge
-resilience4j_bulkhead_core_thread_pool_size{name=\"orders\"} 1
-# TYPE resilience4j_bulkhead_max_thread_pool_size gauge
-resilience4j_bulkhead_max_thread_pool_size{name=\"orders\"} 6
-# TYPE resil_pool_accepted_total counter
-resil_pool_accepted_total{name=\"orders\"} 20
-# TYPE resil_pool_refused_total counter
-resil_pool_refused_total{name=\"orders\"} 7
-# TYPE resil_pool_finished_total counter
-resil_pool_finished_total{name=\"orders\"} 15
 ";
 
 // Two bulkheads, of which the first has 4 permits, one of them taken for good, and the second 25.
@@ -210,7 +175,9 @@ fn tried(answer: Result<u8, u8>, attempts: u32, end: End) -> Tried<Result<u8, u8
 #[test]
 fn text_of_retries(rt: HostRuntime) {
     let counts = [RetryCounts::new("a \"b\"")];
-    counts[0].add(&tried(Ok(1), 2, End::Accepted));
+    let policy = RetryPolicy::defaults();
+    let mut chain = Late(1).retried_observed(&policy, NoPause, || NoLimit, &counts[0]);
+    assert!(rt; chain.call() == Ok(3));
     counts[0].add(&tried(Ok(1), 3, End::Exhausted));
     counts[0].add(&tried(Err(2), 1, End::OutOfTime));
     assert_shown(&rt, rt.alloc(), &RetriesText(&counts), RETRIES);
@@ -222,21 +189,4 @@ fn text_of_times(rt: HostRuntime) {
     times[0].add(Duration::from_millis(1_500));
     times[0].add(Duration::from_micros(500_050));
     assert_shown(&rt, rt.alloc(), &TimesText(&times), TIMES);
-}
-
-#[test]
-fn text_of_a_pool(rt: HostRuntime) {
-    let pool = PoolText {
-        name: "orders",
-        workers: 4,
-        running: 2,
-        waiting: 3,
-        room: 5,
-        core: 1,
-        max: 6,
-        accepted: 20,
-        refused: 7,
-        finished: 15,
-    };
-    assert_shown(&rt, rt.alloc(), &pool, POOL);
 }

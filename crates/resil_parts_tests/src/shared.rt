@@ -15,7 +15,9 @@ use resil_retry::{
 use std::alloc::Global;
 use std::cell::Cell;
 use std::fmt::Display;
+use std::io;
 use std::process::Abort;
+use std::time::{Clock, Duration};
 
 /// A bulkhead that lets this many calls in at once.
 pub fn bulkhead(rt: &impl Abort, alloc: Global, max: u32) -> (Bulkhead, Pass)
@@ -58,6 +60,29 @@ impl Digits {
     }
 }
 
+/// A clock that is 3 ms later at each look.
+#[derive(Drop)]
+pub struct Ticks(Cell<u64>);
+
+impl Ticks {
+    /// No look yet.
+    pub fn new() -> Ticks {
+        Ticks(Cell::new(0))
+    }
+}
+
+impl Clock for Ticks {
+    fn monotonic(&self) -> io::Result<Duration> {
+        let now = self.0.get().saturating_add(3);
+        self.0.set(now);
+        Ok(Duration::from_millis(now))
+    }
+
+    fn since_1970(&self) -> io::Result<Duration> {
+        Ok(Duration::ZERO)
+    }
+}
+
 /// A function that always gives this answer.
 #[derive(Drop)]
 pub struct Always<T>(pub T);
@@ -67,6 +92,19 @@ impl<T: Copy + Drop> Call for Always<T> {
 
     fn call(&mut self) -> T {
         self.0
+    }
+}
+
+/// A function that gives an error up to its second call, and then values. It counts its calls.
+#[derive(Drop)]
+pub struct Late(pub u8);
+
+impl Call for Late {
+    type Output = Result<u8, u8>;
+
+    fn call(&mut self) -> Result<u8, u8> {
+        self.0 = self.0.saturating_add(1);
+        if self.0 < 3 { Err(self.0) } else { Ok(self.0) }
     }
 }
 

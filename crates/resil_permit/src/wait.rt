@@ -2,7 +2,8 @@
 //!
 //! The steps of a wait, each one sequentially consistent step:
 //!
-//! 1. a try, by which most calls end: one that takes a permit, one with no time, one where there are no permits at all;
+//! 1. a try, by which most calls end: one that takes a permit, one with no time, one where there are no permits at all, or no clock
+//!    that can be read;
 //! 2. `waiting` rises by 1;
 //! 3. a try, which takes a permit and ends the wait, or loads 0;
 //! 4. the clock is read: where the time is over the wait ends, refused by the try of step 3;
@@ -12,10 +13,12 @@
 //! A release, or a raise, adds 1 to the permit word, then loads `waiting`, and wakes one sleeper where that isn't 0. If it
 //! loads 0, step 2 comes after the add, and so the try of step 3 finds the permit, or another has taken it, who will
 //! release it. Else it wakes a sleeper; and who isn't asleep yet finds a word that isn't 0 at step 5. Who was woken tries
-//! once more, even if its time is over, so no wake-up is taken along unused. No clause says any of this, nor how long a
-//! call waits, nor who of those who wait has a permit first.
-ghost use Rattle.std.specs.Prelude.{◌≡◌};
+//! once more, even if its time is over, so no wake-up is taken along unused. Of all this clauses say that it went on only
+//! while some of the time was left, and how much that is at a reading of the clock. They don't say what a clock reads, how
+//! long a sleep takes, nor who of those who wait has a permit first.
+ghost use Rattle.std.specs.Prelude.{◌≡◌, ◌<◌, ◌≤◌, ◌+◌, ◌-◌, IfSome, IfNone};
 ghost use Rattle.std.specs.Duration.{as_nanos};
+ghost use Rattle.std.specs.Time.{instant_nanos};
 ghost use Rattle.resil_permit.specs.Passes.{PassView, held_by, retired_by, IsSamePass};
 ghost use Rattle.resil_permit.specs.TryAcquire.{IsTry, held_after, last_try};
 ghost use Rattle.resil_permit.specs.Waits.{HasWaited};
@@ -44,7 +47,7 @@ impl Permits {
     ) -> Acquire
         requires { pass.old.source ≡ self.now }
         ensures pass { IsSamePass pass.old pass.new }
-        ensures tried { (waited : PassView) × HasWaited pass.old waited × IsTry waited pass.new (last_try result) }
+        ensures tried { (waited : PassView) × HasWaited (as_nanos longest) pass.old waited × IsTry waited pass.new (last_try result) }
         ensures at_once { as_nanos longest ≡ 0 → IsTry pass.old pass.new (last_try result) }
         ensures no_permits { self.now.max ≡ 0 → IsTry pass.old pass.new (last_try result) }
         ensures held { held_by pass.new ≡ held_after (held_by pass.old) (last_try result) }
@@ -54,7 +57,9 @@ impl Permits {
         if first == Acquire::Taken || longest.is_zero() || self.max() == 0 {
             return first;
         }
-        let time = TimeLeft::start(rt, longest);
+        let Some(time) = TimeLeft::start(rt, longest) else {
+            return first;
+        };
         self.begin_wait();
         let answer = self.acquire_until(rt, pass, time);
         self.end_wait();
@@ -65,7 +70,7 @@ impl Permits {
     fn acquire_until<R: Wait + Clock>(&self, rt: &R, pass: &mut Pass, time: TimeLeft) -> Acquire
         requires { pass.old.source ≡ self.now }
         ensures pass { IsSamePass pass.old pass.new }
-        ensures tried { (waited : PassView) × HasWaited pass.old waited × IsTry waited pass.new (last_try result) }
+        ensures tried { (waited : PassView) × HasWaited (as_nanos time.longest) pass.old waited × IsTry waited pass.new (last_try result) }
         ensures held { held_by pass.new ≡ held_after (held_by pass.old) (last_try result) }
         ensures retired { retired_by pass.new ≡ retired_by pass.old }
     {
@@ -82,24 +87,36 @@ impl Permits {
     }
 }
 
-// A time from its start on. It is over at once where the clock can't be read.
+// A time from its start on. Where the clock can't be read there is none, or nothing is left of it.
 #[derive(Clone, Copy)]
 struct TimeLeft {
-    start: Option<Instant>,
+    start: Instant,
     longest: Duration,
 }
 
 impl TimeLeft {
-    fn start<R: Clock>(clock: &R, longest: Duration) -> TimeLeft {
-        TimeLeft {
-            start: Instant::now(clock).ok(),
-            longest,
-        }
+    fn start<R: Clock>(clock: &R, longest: Duration) -> Option<TimeLeft>
+        ensures { IfSome result (λ time. time.longest ≡ longest) }
+    {
+        let start = Instant::now(clock).ok()?;
+        Some(TimeLeft { start, longest })
     }
 
     // What is left of it, if anything.
-    fn left<R: Clock>(&self, clock: &R) -> Option<Duration> {
-        let spent = self.start?.elapsed(clock).ok()?;
+    fn left<R: Clock>(&self, clock: &R) -> Option<Duration>
+        ensures some { IfSome result (λ left. 0 < as_nanos left) }
+        ensures within { IfSome result (λ left. as_nanos left ≤ as_nanos self.now.longest) }
+    {
+        self.left_at(Instant::now(clock).ok()?)
+    }
+
+    // The same at a reading of the clock: what is spent by then and what is left are the longest together.
+    fn left_at(&self, now: Instant) -> Option<Duration>
+        ensures some { IfSome result (λ left. 0 < as_nanos left) }
+        ensures left { IfSome result (λ left. instant_nanos now - instant_nanos self.now.start + as_nanos left ≡ as_nanos self.now.longest) }
+        ensures over { IfNone result (as_nanos self.now.longest ≤ instant_nanos now - instant_nanos self.now.start) }
+    {
+        let spent = now.duration_since(self.start);
         let left = self.longest.checked_sub(spent)?;
         if left.is_zero() { None } else { Some(left) }
     }

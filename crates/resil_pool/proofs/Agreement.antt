@@ -10,7 +10,7 @@ use Rattle.resil_pool.specs.Words.{PlanView, Sizes, submissions, IsAllowed, AreA
 use Rattle.resil_pool.specs.declared.lock.logged_event.Note.TheVariants as note
 use Rattle.resil_pool.specs.Lock.{NamesCaller, AllNameCallers, events_in, is_own_note, event_of, accepted_of, own_in, plans_in, plan_entry, MatchesLog}
 use Rattle.resil_pool.specs.Parts.{CallerView, submit_of, submission_of}
-use Rattle.resil_pool.specs.Draining.{receipts_at, AreLogged, IsGathered, IsOfPlanOn, HasNumberedReceipt, HasReceipt, AgreeWithReceipts, with_runs}
+use Rattle.resil_pool.specs.Draining.{receipts_at, AreLogged, IsGathered, HasNumberedReceipt, HasReceipt, AgreeWithReceipts, with_runs}
 use Rattle.resil_pool.specs.NamedCallers.{KeepsNames}
 use Rattle.resil_pool.proofs.Logs.{own_in-append, events_in-append}
 use Rattle.resil_pool.proofs.MachineCalls.{filed-with_run}
@@ -98,10 +98,6 @@ rows_have lists (job ∷ jobs) (row ∷ rows) h all =
     All-cons (HasReceipt lists) row rows (record { numbered = here.numbered; plan = h.0.plan ∙ same_Some job.plan here.numbered.receipt.plan here.plan })
     (rows_have lists jobs rows h.1 (All-tail (EntryHasReceipt lists) (plan_entry job) (map plan_entry jobs) all))
 rows_have lists _ _ h all = absurd h
-
--- a result with a receipt is of the plan on it
-pub of_their_plans : (lists : List (List Receipt)) (rows : List Row) → All (HasReceipt lists) rows → All (IsOfPlanOn lists) rows
-of_their_plans lists rows all = λ k d within receipt there. let has = all k d within in has.plan ∙ ap (λ (r : Receipt). r.plan) (same_Some has.numbered.receipt receipt (sym has.numbered.there ∙ there))
 
 -- runs that are kept change no plan
 runs_entries : (jobs : List Accepted) (made : List Row) → map plan_entry (with_runs jobs made) ≡ map plan_entry jobs

@@ -3,13 +3,15 @@ use Rattle.std.proofs.Common.{◌≡◌, ◌⊎◌, ℕ, zero, suc, ◌≤◌, B
 use Rattle.std.proofs.lemmas.List.Elements.{All-contains, All-contains_itself, All-filter, Contains-append_right}
 use mathlib.Core.Option as m
 use lib.ListN.{get_elem?}
+use Rattle.resil_rule.proofs.RunningLaws.{running-within_workers}
+use Rattle.resil_rule.proofs.WorkerLaws.{workers-within_opening}
 use Rattle.resil_lock.specs.declared.protocol.Phase.{Phase}
 use Rattle.resil_lock.specs.declared.protocol.Phase.TheVariants.{Joined}
 use Rattle.resil_lock.specs.Lock.{holds_lock, is_there}
 use Rattle.resil_lock.specs.BetweenSteps.{IsSeatAt, HoldsBetweenSteps}
 use Rattle.resil_pool.specs.Words.{LoggedEvent, Opening, State}
 use Rattle.resil_pool.specs.Lock.{is_own_note, is_own, own_in, View, StandsFor, MayHaveWritten}
-use Rattle.resil_pool.proofs.Logs.{numbering}
+use Rattle.resil_pool.proofs.Logs.{numbering, due-runs}
 use Rattle.resil_pool.specs.BetweenTurns.{StandWithTheirCallers, HoldsBetweenTurns}
 
 -- the holder of the turn is there
@@ -74,5 +76,7 @@ module _ (opening : Opening) (words : List ℕ) (homes : List (m.Option (Option 
         own = n.all_own;
         no_others = n.no_others;
         submissions = submissions;
+        at_once = λ sizes. omega (arith, running-within_workers _ _ k.stood.1.legal, workers-within_opening _ _ sizes k.stood.1.legal);
+        out_runs = due-runs opening k.log k.stood.0.machine k.stood.1;
         closer = record { seat = k.opener.seat; first = k.opener.first; there = k.opener.there; number = n.numbered 0 k.opener.seat k.opener.first k.opener.there; counted = n.counted k.opener.seat k.opener.first };
       }

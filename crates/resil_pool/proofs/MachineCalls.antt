@@ -1,18 +1,16 @@
 -- What the acts of the state write.
-use Rattle.std.proofs.Common.{◌≡◌, ◌<◌, ⊎_elim, inl, inr, ℕ, Bool, true, false, ◌||◌, cond, List, [], ◌∷◌, ◌++◌, map, length, refl, sym, ap, ◌∙◌, subst, append-nil, length-append, arith, Option, Some, None}
+use Rattle.std.proofs.Common.{◌≡◌, inl, inr, Bool, true, false, ◌||◌, cond, List, [], ◌∷◌, ◌++◌, map, refl, sym, ap, ◌∙◌, subst, append-nil, Option, Some, None}
 use Rattle.std.specs.Prelude.{◌↔◌, IsTrue, slice_get, option_map, if◌then◌else◌}
 use Rattle.std.specs.Bool.{OnTrue, OnFalse}
-use Rattle.std.proofs.lemmas.Bool.{true_from_ne_false}
 use Rattle.std.proofs.lemmas.Option.{none-some}
 use Rattle.std.proofs.lemmas.List.{map-append}
 use Rattle.std.proofs.lemmas.List.Folds.{list_any-append}
 use Rattle.resil_rule.specs.declared.event.Reply.TheVariants.{Core}
-use Rattle.resil_rule.proofs.EventLaws.{or-of}
 use Rattle.resil_rule.proofs.IdLaws.{in_flight-running}
 use Rattle.resil_rule.proofs.UnpickedLaws.{waiting-same}
-use Rattle.resil_pool.specs.Words.{PlanView, RunView, Sizes, is_close, is_closed, is_same_id, is_among, waiting, started, IsAllowed, MachineView, jobs_in_flight, newly_accepted, with_event, with_submission, with_run, with_finish, IsPicked, Accepted, Id, Reply, Event, Submit, Take, Finish, IdleEnd, Close, LoggedEvent, Note, Written}
+use Rattle.resil_pool.specs.Words.{PlanView, RunView, Sizes, is_close, is_closed, is_same_id, is_among, waiting, IsAllowed, MachineView, jobs_in_flight, newly_accepted, with_event, with_submission, with_run, with_finish, Accepted, Id, Reply, Event, Submit, Take, Finish, IdleEnd, LoggedEvent, Note, Written}
 use Rattle.resil_pool.specs.declared.lock.logged_event.Note.TheVariants as note
-use Rattle.resil_pool.specs.Lock.{log_event, finish_of, plans_in, plan_entry, run_of, plain, entries_of, IsStep, IsMoved, Takes, WritesAtMost}
+use Rattle.resil_pool.specs.Lock.{log_event, finish_of, plans_in, plan_entry, run_of, plain, entries_of, IsStep, IsMoved, WritesAtMost}
 use Rattle.resil_pool.specs.Worker.{EndsIdle, HasNoTake}
 
 -- an event was written that was allowed, and these are the accepted jobs then
@@ -60,24 +58,6 @@ moved-none old new last none same = subst (λ (l : Option Written). IsMoved old 
 pub moved-one : (old new : MachineView) (last : Option Written) (written : Note) → last ≡ Some (plain written) → IsStep None old written new → IsMoved old (entries_of new.jobs last) new
 moved-one old new last written is step = subst (λ (l : Option Written). IsMoved old (entries_of new.jobs l) new) (sym is) step
 
--- a pick
-pub record HasPicked (old new : MachineView) (id : Id) (last : Option Written) : Type 0 where
-  pub wrote : IsMoved old (entries_of new.jobs last) new
-  pub picks : Takes id (entries_of new.jobs last)
-
-pub picked-by : (old new : MachineView) (id : Id) (before after : ℕ) (written : Note) (last : Option Written) → IsPicked old id new → before ≡ length old.history → after ≡ length new.history
-    → (before < after → written ≡ note.Event (Take id)) → (¬ (before < after) → written ≡ note.Started id) → last ≡ Some (plain written) → HasPicked old new id last
-picked-by old new id before after written last picked first second took started is = ⊎_elim
-    (λ t.
-    let same = ap (λ (m : MachineView). length m.history) t.1 in
-    let still : ¬ (before < after) = λ less. omega (arith, less, first, second, same) in
-    subst (HasPicked old new id) (sym (is ∙ ap (λ (n : Note). Some (plain n)) (started still))) (record { wrote = t; picks = inl refl }))
-    (λ t.
-    let more = ap (λ (m : MachineView). length m.history) t.2 ∙ length-append old.history (Take id ∷ []) in
-    let grew : before < after = omega (arith, first, second, more) in
-    subst (HasPicked old new id) (sym (is ∙ ap (λ (n : Note). Some (plain n)) (took grew))) (record { wrote = event-step old new (Take id) refl t.1 t.2; picks = inr refl }))
-    picked
-
 -- a finish
 pub finish-step : (old new : MachineView) (id : Id) (run : RunView) → is_among id (jobs_in_flight old) ≡ true → new ≡ with_finish old id run → IsStep None old (note.Event (Finish id)) new
 finish-step old new id run out is = appends None old new (Finish id) (with_run old.jobs id run) (out_runs old id out) (filed-with_run old.jobs id run ∙ sym (append-nil (map plan_entry old.jobs))) is
@@ -120,8 +100,3 @@ idle_end_after false old new last noted iff _ is none = record {
   no_take = subst HasNoTake (sym is) none;
   closed = λ shut. ap (λ (m : MachineView). is_closed m.history) is ∙ shut;
 }
-
--- a closing was written, or stood there already
-pub closed_after : (closes : Bool) (old new : MachineView) → (IsTrue closes ↔ (is_closed old.history ≡ false)) → OnTrue closes (new ≡ with_event old Close) → OnFalse closes (new ≡ old) → is_closed new.history ≡ true
-closed_after true old new iff is _ = ap (λ (m : MachineView). is_closed m.history) is ∙ (list_any-append is_close old.history (Close ∷ []) ∙ or-of (is_closed old.history) true refl)
-closed_after false old new iff _ is = ap (λ (m : MachineView). is_closed m.history) is ∙ true_from_ne_false (is_closed old.history) (λ unclosed. let is_not : false ≡ true = iff.1 unclosed in cc)

@@ -5,12 +5,12 @@ use Rattle.std.proofs.lemmas.List.{map-append, length-map}
 use Rattle.resil_rule.specs.declared.error.AdmitError.TheVariants as cause
 use Rattle.resil_pool.specs.Words.{AdmitError, TableId, PlanView, is_submit_of, submissions, next_number, IsLegal, MachineView, IsSubmitRefusal, Id, Reply, Event, Submit, Close, Resized, LoggedEvent, Note, Opening, Receipt}
 use Rattle.resil_pool.specs.declared.lock.logged_event.Note.TheVariants as note
-use Rattle.resil_pool.specs.Lock.{log_event, event_of, events_in, closer_number, is_own_event, is_own_note, own_in, SeesMore, SeesOwn, View, LockSeatState, MayHaveWritten, IsMoved}
+use Rattle.resil_pool.specs.Lock.{log_event, event_of, events_in, closer_number, is_own_event, is_own_note, own_in, SeesOwn, View, LockSeatState, MayHaveWritten, IsMoved}
 use Rattle.resil_pool.specs.Resize.{SeesResize}
 use Rattle.resil_pool.specs.Submit.{AnswersSubmission}
 use Rattle.resil_pool.specs.Parts.{CallerView, caller_view, submission_id, submit_of, submission_of, IsCaller}
 use Rattle.resil_pool.proofs.MachineCalls.{submission-step}
-use Rattle.resil_pool.proofs.TurnLaws.{HasTurn, MayHave, Turned, ends-none, saw, view-now, rests-now, key-now, sees-more, sees-own, wrote-none, wrote-one}
+use Rattle.resil_pool.proofs.TurnLaws.{HasTurn, MayHave, Turned, ends-none, saw, view-now, rests-now, key-now, sees-more, sees-own}
 
 -- a caller's seat isn't the closer's
 pub is_not_closer : (me : LockSeatState) (number : ℕ) (receipts : List Receipt) → IsCaller me number receipts → me.0.number ≢ closer_number
@@ -61,17 +61,8 @@ module _ {old : LockSeatState} {m : MachineView} {entries : List LoggedEvent} {m
 
   -- what it shows a caller
   module _ (caller : CallerView) (table : TableId) (same : caller_view table old number receipts ≡ caller) where
-    pub caller-saw-more : own_in old.0.number entries ≡ [] → SeesMore caller.source.limits caller.number caller.seen new.0.seen
-    caller-saw-more none = subst (λ (k : CallerView). SeesMore k.source.limits k.number k.seen new.0.seen) same (subst (λ (j : ℕ). SeesMore old.0.key.limits j old.0.seen new.0.seen) is.numbered (sees-more t none))
-
     pub caller-saw : (receipt : Receipt) → entries ≡ submission_of number receipt ∷ [] → SeesOwn caller.source.limits caller.number caller.seen (submission_of caller.number receipt) new.0.seen
     caller-saw receipt told = subst (λ (k : CallerView). SeesOwn k.source.limits k.number k.seen (submission_of k.number receipt) new.0.seen) same (subst (λ (j : ℕ). SeesOwn old.0.key.limits j old.0.seen (submission_of number receipt) new.0.seen) is.numbered (sees-submission receipt told))
-
-    pub caller-wrote : (receipt : Receipt) → entries ≡ submission_of number receipt ∷ [] → new.0.own ≡ caller.wrote ++ submission_of caller.number receipt ∷ []
-    caller-wrote receipt told = wrote-one t (submission_of number receipt) told ∙ ap (λ (k : CallerView). k.wrote ++ submission_of k.number receipt ∷ []) same
-
-    pub caller-wrote-none : entries ≡ [] → new.0.own ≡ caller.wrote
-    caller-wrote-none told = wrote-none t told ∙ ap (λ (k : CallerView). k.wrote) same
 
 -- a caller's own events are its submissions
 own_submissions : (c : ℕ) (e : Event) → c ≢ closer_number → is_own_event c e ≡ is_submit_of c e

@@ -187,6 +187,10 @@ ends-none old entries fits may ends = record { may = may; due = λ id. let b = f
 pub may-close : (old : LockSeatState) (entries : List LoggedEvent) → MayHaveWritten old.0.rank old.0.own → old.0.number ≡ closer_number → WritesAtMost Close entries → MayHave old entries
 may-close old entries fits first closes = either (MayHave old) (ends-none old [] fits tt refl) (ends-none old (log_event None Close ∷ []) fits (first, tt) refl) closes
 
+pub acted-close : {table table' : TableId} {me : LockSeatState} {lent taken : State} (old : LockSeatState) (new : State) → lent ≡ taken → Took table table' old me taken → IsMoved lent.machine (told new) new.machine → old.0.number ≡ closer_number → WritesAtMost Close (told new)
+    → Acted old lent.machine me (told new) new.machine
+acted-close old new same t moved first closes = acted old new same t moved (λ fits. may-close old (told new) fits first closes)
+
 -- what a turn showed its seat
 module _ {old : LockSeatState} {m : MachineView} {entries : List LoggedEvent} {m' : MachineView} {new : LockSeatState} (t : Turned old m entries m' new) where
   pub view-now : new.0 ≡ left_view (holder_view old.0 t.me.0.seen) entries

@@ -1,11 +1,11 @@
 -- What holds of a running pool between any two steps, whichever threads make them: of the word `turn`, of the slot of the machine, and of what all seats have seen.
-use Rattle.std.specs.Prelude.{◌≡◌, ◌≢◌, ◌⊎◌, ◌↔◌, ℕ, ◌≤◌, true, List, [], length, slice_index, Contains, Option}
+use Rattle.std.specs.Prelude.{◌≡◌, ◌≢◌, ◌⊎◌, ◌↔◌, ℕ, ◌≤◌, ◌<◌, true, List, [], length, slice_index, Contains, Option}
 use mathlib.Core.Option as math
-use Rattle.resil_pool.specs.Words.{Sizes, Id, Reply, Submit, LoggedEvent, State}
+use Rattle.resil_pool.specs.Words.{Sizes, AreLimits, times, is_among, running, Id, Reply, Submit, LoggedEvent, State}
 use Rattle.resil_pool.specs.declared.lock.logged_event.Note.TheVariants as note
 use Rattle.resil_lock.specs.Lock.{holds_lock, is_there}
 use Rattle.resil_lock.specs.BetweenSteps.{IsSeatAt, HasOneHolder, HasNoHolder, IsSlotOut, IsLongest, IsInSlot}
-use Rattle.resil_pool.specs.Lock.{View, closer_number, own_in, IsLegalLog, MatchesLog}
+use Rattle.resil_pool.specs.Lock.{View, closer_number, events_in, picked_in, ended_in, own_in, IsLegalLog, MatchesLog}
 
 -- the word `turn`
 abbrev pub turn : List ℕ → ℕ
@@ -47,8 +47,8 @@ pub record HasCloser (views : List View) : Type 0 where
 -- holds the turn, and 0 exactly while none does. The machine is in the slot exactly while the word is 0, and the slot is out exactly while it is 1. The history
 -- is legal, and it is the longest that a seat has seen; what every other seat has seen is a prefix of it. In the slot the machine has the limits of the opening,
 -- the events of the history, and as plans of its accepted jobs those of the history; the holder of the turn keeps what it had there. A seat's number is its
--- index, so all numbers differ; each seat has seen its own events, in their order, and there are no others; so each submission stands with its caller. The
--- closer has a seat of its own
+-- index, so all numbers differ; each seat has seen its own events, in their order, and there are no others; so each submission stands with its caller. Never
+-- more jobs run than the greatest size of the opening says, and those that were picked and not ended are among them. The closer has a seat of its own
 pub record HoldsBetweenTurns (limits : Sizes) (words : List ℕ) (homes : List Home) (views : List View) : Type 0 where
   pub one_word : length words ≡ 1
   pub one_slot : length homes ≡ 1
@@ -68,4 +68,6 @@ pub record HoldsBetweenTurns (limits : Sizes) (words : List ℕ) (homes : List H
   pub own : (number : ℕ) (v : View) → IsSeatAt views number v → is_there v.phase ≡ true → own_in number v.seen ≡ own_in number history
   pub no_others : (number : ℕ) → length views ≤ number → own_in number history ≡ []
   pub submissions : StandWithTheirCallers history views
+  pub at_once : AreLimits limits → length (running (events_in history)) ≤ limits.max
+  pub out_runs : (id : Id) → times id (ended_in history) < times id (picked_in history) → is_among id (running (events_in history)) ≡ true
   pub closer : HasCloser views

@@ -7,7 +7,7 @@ pub use Receipts.*
 pub use Remaining.*
 use Rattle.std.specs.Prelude.{◌≡◌, ◌⊎◌, ◌↔◌, ℕ, Bool, true, false, List, All, Any, IsSome, Result, Ok, Err, length}
 use Rattle.resil_pool.specs.Words.{IsPrefix, is_closed, MachineView, HasNoneToPick, AllDone, AreResultsOf, Row, Receipt}
-use Rattle.resil_pool.specs.Lock.{events_in}
+use Rattle.resil_pool.specs.Lock.{NamesCaller, events_in}
 use Rattle.resil_pool.specs.declared.draining.report.Report.{Report as DrainReport}
 use Rattle.resil_pool.specs.declared.draining.report.DrainFault.{DrainFault}
 use Rattle.resil_pool.specs.declared.draining.report.DrainFault.TheVariants.{PartMissing, Stranger, ReceiptsDiffer}
@@ -49,8 +49,8 @@ Differ callers machine receipts = (rows : List Row) → AreResultsOf machine.job
 abbrev pub HasRefused : List EndView → Type 0
 HasRefused ends = Any (λ e. IsSome e.refused) ends
 
--- How a drain ended that had all its parts: what its machine was left with, closed, in whose history the submissions of each caller are those on its receipts,
--- whatever the drain answers; whether each run that it made itself was accepted, after which nothing is left to pick, or one was refused, with which the machine
+-- How a drain ended that had all its parts: what its machine was left with, closed, of the pool's limits, in whose history each submission names one of the pool's
+-- callers and those of each are on its receipts, as are the plans of its results, whatever the drain answers; whether each run that it made itself was accepted, after which nothing is left to pick, or one was refused, with which the machine
 -- was left; and what of these is behind each refusal
 pub record Ended (pool : PoolView) (callers : List CallerView) (ends : List EndView) (answer : Result DrainReport DrainFault) : Type 0 where
   pub machine : MachineView
@@ -63,5 +63,7 @@ pub record Ended (pool : PoolView) (callers : List CallerView) (ends : List EndV
   pub handed_in : AreReceiptsOf callers receipts
   pub begins : All (λ c. IsPrefix (events_in c.seen) machine.history) callers
   pub submissions : AreSubmissions machine.history receipts
+  pub no_others : All (NamesCaller pool.callers) machine.history
+  pub agree : (rows : List Row) → AreResultsOf machine.jobs rows → AgreeWithReceipts pool.callers machine.history rows receipts
   pub stranger : IsDrainError IsStranger answer ↔ ((all_accepted ≡ false) ⊎ HasRefused ends ⊎ ¬ AllDone machine.jobs)
   pub receipts_differ : IsDrainError IsReceiptsDiffer answer ↔ ((all_accepted ≡ true) × ¬ HasRefused ends × AllDone machine.jobs × Differ pool.callers machine receipts)

@@ -2,6 +2,7 @@ pub mod Words
 pub mod Lock
 pub mod Pool
 pub mod Parts
+pub mod EndCode
 pub mod Submit
 pub mod Resize
 pub mod Worker

@@ -1,5 +1,5 @@
 -- What contracts see of the parts of a pool: its closer, its callers, its workers and their ends.
-use Rattle.std.specs.Prelude.{◌≡◌, ◌≢◌, ◌≤◌, ℕ, List, [], Option, Some, map}
+use Rattle.std.specs.Prelude.{◌≡◌, ◌≢◌, ◌≤◌, ℕ, List, [], Option, Some, None, map}
 use Rattle.std.specs.List.{range_with_len}
 use Rattle.resil_pool.specs.Words.{Ticket, TableId, PlanView, RunView, IsLegal, Row, Id, Event, Submit, LoggedEvent, Receipt}
 use Rattle.resil_pool.specs.Lock.{log_event, events_in, closer_number, own_in, runs_in, LockSeatState, PoolId, pool_id, IsResting}
@@ -31,13 +31,23 @@ pub record CallerView : Type 0 where
 abbrev pub caller_view : TableId → LockSeatState → ℕ → List Receipt → CallerView
 caller_view table me number receipts = record { source = source_of table me; number = number; receipts = receipts; seen = me.0.seen; wrote = me.0.own }
 
--- a worker's end: what it has seen, what its own turns wrote, the runs with which it has ended jobs, and the first run that was refused
+-- there is no run
+abbrev pub IsNoRun : Option RunView → Type 0
+IsNoRun None = Unit {0}
+IsNoRun (Some run) = ⊥
+
+-- a worker's end: what it has seen, what its own turns wrote, the runs with which it has ended jobs, and the first run that was refused, which is none
 pub record EndView : Type 0 where
   pub source : PoolId
   pub seen : List LoggedEvent
   pub wrote : List LoggedEvent
   pub runs : List Row
   pub refused : Option RunView
+  pub none : IsNoRun refused
+
+-- what contracts see of the seat of a worker that has ended
+abbrev pub end_of : SeatView → EndView
+end_of s = record { source = s.source; seen = s.seen; wrote = s.wrote; runs = s.runs; refused = None; none = tt }
 
 abbrev pub submission_id : ℕ → ℕ → Id
 submission_id caller number = record { caller = caller; number = number }

@@ -3,16 +3,14 @@
 //!
 //! A report comes out of a pool only if all its parts are handed in: a caller of each number, and an end of each
 //! worker. Then every accepted job has exactly one result, and the history, the results and the receipts agree.
-//! The history is legal whatever the threads did, since each turn wrote what the rule of admission allows. The
-//! numbers and replies on the receipts are compared with it all the same, so that the report doesn't rest on what seats have
-//! seen. That they agree is proved, so no drain answers `ReceiptsDiffer`. It is proved too that each result is of the plan on
-//! its receipt: plans aren't compared. No run of the drain's own is refused, since a job that it picks was ended by nobody.
+//! The history is legal whatever the threads did, since each turn wrote what the rule of admission allows. It agrees with the
+//! receipts, and each result is of the plan on its receipt, by the rule of the lock. So nothing is compared, and no drain
+//! answers `ReceiptsDiffer`. No run of the drain's own is refused, since a job that it picks was ended by nobody.
 //!
 //! The callers are joined away while the closer holds the lock. It has seen the whole history then, so each caller's
 //! submissions there are those on its receipts, whatever the drain answers.
 //!
-//! `callers` joins the callers away and puts their receipts in order, `receipts` compares, and `report` has what
-//! comes out.
+//! `callers` joins the callers away and puts their receipts in order, and `report` has what comes out.
 
 ghost use Rattle.std.specs.Prelude.{◌≡◌, ◌↔◌, ℕ, true, false, List, All, Any, IsSome, IsTrue, IfOk, IfErr, map};
 ghost use Rattle.resil_pool.specs.Words.{IsPrefix, IsLegal, is_closed, HasNoneToPick, Event, Row};
@@ -20,7 +18,6 @@ ghost use Rattle.resil_pool.specs.Lock.{NamesCaller, events_in, EndsOnlyPicked};
 ghost use Rattle.resil_pool.specs.Draining.{AreReceiptsOf, AreSubmissions, AreCollected, HasRunOn, Ran, RanInDrain, HasAllHandles, IsPartMissing, IsStranger, IsReceiptsDiffer, IsDrainError, HandsBack, Ended};
 
 mod callers;
-mod receipts;
 mod report;
 
 use crate::draining::callers::{are_numbered, join_callers};
@@ -56,14 +53,6 @@ fn run_remaining<R: Wait, P: Permitter>(rt: &R, machine: &mut Machine, permitter
     unreachable!()
 }
 
-// Whether a worker's end holds a refused run. None does: that is part of what an end is.
-fn has_refused(ends: &[WorkerEnd]) -> bool
-    ensures never { result ≡ false }
-    ensures none { ¬ Any (λ e. IsSome e.refused) ends.now }
-{
-    ends.iter().any(|end| end.refused.is_some())
-}
-
 /// Drains a pool. Where all its parts are handed in, it closes it if it is open, takes the machine out and joins the callers
 /// away. Then it runs what is left with the permitter, and takes the machine apart. So there is a closing in the history of a
 /// report. It allocates nothing; it waits while other seats hold the turn.
@@ -71,8 +60,7 @@ fn has_refused(ends: &[WorkerEnd]) -> bool
 /// # Errors
 ///
 /// In this order: `PartMissing` where a caller or a worker's end is missing, with all that was handed in;
-/// `Stranger` where a worker's end holds a refused run, which the rule of the lock excludes, or an accepted job has
-/// no result; `ReceiptsDiffer` where the history and the callers' receipts don't agree, which it excludes.
+/// `Stranger` where an accepted job has no result. `ReceiptsDiffer` doesn't come: the rule of the lock excludes it.
 ///
 /// ```
 /// let mut no_bulkheads = Passes::new(&rt, &[], Vec::new(alloc));
@@ -116,7 +104,7 @@ pub fn drain<R: Wait, P: Permitter>(
     let Closer { mut seat } = closer;
     let Pool {
         lock,
-        limits,
+        limits: _,
         callers: count,
         keep_alive: _,
         receipts,
@@ -129,10 +117,7 @@ pub fn drain<R: Wait, P: Permitter>(
         last: _last,
     } = inner;
     run_remaining(rt, &mut machine, permitter);
-    if has_refused(ends.as_slice()) {
-        return Err(DrainFault::Stranger);
-    }
-    into_report(machine, limits, receipts, count)
+    into_report(machine, receipts)
 }
 
 // Whether all parts are there.

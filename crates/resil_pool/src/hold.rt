@@ -10,7 +10,7 @@ ghost use Rattle.resil_rule.specs.History.{is_closed};
 ghost use Rattle.resil_pool.specs.Lock.{events_in, told, IsMoved, WritesAtMost, SeesClosing, WroteCloseAtMost};
 ghost use Rattle.resil_pool.specs.Hold.{AreRows, BeginsWithRows, TellsOfRows};
 
-use crate::lock::{Note, State, note_if};
+use crate::lock::State;
 use crate::parts::Closer;
 use crate::pool::Pool;
 use crate::submit::is_submission_of;
@@ -51,8 +51,7 @@ impl State {
         ensures in_order { IsTrue result ↔ AreRows rows.now self.old.machine.history }
     {
         let in_order = are_rows(self.machine.history(), rows);
-        let closes = self.machine.close();
-        self.last = note_if(closes, Note::Event(Event::Close));
+        self.close();
         in_order
     }
 }

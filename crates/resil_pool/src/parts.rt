@@ -4,11 +4,11 @@
 //! contracts alone: no running code reads it. Between two calls a seat doesn't hold the lock, what it has seen is legal, and a caller's receipts are
 //! its own submissions in what it has seen.
 
-ghost use Rattle.std.specs.Prelude.{◌≡◌, None};
+ghost use Rattle.std.specs.Prelude.{◌≡◌};
+ghost use Rattle.resil_pool.specs.Parts.{end_of};
 
 use crate::lock::LockSeat;
 use crate::receipt::Receipt;
-use resil_decor::Run;
 use std::marker::Model;
 
 /// The token with which a pool is closed and drained.
@@ -88,17 +88,14 @@ impl Model for Worker {
 impl Worker {
     /// The end of a worker that never worked.
     pub fn unused(self) -> WorkerEnd
-        ensures { result ≡ record { source = self.source; seen = self.seen; wrote = self.wrote; runs = self.runs; refused = None } }
+        ensures { result ≡ end_of self }
     {
         let Worker { seat } = self;
-        WorkerEnd {
-            seat,
-            refused: None,
-        }
+        WorkerEnd { seat }
     }
 }
 
-/// What a worker leaves: the first run that the pool refused, where there was one. `Pool::work` leaves none.
+/// What a worker leaves, with which its pool is drained. No run of it was refused.
 ///
 /// ```
 /// pool.close(&rt, &mut closer);
@@ -109,17 +106,18 @@ impl Worker {
 #[derive(Drop)]
 pub struct WorkerEnd {
     pub(crate) seat: LockSeat,
-    pub(crate) refused: Option<Run>,
 }
 
 impl Model for WorkerEnd {
-    ghost use Rattle.std.specs.Prelude.{◌≡◌, None};
-    ghost use Rattle.resil_pool.specs.Lock.{runs_in, IsSettled};
-    ghost use Rattle.resil_pool.specs.Parts.{EndView, IsWitness, source_of};
+    ghost use Rattle.resil_pool.specs.Lock.{IsSettled};
+    ghost use Rattle.resil_pool.specs.Parts.{EndView, IsWitness, seat_view, end_of};
+    ghost use Rattle.resil_pool.specs.EndCode.{end_code};
 
     ghost Value = { EndView };
 
-    ghost view = { λ e. record { source = source_of e.seat.table_id e.seat.me; seen = e.seat.me.0.seen; wrote = e.seat.me.0.own; runs = runs_in e.seat.me.0.own; refused = e.refused } };
+    ghost coded = { end_code };
 
-    ghost invariant = { λ e. IsWitness e.seat.me × IsSettled e.seat.me.0.own × (e.refused ≡ None) };
+    ghost view = { λ e. end_of (seat_view e.seat.table_id e.seat.me) };
+
+    ghost invariant = { λ e. IsWitness e.seat.me × IsSettled e.seat.me.0.own };
 }

@@ -7,14 +7,13 @@
 ghost use Rattle.std.specs.Prelude.{◌≡◌, ◌<◌, ◌≤◌, ◌↔◌, ◌+◌, [], true, IfOk, IsErrOf, replicate, vec_capacity};
 ghost use Rattle.resil_pool.specs.Words.{IsPrefix, is_closed, IsLegal};
 ghost use Rattle.resil_pool.specs.declared.pool.OpenError.TheVariants.{Memory};
-ghost use Rattle.resil_pool.specs.Lock.{events_in, closer_view, pool_id, SeesClosing, WroteCloseAtMost};
+ghost use Rattle.resil_pool.specs.Lock.{events_in, closer_view, pool_id, told, IsMoved, WritesAtMost, SeesClosing, WroteCloseAtMost};
 ghost use Rattle.resil_pool.specs.Parts.{new_callers, new_worker};
 
-use crate::hold::close_held;
-use crate::lock::{BoxedState, Lock, LockSeat, Opening, State};
+use crate::lock::{BoxedState, Lock, LockSeat, Note, Opening, State, note_if};
 use crate::parts::{Caller, Closer, Worker};
 use crate::receipt::Receipt;
-use resil_admission::{Limits, Machine};
+use resil_admission::{Event, Limits, Machine};
 use std::alloc::{AllocError, Global};
 use std::marker::Model;
 use std::sync::Wait;
@@ -214,6 +213,21 @@ impl Pool {
         ensures wrote { WroteCloseAtMost closer.old.wrote closer.new.wrote }
         ensures closed { is_closed (events_in closer.new.seen) ≡ true }
     {
-        close_held(rt, self, closer, &[]);
+        let mut state = self.lock.take(rt, &mut closer.seat);
+        state.inner.close();
+        self.lock.release(&mut closer.seat, state);
+        self.lock.ring_for_all();
+    }
+}
+
+impl State {
+    // Closes the machine, if it is open.
+    pub(crate) fn close(&mut self)
+        ensures wrote { IsMoved self.old.machine (told self.new) self.new.machine }
+        ensures closes { WritesAtMost Event.Close (told self.new) }
+        ensures closed { is_closed self.new.machine.history ≡ true }
+    {
+        let closes = self.machine.close();
+        self.last = note_if(closes, Note::Event(Event::Close));
     }
 }

@@ -189,10 +189,7 @@ impl Pool {
                 hook,
             },
         );
-        WorkerEnd {
-            seat,
-            refused: None,
-        }
+        WorkerEnd { seat }
     }
 }
 

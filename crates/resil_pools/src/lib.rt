@@ -17,11 +17,11 @@
 //! - `ExecutorCloser`: what closes and resizes a pool
 //! - `Refused`: why a work isn't accepted
 //! - `Numbers`: how a pool stands, all of one moment
+//! - `PoolText`: these as a text for Prometheus
 //! - `LastHistory`: the last events of a history, and how many came before them
 //!
 //! A pool in a chain (`resil_executor`, Decorators):
-//! - `submit_within`: submits a work and waits for its answer, in one call
-//! - `NoAnswer`: why no answer came of it
+//! - `NoAnswer`: why no answer came of `submit_within`, which submits a work and waits for its answer
 //!
 //! The rule (`resil_rule`, class documentation of ThreadPoolExecutor):
 //! - `Limits`: core size, greatest size and the queue's capacity
@@ -38,8 +38,8 @@
 #![tactic(auto)]
 
 pub use resil_executor::{
-    ClosurePool, Ended, Executor, ExecutorCloser, LastHistory, NoAnswer, Numbers, Refused,
-    WorkPool, Workers, by_hand, submit_within, work_while, work_while_with,
+    ClosurePool, Ended, Executor, ExecutorCloser, LastHistory, NoAnswer, Numbers, PoolText,
+    Refused, WorkPool, Workers, by_hand, work_while, work_while_with,
 };
 pub use resil_rule::{
     AdmitError, AllEvents, Event, Id, LastEvents, Limits, NoRecord, Record, Reply, Verdict, audit,

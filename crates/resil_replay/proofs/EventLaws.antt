@@ -26,7 +26,7 @@ id-read id fits =
 sizes-read : (core max : ℕ) → core < 2 ^ 32 → max < 2 ^ 32 → parse_sizes (decimal core) (decimal max) ≡ Some (core, max)
 sizes-read core max low low' = rw (from_zero-round_trip (2 ^ 32) core (omega arith) low, from_zero-round_trip (2 ^ 32) max (omega arith) low') refl
 
-event-read : (version : Version) (event : Event) → FitsEvent 1 version event → row_under (history_header version) parse_event (record_fields version event) ≡ Some event
+pub event-read : (version : Version) (event : Event) → FitsEvent 1 version event → row_under (history_header version) parse_event (record_fields version event) ≡ Some event
 event-read One (Resized core max) named = absurd named
 event-read Two (Resized core max) named = rw (sizes-read core max named.0 named.1) refl
 event-read version event named = first_of (simp (id-read, reply-read), cc)

@@ -100,7 +100,7 @@ abbrev pub read_records : List ℕ → List (List (List ℕ))
 read_records text = records_from default_config (suc (length text)) st.StartRecord text
 
 -- the record of plain fields is the first of a text that begins with it
-record-first : (fields : List (List ℕ)) (rest : List ℕ) → 1 < length fields → ArePlain fields → read_records (record_text fields ++ rest) ≡ fields ∷ read_records rest
+pub record-first : (fields : List (List ℕ)) (rest : List ℕ) → 1 < length fields → ArePlain fields → read_records (record_text fields ++ rest) ≡ fields ∷ read_records rest
 record-first fields rest several plain =
     (records_from-next st.StartRecord st.StartRecord (record_text fields ++ rest) rest fields refl (record-read fields rest several plain)).0
 

@@ -9,5 +9,6 @@ pub mod Replay
 pub mod Rows
 pub mod Sizes
 pub mod State
+pub mod Timed
 pub mod Versions
 pub mod WorkedHeads

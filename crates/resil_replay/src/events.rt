@@ -89,8 +89,8 @@ fn parse_reply(name: &[u8]) -> Option<Reply>
     }
 }
 
-// Reads an event from the fields of a record. Those that the event doesn't use must be empty.
-fn parse_event(fields: &ByteRecord) -> Option<Event>
+/// Reads an event from the fields of a record. Those that the event doesn't use must be empty.
+pub(crate) fn parse_event(fields: &ByteRecord) -> Option<Event>
     ensures { result ≡ parse_event (fields_of fields.now) }
 {
     let event = field_at(fields, 0);

@@ -34,8 +34,8 @@ impl Version {
     }
 }
 
-// The name of a reply in a text.
-fn reply_name(reply: Reply) -> &'static [u8]
+/// The name of a reply in a text.
+pub(crate) fn reply_name(reply: Reply) -> &'static [u8]
     ensures { result.now ≡ reply_name reply }
 {
     match reply {

@@ -1,7 +1,7 @@
 //! `replay` and `audit`: a history that rows give on one pool, and whether a history is legal.
 //!
 //! Both have the head of a pool (`head`). `replay` reads rows (`rows`), carries them out on one pool (`play`, `pool`), and
-//! writes the history (`history`); `audit` reads a history (`events`) and writes the verdict. What a history
+//! writes the history (`history`); `audit` reads a history (`events`) and writes the verdict; `timed` reads one with times too. What a history
 //! looks like as a text is said here alone: `run` writes one too.
 #![tactic(auto)]
 
@@ -15,7 +15,9 @@ mod pool;
 pub mod replay;
 pub mod rows;
 pub mod sizes;
+pub mod timed;
 mod worked_heads;
 
 pub use events::text_reads_back;
+pub use timed::timed_text_reads_back;
 pub use worked_heads::worked_pool_heads;

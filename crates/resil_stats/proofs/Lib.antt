@@ -7,5 +7,7 @@ pub mod ResultLaws
 pub mod ListLaws
 pub mod PlaceLaws
 pub mod BarLaws
+pub mod SpanLaws
+pub mod AxisLaws
 pub mod ColumnLaws
 pub mod SvgLaws

@@ -37,7 +37,7 @@ module _ {A : Type 0} (f : ℕ × Event → Option A) (events : List Event) (i :
 -- ---- The places of finishes.
 
 -- in a legal history each event is allowed after those before it, which are legal
-parts-legal : (limits : Sizes) (before h : List Event) (e : Event) (t : List Event) → AreAllowedAfter limits before (h ++ e ∷ t) → AreAllowedAfter limits before h × IsAllowed limits (before ++ h) e
+pub parts-legal : (limits : Sizes) (before h : List Event) (e : Event) (t : List Event) → AreAllowedAfter limits before (h ++ e ∷ t) → AreAllowedAfter limits before h × IsAllowed limits (before ++ h) e
 parts-legal limits before [] e t legal = (tt, rw append-nil legal.0)
 parts-legal limits before (x ∷ h) e t legal = let rest = parts-legal limits (before ++ x ∷ []) h e t legal.1 in ((legal.0, rest.0), rw append_assoc at rest.1)
 

@@ -17,6 +17,10 @@ alone {s} r own = record { is = own.is ∙ ap (λ (l : List ℕ). s ++ l) (sym (
 pub at-end : {s t u : List ℕ} (rs : List (List (List ℕ))) (r : List (List ℕ)) → IsExtended s t (table_text rs) → IsExtended t u (record_text r) → IsExtended s u (table_text (rs ++ r ∷ []))
 at-end {s} rs r first next = record { is = (after first (alone r next)).is ∙ ap (λ (l : List ℕ). s ++ l) (sym (flat_map-append record_text rs (r ∷ []))) }
 
+-- a table behind another one
+pub joined : {s t u : List ℕ} (a b : List (List (List ℕ))) → IsExtended s t (table_text a) → IsExtended t u (table_text b) → IsExtended s u (table_text (a ++ b))
+joined {s} a b first next = record { is = (after first next).is ∙ ap (λ (l : List ℕ). s ++ l) (sym (flat_map-append record_text a b)) }
+
 -- a text with the records of one more caller
 pub caller-pushed : (old new whole : List ℕ) (entry : ℕ × CallerStats) (left after : List (ℕ × CallerStats)) → left ≡ entry ∷ after
     → IsExtended old new (table_text (caller_records entry)) → old ++ table_text (callers_records left) ≡ whole → new ++ table_text (callers_records after) ≡ whole

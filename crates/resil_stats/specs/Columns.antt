@@ -1,7 +1,8 @@
--- The columns of a history that is too long for each event to be drawn: this many events each, with the greatest of each number,
--- and what runs in them: the bars that go over a place, by how their jobs started.
-use Rattle.std.specs.Prelude.{ℕ, ◌≡◌, ◌≤◌, ◌<◌, ◌+◌, ◌-◌, ◌*◌, ◌∷◌, ◌&&◌, [], Bool, true, false, List, Some, count_by, drop, fold, length, map, max, min, nat_le, nat_lt, slice_get, take}
+-- The columns of a history that is too long for each event to be drawn: of as many events each, or those of equal spans of time, with the
+-- greatest of each number, and what runs in them: the bars that go over a place, by how their jobs started.
+use Rattle.std.specs.Prelude.{ℕ, ◌≡◌, ◌≤◌, ◌<◌, ◌+◌, ◌-◌, ◌*◌, ◌∷◌, ◌&&◌, [], Bool, true, false, List, Option, Some, None, count_by, drop, fold, length, map, max, min, nat_le, nat_lt, slice_get, take}
 use Rattle.resil_rule.specs.declared.event.Event.{Event}
+use Rattle.resil_stats.specs.Axis.{IsSpanEnd}
 use Rattle.resil_stats.specs.Stats.{is_closed_reply, is_full_reply}
 use Rattle.resil_stats.specs.declared.bars.Bar.{Bar}
 use Rattle.resil_stats.specs.declared.bars.Start.{Start}
@@ -47,20 +48,26 @@ pub record IsColumnOf (events : List Event) (levels : List Level) (column : Colu
 abbrev pub HasLastSizes : List Level → Column → Type 0
 HasLastSizes levels column = (last : Level) × (slice_get levels (column.to - 1) ≡ Some last) × (column.core ≡ last.core) × (column.max ≡ last.max)
 
--- The columns of the events from a place up to an end, of this many events each: one behind the other, the last one up to the end.
-abbrev pub AreColumnsFrom : List Event → List Level → ℕ → ℕ → ℕ → List Column → Type 0
-AreColumnsFrom events levels width done end [] = done ≡ end
-AreColumnsFrom events levels width done end (column ∷ columns) =
-    IsColumnOf events levels column × HasLastSizes levels column × (column.from ≡ done + 1) × (column.to ≡ min (done + width) (length events)) × AreColumnsFrom events levels width column.to end columns
+-- where a column ends of so many events that begins behind the first of them: it has the events of the width that gives 350 at most, the last one
+-- those that are left; or, by their times, all that follow in one span
+abbrev pub IsColumnEnd : Option (List ℕ) → ℕ → ℕ → ℕ → Type 0
+IsColumnEnd None count done end = (width : ℕ) × IsWidth count width × (end ≡ min (done + width) count)
+IsColumnEnd (Some times) count done end = IsSpanEnd times count done end
 
--- the columns of a history
-abbrev pub AreColumnsOf : List Event → List Level → ℕ → List Column → Type 0
-AreColumnsOf events levels width columns = AreColumnsFrom events levels width 0 (length events) columns
+-- The columns of the events from a place up to an end: one behind the other, the last one up to the end.
+abbrev pub AreColumnsFrom : List Event → List Level → Option (List ℕ) → ℕ → ℕ → List Column → Type 0
+AreColumnsFrom events levels times done end [] = done ≡ end
+AreColumnsFrom events levels times done end (column ∷ columns) =
+    IsColumnOf events levels column × HasLastSizes levels column × (column.from ≡ done + 1) × IsColumnEnd times (length events) done column.to × AreColumnsFrom events levels times column.to end columns
 
--- the columns of the events that are drawn: none up to 4,000 events, and past that of the width that gives 350 at most
-pub record AreGathered (events : List Event) (levels : List Level) (columns : List Column) : Type 0 where
+-- the columns of a history, which may have times
+abbrev pub AreColumnsOf : List Event → List Level → Option (List ℕ) → List Column → Type 0
+AreColumnsOf events levels times columns = AreColumnsFrom events levels times 0 (length events) columns
+
+-- the columns of the events that are drawn: none up to 4,000 events
+pub record AreGathered (events : List Event) (levels : List Level) (times : Option (List ℕ)) (columns : List Column) : Type 0 where
   pub few : length events ≤ 4000 → columns ≡ []
-  pub many : 4000 < length events → (width : ℕ) × IsWidth (length events) width × AreColumnsOf events levels width columns
+  pub many : 4000 < length events → AreColumnsOf events levels times columns
 
 -- ---- What runs in them.
 

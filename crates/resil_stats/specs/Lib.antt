@@ -1,9 +1,11 @@
 pub mod Stats
 pub mod Text
 pub mod Results
+pub mod Spans
 pub mod Bars
 pub mod Marks
 pub mod Depth
+pub mod Axis
 pub mod Columns
 pub mod Picture
 pub mod Svg

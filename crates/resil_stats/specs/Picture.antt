@@ -1,5 +1,5 @@
 -- The picture of a history: what is drawn of its events up to the first illegal one.
-use Rattle.std.specs.Prelude.{ℕ, ◌≡◌, ◌-◌, List, Option, None, map, option_map, slice_get}
+use Rattle.std.specs.Prelude.{ℕ, ◌≡◌, ◌-◌, List, Option, None, length, map, option_map, slice_get}
 use Rattle.resil_rule.specs.Limits.{Sizes}
 use Rattle.resil_rule.specs.declared.event.Event.{Event}
 use Rattle.resil_rule.specs.declared.verdict.Verdict.{Verdict}
@@ -20,13 +20,14 @@ abbrev pub first_illegal : Verdict → List Event → Option (ℕ × Event)
 first_illegal Legal history = None
 first_illegal (FirstIllegal position) history = option_map (λ event. (position, event)) (slice_get history (position - 1))
 
--- The picture of a history under some limits.
-pub record IsPictureOf (limits : Sizes) (history : List Event) (picture : Picture) : Type 0 where
+-- The picture under some limits of a history, whose events may have times.
+pub record IsPictureOf (limits : Sizes) (history : List Event) (times : Option (List ℕ)) (picture : Picture) : Type 0 where
   pub opening : picture.limits ≡ limits
+  pub events : picture.events ≡ length history
   pub numbers : IsStatsOf limits history picture.stats
   pub bars : AreBarsOf (drawn_part history picture) picture.bars.items
   pub marks : picture.marks.items ≡ marks_in (drawn_part history picture)
   pub levels : AreLevelsOf limits (drawn_part history picture) picture.levels.items
-  pub columns : AreGathered (drawn_part history picture) picture.levels.items picture.columns.items
+  pub columns : AreGathered (drawn_part history picture) picture.levels.items times picture.columns.items
   pub areas : picture.areas.items ≡ map (λ column. running_at picture.bars.items column.peak) picture.columns.items
   pub illegal : option_map (λ i. (i.at, i.event)) picture.illegal ≡ first_illegal picture.stats.verdict history

@@ -1,5 +1,5 @@
 -- What is known of the text of a picture: how it begins, and how the elements of its bars, refusals and columns do.
-use Rattle.std.specs.Prelude.{ℕ, ◌≡◌, ◌++◌, ◌∷◌, [], List, codes, length}
+use Rattle.std.specs.Prelude.{ℕ, ◌≡◌, ◌++◌, ◌∷◌, [], List, Option, codes, length}
 use Rattle.std.specs.Fmt.{decimal}
 use Rattle.resil_rule.specs.Limits.{Sizes}
 use Rattle.resil_rule.specs.declared.event.Event.{Event}
@@ -93,6 +93,6 @@ IsAddition known old new = (part : List ℕ) × (new ≡ old ++ part) × known p
 abbrev pub IsSvgOf : Picture → List ℕ → Type 0
 IsSvgOf picture text = (rest : List ℕ) × (text ≡ opening (length picture.levels.items) ++ rest) × IsRestDrawn picture rest
 
--- the text of the picture of a history under some limits
-abbrev pub IsHistorySvg : Sizes → List Event → List ℕ → Type 0
-IsHistorySvg limits history text = (picture : Picture) × IsPictureOf limits history picture × IsSvgOf picture text
+-- the text of the picture under some limits of a history, whose events may have times
+abbrev pub IsHistorySvg : Sizes → List Event → Option (List ℕ) → List ℕ → Type 0
+IsHistorySvg limits history times text = (picture : Picture) × IsPictureOf limits history times picture × IsSvgOf picture text

@@ -1,9 +1,10 @@
 -- The text of the numbers of a history: a table with a record for each number.
-use Rattle.std.specs.Prelude.{ℕ, ◌≡◌, ◌++◌, ◌∷◌, [], List, codes}
+use Rattle.std.specs.Prelude.{ℕ, ◌≡◌, ◌++◌, ◌∷◌, [], List, Option, Some, None, codes}
 use Rattle.std.specs.Fmt.{decimal}
 use Rattle.std.specs.List.{flat_map}
 use Rattle.resil_rule.specs.declared.verdict.Verdict.{Verdict}
 use Rattle.resil_rule.specs.declared.verdict.Verdict.TheVariants.{Legal, FirstIllegal}
+use Rattle.resil_stats.specs.declared.spans.Spans.{Spans}
 use Rattle.resil_stats.specs.declared.stats.CallerStats.{CallerStats}
 use Rattle.resil_stats.specs.declared.stats.Stats.{Stats}
 use Rattle.resil_input.specs.CsvTable.{table_text}
@@ -15,6 +16,26 @@ stats_header = codes "name" ∷ codes "caller" ∷ codes "value" ∷ []
 -- a number of the whole history, which has no caller
 abbrev pub total_fields : List ℕ → ℕ → List (List ℕ)
 total_fields name value = name ∷ [] ∷ decimal value ∷ []
+
+-- a span of time in a field: empty where there is none
+abbrev pub span_word : Option ℕ → List ℕ
+span_word (Some span) = decimal span
+span_word None = []
+
+abbrev pub span_fields : List ℕ → Option ℕ → List (List ℕ)
+span_fields name span = name ∷ [] ∷ span_word span ∷ []
+
+-- the records of how long jobs waited and ran, where that is known
+abbrev pub spans_records : Option Spans → List (List (List ℕ))
+spans_records None = []
+spans_records (Some spans) =
+    span_fields (codes "wait_median") spans.waits.median
+    ∷ span_fields (codes "wait_p99") spans.waits.p99
+    ∷ span_fields (codes "wait_most") spans.waits.most
+    ∷ span_fields (codes "run_median") spans.runs.median
+    ∷ span_fields (codes "run_p99") spans.runs.p99
+    ∷ span_fields (codes "run_most") spans.runs.most
+    ∷ []
 
 -- a number of a caller
 abbrev pub caller_fields : List ℕ → ℕ → ℕ → List (List ℕ)
@@ -41,9 +62,9 @@ abbrev pub verdict_fields : Verdict → List (List ℕ)
 verdict_fields verdict = codes "verdict" ∷ [] ∷ verdict_word verdict ∷ []
 
 -- the records of the numbers of a history, under the header: how often each kind of event happened, the greatest numbers of jobs that waited, of jobs that
--- ran, and of workers, the jobs that never started, the callers, and the verdict
-abbrev pub stats_records : Stats → List (List (List ℕ))
-stats_records stats =
+-- ran, and of workers, the jobs that never started, the spans of time where they are known, the callers, and the verdict
+abbrev pub stats_records : Stats → Option Spans → List (List (List ℕ))
+stats_records stats spans =
     total_fields (codes "submissions") stats.counts.submissions
     ∷ total_fields (codes "core") stats.counts.core
     ∷ total_fields (codes "queued") stats.counts.queued
@@ -58,10 +79,10 @@ stats_records stats =
     ∷ total_fields (codes "most_running") stats.most.running
     ∷ total_fields (codes "most_workers") stats.most.workers
     ∷ total_fields (codes "never_started") stats.never_started
-    ∷ (callers_records stats.callers.entries ++ verdict_fields stats.verdict ∷ [])
+    ∷ (spans_records spans ++ (callers_records stats.callers.entries ++ verdict_fields stats.verdict ∷ []))
 
-abbrev pub stats_text : Stats → List ℕ
-stats_text stats = table_text (stats_header ∷ stats_records stats)
+abbrev pub stats_text : Stats → Option Spans → List ℕ
+stats_text stats spans = table_text (stats_header ∷ stats_records stats spans)
 
 -- One text is another one with this behind it.
 pub record IsExtended (old new part : List ℕ) : Type 0 where

@@ -46,8 +46,8 @@ struct Drawing {
     ends: Vec<usize>,
 }
 
-// The job that starts at an event, and how.
-fn start_at(event: Event) -> Option<(Id, Start)>
+/// The job that starts at an event, and how.
+pub(crate) fn start_at(event: Event) -> Option<(Id, Start)>
     ensures { result ≡ start_at event }
 {
     match event {
@@ -71,8 +71,8 @@ fn is_finish_of(event: &Event, id: Id) -> bool
     }
 }
 
-// Where a job is finished among events, from 0: at their number where it isn't.
-fn finish_in(events: &[Event], id: Id) -> usize
+/// Where a job is finished among events, from 0: at their number where it isn't.
+pub(crate) fn finish_in(events: &[Event], id: Id) -> usize
     ensures finish { result ≡ position_or_len (is_finish_of id) events.now }
     ensures within { result ≤ length events.now }
 {

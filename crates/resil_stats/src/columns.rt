@@ -1,12 +1,13 @@
 //! The columns of a history that is too long for each event to be drawn.
 //!
-//! So many events make a column that there are 350 at most. A column has the greatest of each number,
-//! since a peak is what one looks for, and in place of its bars how many jobs run, by how they started.
+//! So many events make a column that there are 350 at most, or those of one of as many equal spans of time. A column has the greatest of
+//! each number, since a peak is what one looks for, and in place of its bars how many jobs run, by how they started.
 
-ghost use Rattle.std.specs.Prelude.{◌≡◌, ◌≤◌, ◌+◌, ◌<◌, IfOk, count_by, length, map};
+ghost use Rattle.std.specs.Prelude.{◌≡◌, ◌≤◌, ◌+◌, ◌<◌, IfOk, count_by, length, map, option_map};
 ghost use Rattle.resil_stats.specs.Stats.{has_reply};
-ghost use Rattle.resil_stats.specs.Columns.{AreColumnsOf, HasLastSizes, IsColumnOf, IsPeakAmong, IsWidth, greatest, running_at, runs_by};
+ghost use Rattle.resil_stats.specs.Columns.{AreColumnsOf, HasLastSizes, IsColumnEnd, IsColumnOf, IsPeakAmong, IsWidth, greatest, running_at, runs_by};
 
+use crate::axis::span_end;
 use crate::bars::{Bar, Start};
 use crate::depth::Level;
 use resil_rule::{Event, Reply};
@@ -142,22 +143,34 @@ fn gather_column(events: &[Event], levels: &[Level], start: usize, end: usize) -
     }
 }
 
-/// The columns of events, of this many each, where there is a level for each event.
+// Where a column ends of so many events that begins behind the first of them: by its span of time, or the width of all columns.
+fn column_end(times: Option<&[u64]>, count: usize, done: usize) -> usize
+    requires { done < count }
+    ensures later { done < result }
+    ensures within { result ≤ count }
+    ensures column { IsColumnEnd (option_map (λ times. times.now) times.entry) count done result }
+{
+    match times {
+        Some(times) => span_end(times, count, done),
+        None => done + column_width(count).min(count - done),
+    }
+}
+
+/// The columns of events, by their times where they have some, where there is a level for each event.
 /// Errors: `AllocError` where memory runs out.
 pub(crate) fn columns_of(
     alloc: Global,
     events: &[Event],
     levels: &[Level],
-    width: usize,
+    times: Option<&[u64]>,
 ) -> Result<Vec<Column>, AllocError>
-    requires same { length events.now ≡ length levels.now }
-    requires wide { 1 ≤ width }
-    ensures { IfOk result (λ columns. AreColumnsOf events.now levels.now width columns.items) }
+    requires { length events.now ≡ length levels.now }
+    ensures { IfOk result (λ columns. AreColumnsOf events.now levels.now (option_map (λ times. times.now) times.entry) columns.items) }
 {
     let mut columns = Vec::new(alloc);
     let mut done = 0;
     while done < levels.len() {
-        let end = done + width.min(levels.len() - done);
+        let end = column_end(times, levels.len(), done);
         columns.push(gather_column(events, levels, done, end))?;
         done = end;
     }
@@ -178,8 +191,8 @@ fn count_at(bars: &[Bar], start: Start, place: usize) -> usize
     bars.iter().filter(|bar| runs_by(start, place, bar)).count()
 }
 
-// The jobs that run after the event at a place.
-fn running_at(bars: &[Bar], place: usize) -> Running
+/// The jobs that run after the event at a place.
+pub(crate) fn running_at(bars: &[Bar], place: usize) -> Running
     ensures { result ≡ running_at bars.now place }
 {
     Running {

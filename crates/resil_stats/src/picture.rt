@@ -9,7 +9,7 @@ ghost use Rattle.resil_stats.specs.Marks.{marks_in};
 ghost use Rattle.resil_stats.specs.Picture.{drawn_part, first_illegal};
 
 use crate::bars::{Bar, bars_of};
-use crate::columns::{Column, MOST_DRAWN, Running, areas_of, column_width, columns_of};
+use crate::columns::{Column, MOST_DRAWN, Running, areas_of, columns_of};
 use crate::depth::{Level, levels_of};
 use crate::marks::{Mark, marks_of};
 use crate::stats::{Stats, count, legal_part};
@@ -33,6 +33,8 @@ pub struct Illegal {
 pub struct Picture {
     /// The sizes that the pool was opened with.
     pub limits: Limits,
+    /// How many events the history has, illegal ones too.
+    pub events: usize,
     /// The numbers of the history, for the title.
     pub stats: Stats,
     /// The bars of the jobs that started, in that order.
@@ -50,12 +52,17 @@ pub struct Picture {
 }
 
 // The columns of events where each isn't drawn.
-fn gathered(alloc: Global, events: &[Event], levels: &[Level]) -> Result<Vec<Column>, AllocError>
+fn gathered(
+    alloc: Global,
+    events: &[Event],
+    levels: &[Level],
+    times: Option<&[u64]>,
+) -> Result<Vec<Column>, AllocError>
     requires { length events.now ≡ length levels.now }
-    ensures { IfOk result (λ columns. AreGathered events.now levels.now columns.items) }
+    ensures { IfOk result (λ columns. AreGathered events.now levels.now (option_map (λ times. times.now) times.entry) columns.items) }
 {
     if events.len() > MOST_DRAWN {
-        columns_of(alloc, events, levels, column_width(events.len()))
+        columns_of(alloc, events, levels, times)
     } else {
         Ok(Vec::new(alloc))
     }
@@ -86,25 +93,31 @@ fn illegal_in(
     }
 }
 
-/// The picture of a history under these limits.
+/// The picture of a history under these limits, in columns by the times of its events where they have some.
 ///
 /// # Errors
 ///
 /// `AllocError` where memory runs out.
 ///
 /// ```
-/// let picture = picture_of(alloc, &limits, &history)?;
+/// let picture = picture_of(alloc, &limits, &history, None)?;
 /// for bar in picture.bars.iter() {
 ///     println!(rt; "row {}: job {}", bar.row, bar.id.number)?;
 /// }
 /// ```
-pub fn picture_of(alloc: Global, limits: &Limits, history: &[Event]) -> Result<Picture, AllocError>
+pub fn picture_of(
+    alloc: Global,
+    limits: &Limits,
+    history: &[Event],
+    times: Option<&[u64]>,
+) -> Result<Picture, AllocError>
     ensures limits { IfOk result (λ picture. picture.limits ≡ limits.now) }
+    ensures events { IfOk result (λ picture. picture.events ≡ length history.now) }
     ensures numbers { IfOk result (λ picture. IsStatsOf limits.now history.now picture.stats) }
     ensures bars { IfOk result (λ picture. AreBarsOf (drawn_part history.now picture) picture.bars.items) }
     ensures marks { IfOk result (λ picture. picture.marks.items ≡ marks_in (drawn_part history.now picture)) }
     ensures levels { IfOk result (λ picture. AreLevelsOf limits.now (drawn_part history.now picture) picture.levels.items) }
-    ensures columns { IfOk result (λ picture. AreGathered (drawn_part history.now picture) picture.levels.items picture.columns.items) }
+    ensures columns { IfOk result (λ picture. AreGathered (drawn_part history.now picture) picture.levels.items (option_map (λ t. t.now) times.entry) picture.columns.items) }
     ensures areas { IfOk result (λ picture. picture.areas.items ≡ map (λ column. running_at picture.bars.items column.peak) picture.columns.items) }
     ensures illegal { IfOk result (λ picture. option_map (λ i. (i.at, i.event)) picture.illegal ≡ first_illegal picture.stats.verdict history.now) }
 {
@@ -112,10 +125,11 @@ pub fn picture_of(alloc: Global, limits: &Limits, history: &[Event]) -> Result<P
     let events = legal_part(history, stats.verdict);
     let bars = bars_of(alloc, events)?;
     let levels = levels_of(alloc, limits, events)?;
-    let columns = gathered(alloc, events, &levels)?;
+    let columns = gathered(alloc, events, &levels, times)?;
     let areas = areas_of(alloc, &bars, &columns)?;
     Ok(Picture {
         limits: *limits,
+        events: history.len(),
         bars,
         marks: marks_of(alloc, events)?,
         levels,

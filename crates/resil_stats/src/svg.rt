@@ -60,6 +60,13 @@ impl Draft {
         }
     }
 
+    /// Adds a time as data of an element, where there is one.
+    pub(crate) fn put_time(&mut self, name: &str, time: Option<u64>) {
+        if let Some(time) = time {
+            put!(self; r#"{name}="{time}" "#);
+        }
+    }
+
     /// What was made to be written, or that memory ran out for it.
     pub(crate) fn made(&mut self, made: Result<String, AllocError>) -> Option<String> {
         if made.is_err() {
@@ -140,8 +147,9 @@ fn push_rest(text: &mut String, sheet: &Sheet, picture: &Picture) -> Result<(), 
     }
 }
 
-/// The text of a picture, with the results of its jobs. It begins with the number of the events that are drawn; each bar and each
-/// refusal has an element, in their order, or each column where there are columns.
+/// The text of a picture, laid out by the times of its events where they have some, with the results of its jobs. It begins with
+/// the number of the events that are drawn; each bar and each refusal has an element, in their order, or each column where there are
+/// columns.
 ///
 /// # Errors
 ///
@@ -149,14 +157,16 @@ fn push_rest(text: &mut String, sheet: &Sheet, picture: &Picture) -> Result<(), 
 pub fn svg_text(
     alloc: Global,
     picture: &Picture,
+    times: Option<&[u64]>,
     outcomes: &Outcomes,
 ) -> Result<Vec<u8>, AllocError>
     ensures { IfOk result (λ text. IsSvgOf picture.now text.items) }
 {
-    let points = points_of(alloc, picture)?;
+    let page = Page::of(picture, times);
+    let points = points_of(alloc, &page, picture)?;
     let sheet = Sheet {
         alloc,
-        page: Page::of(picture),
+        page,
         points: &points,
         outcomes,
     };

@@ -6,8 +6,9 @@
 
 ghost use Rattle.std.specs.Prelude.{◌≡◌, IfOk, OnOk, string_bytes};
 ghost use Rattle.resil_input.specs.CsvTable.{record_text, table_text};
-ghost use Rattle.resil_stats.specs.Text.{IsExtended, caller_records, callers_records, stats_records, stats_text, total_fields, verdict_fields};
+ghost use Rattle.resil_stats.specs.Text.{IsExtended, caller_records, callers_records, span_fields, spans_records, stats_records, stats_text, total_fields, verdict_fields};
 
+use crate::spans::Spans;
 use crate::stats::{CallerStats, Stats};
 use resil_rule::Verdict;
 use std::alloc::{AllocError, Global};
@@ -19,6 +20,44 @@ fn push_total(alloc: Global, text: &mut String, name: &str, value: usize) -> Res
 {
     let record = format!(in alloc; "{name},,{value}\n")?;
     text.push_str(record.as_str())
+}
+
+// Writes a span of time, or nothing as its value where there is none. Errors: `AllocError` where memory runs out.
+fn push_span(
+    alloc: Global,
+    text: &mut String,
+    name: &str,
+    span: Option<u64>,
+) -> Result<(), AllocError>
+    ensures { OnOk result (IsExtended (string_bytes text.old) (string_bytes text.new) (record_text (span_fields name.now span))) }
+{
+    match span {
+        Some(span) => {
+            let record = format!(in alloc; "{name},,{span}\n")?;
+            text.push_str(record.as_str())
+        }
+        None => {
+            let record = format!(in alloc; "{name},,\n")?;
+            text.push_str(record.as_str())
+        }
+    }
+}
+
+// Writes how long jobs waited and ran, where that is known. Errors: `AllocError` where memory runs out.
+fn push_spans(alloc: Global, text: &mut String, spans: Option<Spans>) -> Result<(), AllocError>
+    ensures { OnOk result (IsExtended (string_bytes text.old) (string_bytes text.new) (table_text (spans_records spans))) }
+{
+    let Some(spans) = spans else {
+        return Ok(());
+    };
+    let (waits, runs) = (spans.waits, spans.runs);
+    push_span(alloc, text, "wait_median", waits.median)?;
+    push_span(alloc, text, "wait_p99", waits.p99)?;
+    push_span(alloc, text, "wait_most", waits.most)?;
+    push_span(alloc, text, "run_median", runs.median)?;
+    push_span(alloc, text, "run_p99", runs.p99)?;
+    push_span(alloc, text, "run_most", runs.most)?;
+    Ok(())
 }
 
 // What one caller submitted. Errors: `AllocError` where memory runs out.
@@ -64,8 +103,13 @@ fn push_verdict(alloc: Global, text: &mut String, verdict: Verdict) -> Result<()
 }
 
 // Writes all numbers. Errors: `AllocError` where memory runs out.
-fn push_numbers(alloc: Global, text: &mut String, stats: &Stats) -> Result<(), AllocError>
-    ensures { OnOk result (IsExtended (string_bytes text.old) (string_bytes text.new) (table_text (stats_records stats.now))) }
+fn push_numbers(
+    alloc: Global,
+    text: &mut String,
+    stats: &Stats,
+    spans: Option<Spans>,
+) -> Result<(), AllocError>
+    ensures { OnOk result (IsExtended (string_bytes text.old) (string_bytes text.new) (table_text (stats_records stats.now spans))) }
 {
     let (counts, most) = (stats.counts, stats.most);
     push_total(alloc, text, "submissions", counts.submissions)?;
@@ -82,24 +126,25 @@ fn push_numbers(alloc: Global, text: &mut String, stats: &Stats) -> Result<(), A
     push_total(alloc, text, "most_running", most.running)?;
     push_total(alloc, text, "most_workers", most.workers)?;
     push_total(alloc, text, "never_started", stats.never_started)?;
+    push_spans(alloc, text, spans)?;
     push_callers(alloc, text, &stats.callers)?;
     push_verdict(alloc, text, stats.verdict)?;
     Ok(())
 }
 
 /// The text of the numbers of a history: the header `name,caller,value`, then a record for each
-/// number of the whole history, with an empty caller; then three for each caller that submitted, by
-/// its number ascending; and at the end the record `verdict,,` with `legal`, or `illegal` and the
-/// position of the first illegal event, from 1.
+/// number of the whole history, with an empty caller, and for six spans of time, in microseconds, where they are known; then three
+/// for each caller that submitted, by its number ascending; and at the end the record `verdict,,` with `legal`, or `illegal` and
+/// the position of the first illegal event, from 1.
 ///
 /// # Errors
 ///
 /// `AllocError` where memory runs out.
-pub fn stats_text(alloc: Global, stats: &Stats) -> Result<Vec<u8>, AllocError>
-    ensures { IfOk result (λ text. text.items ≡ stats_text stats.now) }
+pub fn stats_text(alloc: Global, stats: &Stats, spans: Option<Spans>) -> Result<Vec<u8>, AllocError>
+    ensures { IfOk result (λ text. text.items ≡ stats_text stats.now spans) }
 {
     let mut text = String::from_str(alloc, "name,caller,value\n")?;
-    match push_numbers(alloc, &mut text, stats) {
+    match push_numbers(alloc, &mut text, stats, spans) {
         Ok(()) => Ok(text.into_bytes()),
         Err(error) => Err(error),
     }

@@ -2,7 +2,7 @@
 
 use crate::shared::{assert_that, opened};
 use resil_call::{Call, FromFn, NoPause, RetryPolicy, TellsRefusal};
-use resil_executor::{NoAnswer, Refused, WorkPool, submit_within, work_while};
+use resil_executor::{NoAnswer, Refused, WorkPool, work_while};
 use resil_layers::{CallCounts, Counted, Decorate, Observe};
 use resil_rule::{AdmitError, NoRecord};
 use resil_task::{Answers, Work};
@@ -58,14 +58,7 @@ fn half_of<R: Clock + Wait>(
     number: u32,
     longest: Duration,
 ) -> Result<u32, HalfError> {
-    submit_within(
-        HalfOf(number),
-        pool,
-        rt,
-        alloc,
-        &mut pool.visitor(),
-        longest,
-    )?
+    pool.submit_within(rt, alloc, HalfOf(number), longest)?
 }
 
 /// The half of 14, waited for 5 ms long.

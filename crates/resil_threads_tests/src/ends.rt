@@ -2,7 +2,7 @@
 
 ghost use Rattle.resil_executor.specs.Seats.{IsOf};
 
-use crate::shared::{assert_that, numbers, opened};
+use crate::shared::{assert_that, opened};
 use resil_executor::by_hand::{ExecutorWorker, Look, Looks, Round};
 use resil_executor::{Executor, ExecutorCloser, WorkPool};
 use resil_rule::{AdmitError, NoRecord};
@@ -78,11 +78,7 @@ fn works_that_are_called_off_come_back(rt: HostRuntime) -> Result<(), AdmitError
         matches!(second.wait(&rt), Ok(Err(Echo(2)))),
         "the second one back",
     );
-    assert_that(
-        &rt,
-        numbers(&rt, &pool).finished == 2,
-        "both in the history",
-    );
+    assert_that(&rt, pool.numbers(&rt).finished == 2, "both in the history");
     Ok(())
 }
 
@@ -154,8 +150,7 @@ fn a_smaller_pool_holds_back(rt: HostRuntime) -> Result<(), AdmitError> {
 
 /// Whether all is finished within a millisecond.
 fn is_finished<R: Clock + Wait>(rt: &R, pool: &Executor<Nothing>) -> bool {
-    let mut visitor = pool.visitor();
-    pool.join_for(rt, &mut visitor, Duration::from_millis(1))
+    pool.join_for(rt, Duration::from_millis(1))
 }
 
 /// Whether it is closed.

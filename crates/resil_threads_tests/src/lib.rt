@@ -17,11 +17,15 @@ mod ends;
 #[cfg(test)]
 mod growths;
 #[cfg(test)]
+mod in_time;
+#[cfg(test)]
 mod neighbours;
 #[cfg(test)]
 mod parts;
 #[cfg(test)]
 mod pool;
+#[cfg(test)]
+mod pool_text;
 #[cfg(test)]
 mod pools;
 #[cfg(test)]

@@ -48,7 +48,7 @@ const REFUSED: [(&str, &str, &str); 14] = [
     (
         "[[bulkhead]]|name = 'a'|[[bulkhead]]|name = 'a'",
         "bulkhead 2",
-        "a configuration has that name already",
+        "bulkhead 1 has that name already",
     ),
     ("[[bulkhead]]|name = 'a b'", "bulkhead 1", NAME),
     (

@@ -21,7 +21,7 @@ const LOOKS: u32 = 10_000;
 
 /// Counts the jobs that have ended.
 #[derive(Drop)]
-struct Ended(AtomicU64);
+pub struct Ended(pub AtomicU64);
 
 impl Hook for Ended {
     fn before(&self, _id: Id) {}
@@ -33,7 +33,7 @@ impl Hook for Ended {
 
 impl Ended {
     /// Whether this many have ended by the last look.
-    fn are<R: Clock>(&self, rt: &R, jobs: u64) -> bool {
+    pub fn are<R: Clock>(&self, rt: &R, jobs: u64) -> bool {
         for _ in 0..LOOKS {
             if self.0.load(SeqCst) >= jobs {
                 return true;
@@ -83,7 +83,7 @@ fn do_rounds<R: Abort + Clock + Wait>(
 }
 
 /// A worker works until the pool is closed and no job is left.
-fn work<R: Abort + Wait, H: Hook>(rt: &R, alloc: Global, parts: &Mutex<Parts>, hook: &H) {
+pub fn work<R: Abort + Wait, H: Hook>(rt: &R, alloc: Global, parts: &Mutex<Parts>, hook: &H) {
     let (pool, worker) = parts.lock(rt).worker(rt);
     let mut nobody = Passes::new(rt, &[], Vec::new(alloc));
     let end = pool.work(rt, worker, &mut nobody, hook);

@@ -10,7 +10,7 @@ ghost use Rattle.resil_executor.specs.Seats.{IsOf};
 use resil_admission::{AdmitError, Limits, Verdict, audit};
 use resil_bulkhead::{Bulkhead, Pass};
 use resil_decor::{Chain, DecorError, Job, Layer, Listed, Passes, Plan};
-use resil_executor::{Executor, ExecutorCloser, Numbers};
+use resil_executor::{Executor, ExecutorCloser};
 use resil_retry::{Outcome, RetryError, Script};
 use resil_rule::{AllEvents, Record};
 use resil_workers::{Hook, JobRow, NoHook, Report, RunConfig, RunError, run_jobs};
@@ -207,12 +207,6 @@ pub fn report_under_bulkhead<R: Abort + Threads + Wait + Sync>(
         }
         ran => ran,
     }
-}
-
-/// How a pool stands.
-pub fn numbers<W: Drop, H: Record, R: Wait>(rt: &R, pool: &Executor<W, H>) -> Numbers {
-    let mut visitor = pool.visitor();
-    pool.numbers(rt, &mut visitor)
 }
 
 /// A pool of these sizes, which keeps this record.

@@ -48,13 +48,7 @@ fn serves<R: Threads + Wait + Sync>(
 ) -> bool
     requires mine { IsOf pool.now closer.seat }
 {
-    let Ended { answer, worker: _ } = work_while(
-        rt,
-        pool,
-        closer,
-        20,
-        || are_answered(rt, pool, asked),
-    );
+    let Ended { answer, .. } = work_while(rt, pool, closer, 20, || are_answered(rt, pool, asked));
     matches!(answer, Ok(true))
 }
 
@@ -186,7 +180,7 @@ fn count_beside<R: Threads + Wait + Sync>(
         own: counter,
         keep_alive: 20,
     };
-    let Ended { answer, worker: _ } = work_while_with(
+    let Ended { answer, .. } = work_while_with(
         rt,
         pool,
         closer,

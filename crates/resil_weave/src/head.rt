@@ -12,7 +12,7 @@ ghost use Rattle.resil_weave.specs.Head.{requested_permits, check_permits, weave
 
 use resil_heads::HeadError;
 use resil_heads::document::{check_keys, read_document};
-use resil_heads::forms::{COUNT, Key};
+use resil_heads::forms::{Form, Key};
 use resil_heads::keys::count_at;
 use resil_heads::layers::DEFAULT_PERMITS;
 use resil_permit::MAX_PERMITS;
@@ -20,7 +20,7 @@ use std::alloc::Global;
 use toml::Table;
 
 /// The keys of the head.
-pub const WEAVE_KEYS: &[Key] = &[Key::Optional("permits", COUNT)];
+pub const WEAVE_KEYS: &[Key] = &[Key::Optional("permits", Form::Count(0, 65_535))];
 
 // The permits that the table of a head requests. Errors: `UnknownKey`, `BadValue`.
 fn requested_permits(table: &Table) -> Result<u32, HeadError>

@@ -2,21 +2,36 @@
 use std::error::Error;
 use std::fmt;
 
-/// All permits in use are held.
+/// Why there is no permit. This crate has the two by their own names too.
 ///
 /// ```
-/// assert_eq!(resil::Full.to_string(), "the bulkhead is full");
+/// use resil::{Bulkhead, Closed, Full, NoPermit};
+///
+/// let backend = Bulkhead::new("backend", 0)?;
+/// assert_eq!(backend.call(|| 42), Err(Full));
+/// backend.close();
+/// assert_eq!(backend.call(|| 42), Err(NoPermit::Closed));
+/// assert_eq!(Closed.to_string(), "the bulkhead is closed");
+/// # Ok::<(), resil::BulkheadError>(())
 /// ```
 #[derive(Debug, Clone, Copy, PartialEq, Eq)]
-pub struct Full;
+pub enum NoPermit {
+    /// All permits in use are held.
+    Full,
+    /// The bulkhead is [closed](crate::Bulkhead::close).
+    Closed,
+}
 
-impl fmt::Display for Full {
+impl fmt::Display for NoPermit {
     fn fmt(&self, f: &mut fmt::Formatter<'_>) -> fmt::Result {
-        f.write_str("the bulkhead is full")
+        f.write_str(match self {
+            NoPermit::Full => "the bulkhead is full",
+            NoPermit::Closed => "the bulkhead is closed",
+        })
     }
 }
 
-impl Error for Full {}
+impl Error for NoPermit {}
 
 /// Why there is no bulkhead or no pass; where more than one holds, the first of these.
 ///

@@ -1,6 +1,6 @@
 //! What a bulkhead tells its observer, where it has one: who takes a permit and gives it back passes here.
 use super::Bulkhead;
-use super::error::Full;
+use super::error::NoPermit;
 use super::seats::{Place, Stamp};
 use crate::observer::Watch;
 use std::mem;
@@ -8,13 +8,16 @@ use std::mem;
 impl Bulkhead {
     /// Takes a permit for a call. By the seat of the thread nobody is asked, since no observed bulkhead has such seats.
     #[inline]
-    pub(super) fn enter_place(&self) -> Result<Place, Full> {
+    pub(super) fn enter_place(&self) -> Result<Place, NoPermit> {
+        if self.is_closed() {
+            return self.told(Err(NoPermit::Closed));
+        }
         self.seats.acquire_or(|number| self.enter_elsewhere(number))
     }
 
     // Those without an observer are on their way at once.
     #[cold]
-    fn enter_elsewhere(&self, number: usize) -> Result<Place, Full> {
+    fn enter_elsewhere(&self, number: usize) -> Result<Place, NoPermit> {
         match &self.observer {
             None => self.seats.acquire_spare(number),
             Some(watch) => self.enter_observed(watch, number),
@@ -22,7 +25,7 @@ impl Bulkhead {
     }
 
     #[inline(never)]
-    fn enter_observed(&self, watch: &Watch, number: usize) -> Result<Place, Full> {
+    fn enter_observed(&self, watch: &Watch, number: usize) -> Result<Place, NoPermit> {
         self.tell(watch, self.seats.acquire_observed(number))
     }
 
@@ -54,7 +57,7 @@ impl Bulkhead {
 
     /// Tells that a call has a permit, or that it is refused.
     #[inline]
-    pub(super) fn told(&self, acquired: Result<Place, Full>) -> Result<Place, Full> {
+    pub(super) fn told(&self, acquired: Result<Place, NoPermit>) -> Result<Place, NoPermit> {
         match &self.observer {
             None => acquired,
             Some(watch) => self.tell(watch, acquired),
@@ -62,31 +65,22 @@ impl Bulkhead {
     }
 
     #[inline]
-    fn tell(&self, watch: &Watch, acquired: Result<Place, Full>) -> Result<Place, Full> {
+    fn tell(&self, watch: &Watch, acquired: Result<Place, NoPermit>) -> Result<Place, NoPermit> {
         match acquired {
             Ok(place) => Ok(self.permitted(watch, place)),
-            Err(full) => {
+            Err(refused) => {
                 watch.observer.call_refused(&watch.name);
-                Err(full)
+                Err(refused)
             }
-        }
-    }
-
-    /// Tells that a call has this permit, which was given to it while it waited.
-    #[inline]
-    pub(super) fn awaited(&self, place: Place) -> Place {
-        match &self.observer {
-            None => place,
-            Some(watch) => self.permitted(watch, place),
         }
     }
 
     // The time of the call begins once the observer is told.
     #[inline]
     fn permitted(&self, watch: &Watch, place: Place) -> Place {
-        let untold = Untold(self, place);
+        let held = Held(self, place);
         watch.observer.call_permitted(&watch.name);
-        mem::forget(untold);
+        let place = held.keep();
         match (place, watch.nanoseconds()) {
             (Place::Elsewhere(stamp), Some(now)) => Place::Elsewhere(stamp.at(now)),
             _ => place,
@@ -94,10 +88,19 @@ impl Bulkhead {
     }
 }
 
-/// A permit that is given back where the observer panics.
-struct Untold<'a>(&'a Bulkhead, Place);
+/// A permit that is given back where what comes before its keeping panics, as an observer or a waker may.
+pub(super) struct Held<'a>(pub(super) &'a Bulkhead, pub(super) Place);
 
-impl Drop for Untold<'_> {
+impl Held<'_> {
+    #[inline]
+    pub(super) fn keep(self) -> Place {
+        let place = self.1;
+        mem::forget(self);
+        place
+    }
+}
+
+impl Drop for Held<'_> {
     fn drop(&mut self) {
         self.0.release(self.1);
     }

@@ -5,12 +5,17 @@
 //! permit is free, and takes one for a task that has come meanwhile. A thread that leaves hands on what else is free, since more
 //! than one permit may have been meant for it.
 use super::Bulkhead;
+use super::error::NoPermit;
+use super::observed::Held;
 use super::permit::OwnedPermit;
 use super::seats::Place;
+use super::tickets::Tickets;
 use crate::lock::locked;
-use std::collections::VecDeque;
+use std::collections::BTreeMap;
 use std::fmt;
 use std::mem;
+use std::ops::Range;
+use std::panic::{AssertUnwindSafe, catch_unwind, resume_unwind};
 use std::pin::Pin;
 use std::sync::Arc;
 use std::sync::atomic::Ordering;
@@ -19,180 +24,285 @@ use std::task::{Context, Poll, Waker};
 /// What the gate's lock keeps.
 #[derive(Default)]
 pub(super) struct Row {
-    // In the order of their tickets. The first `given` of them have a permit, which they are to fetch; the others wait for one.
-    tasks: VecDeque<Task>,
-    given: usize,
+    // By their tickets, so in the order in which they came: who waits for a permit, and who was given one, which is to be fetched.
+    // Who awaits several has as many tickets one after the other, and is woken by the last.
+    waiting: Tickets<Option<Waker>>,
+    given: BTreeMap<u64, Place>,
     tickets: u64,
+    /// The permits that are retired, each where it was held or taken. A thread whose seat has one goes by a spare pass meanwhile.
+    pub(super) retired: Vec<Place>,
+    /// How many are to be retired as they are given back. They count among what is wanted.
+    pub(super) owed: u32,
     /// How many threads wait.
     pub(super) threads: usize,
     // Whether it is a thread's turn where tasks wait too.
     is_threads_turn: bool,
 }
 
-struct Task {
-    ticket: u64,
-    state: State,
-}
-
-enum State {
-    Waits(Waker),
-    Given(Place),
-}
-
-/// Who is to be woken once the gate's lock is let go.
-pub(super) enum Woken {
-    Thread,
-    Task(Waker),
-    Nobody,
-}
-
 impl Row {
-    fn has_waiting_tasks(&self) -> bool {
-        self.given < self.tasks.len()
+    // Has a task stand at the end for so many permits, at least one, and gives its tickets.
+    fn push(&mut self, count: u32, waker: Waker) -> Range<u64> {
+        let first = self.tickets + 1;
+        self.tickets += u64::from(count);
+        (first..self.tickets).for_each(|other| self.waiting.push(other, None));
+        self.waiting.push(self.tickets, Some(waker));
+        first..self.tickets + 1
     }
 
-    // Has a task stand at the end, and gives its ticket.
-    fn push(&mut self, waker: Waker) -> u64 {
-        self.tickets += 1;
-        self.tasks.push_back(Task {
-            ticket: self.tickets,
-            state: State::Waits(waker),
-        });
-        self.tickets
+    /// How many permits are retired.
+    pub(super) fn retired(&self) -> u32 {
+        u32::try_from(self.retired.len()).unwrap_or(u32::MAX)
     }
 
-    // Where the task of a ticket stands.
-    fn index(&self, ticket: u64) -> usize {
-        let index = self.tasks.binary_search_by_key(&ticket, |task| task.ticket);
-        index.expect("a task stands in the row until it fetches its permit or leaves")
+    /// Has all leave who wait, and gives what wakes them: a ticket that isn't there is of a closed bulkhead.
+    pub(super) fn dismiss(&mut self) -> Vec<Waker> {
+        let all = mem::take(&mut self.waiting);
+        all.into_values().flatten().collect()
     }
+}
 
-    fn remove(&mut self, index: usize) -> Option<State> {
-        self.given -= usize::from(index < self.given);
-        self.tasks.remove(index).map(|task| task.state)
+/// Wakes all of them, also where a waker panics, and so does this then.
+pub(super) fn wake_all(wakers: impl IntoIterator<Item = Waker>) {
+    let mut panicked = None;
+    for waker in wakers {
+        if let Err(payload) = catch_unwind(AssertUnwindSafe(|| waker.wake())) {
+            // The drop of a payload may panic again.
+            mem::forget(panicked.replace(payload));
+        }
+    }
+    if let Some(payload) = panicked {
+        resume_unwind(payload);
     }
 }
 
 impl Bulkhead {
-    /// Sees to the next who waits, as a permit was given back.
-    pub(super) fn next_of(&self, row: &mut Row) -> Woken {
-        if row.threads > 0 && (row.is_threads_turn || !row.has_waiting_tasks()) {
+    /// Sees to the next who waits, as a permit was given back. One that waits has the gate from its try to its sleep.
+    #[cold]
+    pub(super) fn wake(&self) {
+        let mut row = locked(&self.gate);
+        self.pay(&mut row);
+        if row.threads > 0 && (row.is_threads_turn || row.waiting.is_empty()) {
             row.is_threads_turn = false;
-            return Woken::Thread;
+            drop(row);
+            self.freed.notify_one();
+            return;
         }
         row.is_threads_turn = true;
-        self.hand_on(row).map_or(Woken::Nobody, Woken::Task)
+        let waker = self.hand_on(&mut row);
+        drop(row);
+        wake_all(waker);
     }
 
-    /// Passes a permit on to the first task, where it is one's turn, and says whether it did.
+    /// Retires a permit where one is owed, or passes it on to the first task, where it is one's turn, and says whether it did.
     #[cold]
     pub(super) fn pass_on(&self, place: Place) -> bool {
         let mut row = locked(&self.gate);
-        if row.threads > 0 && row.is_threads_turn {
+        if row.owed > 0 {
+            self.cancel(&mut row, 1);
+            row.retired.push(place);
+            return true;
+        }
+        if row.waiting.is_empty() || row.threads > 0 && row.is_threads_turn {
             return false;
         }
-        let Some(waker) = self.give(&mut row, place) else {
-            return false;
-        };
+        let waker = self.give(&mut row, place);
         row.is_threads_turn = true;
         drop(row);
-        waker.wake();
+        wake_all(waker);
         true
     }
 
-    /// Takes a permit for the first task, where there is both, and gives what wakes it.
+    /// Takes permits for the first task, where there is both, and gives what wakes it once it has all that it awaits.
     pub(super) fn hand_on(&self, row: &mut Row) -> Option<Waker> {
-        if !row.has_waiting_tasks() {
-            return None;
+        self.pay(row);
+        let mut waker = None;
+        while waker.is_none() && !row.waiting.is_empty() {
+            let place = self.seats.acquire().ok()?;
+            waker = self.give(row, place);
         }
-        let place = self.seats.acquire().ok()?;
-        self.give(row, place)
+        waker
     }
 
-    // Gives a permit to the first task that waits, and gives what wakes it.
+    /// How many threads and tasks wait.
+    pub(super) fn waiting(&self, row: &Row) -> usize {
+        self.wanted.load(Ordering::SeqCst) - row.owed as usize
+    }
+
+    // Gives a permit to the first task that waits, and gives what wakes it where it has all that it awaits.
     fn give(&self, row: &mut Row, place: Place) -> Option<Waker> {
-        let first = row.tasks.get_mut(row.given)?;
-        let State::Waits(waker) = mem::replace(&mut first.state, State::Given(place)) else {
-            unreachable!("the tasks behind those that were given a permit wait");
-        };
-        row.given += 1;
-        self.waiting.fetch_sub(1, Ordering::SeqCst);
-        Some(waker)
+        let (ticket, waker) = row.waiting.pop_first()?;
+        row.given.insert(ticket, place);
+        let is_last = usize::from(waker.is_some());
+        self.wanted.fetch_sub(is_last, Ordering::SeqCst);
+        waker
     }
 
-    // Takes a permit where nobody waits.
+    // Takes a permit where nobody waits, or has a task stand at the end of the row. Nobody overtakes the tasks that stand there.
     #[inline]
-    fn acquire_at_once(&self) -> Option<Place> {
-        if self.waiting.load(Ordering::SeqCst) > 0 {
-            return None;
+    fn ask(
+        &self,
+        tickets: &mut Range<u64>,
+        waker: &Waker,
+        most_waiting: usize,
+    ) -> Result<Option<Place>, NoPermit> {
+        if self.is_closed() {
+            return Err(NoPermit::Closed);
         }
-        self.seats.acquire().ok()
+        if self.wanted.load(Ordering::SeqCst) == 0 {
+            if let Ok(place) = self.seats.acquire() {
+                return Ok(Some(place));
+            }
+        }
+        if self.stand(tickets, 1, waker, most_waiting)? {
+            return self.fetch(tickets.start, waker);
+        }
+        Ok(None)
     }
 
-    // Takes a permit, or a ticket for a place at the end of the row. Nobody overtakes the tasks that stand there.
-    fn acquire_or_stand(&self, waker: &Waker) -> Result<Place, u64> {
+    /// Has a task stand in the row for so many permits, unless too many do, and says whether it has been given all, as the first may be.
+    pub(super) fn stand(
+        &self,
+        tickets: &mut Range<u64>,
+        count: u32,
+        waker: &Waker,
+        most_waiting: usize,
+    ) -> Result<bool, NoPermit> {
         // Wakers are made and dropped outside of the lock.
         let waker = waker.clone();
         let mut row = locked(&self.gate);
-        self.waiting.fetch_add(1, Ordering::SeqCst);
-        if !row.has_waiting_tasks() {
-            if let Ok(place) = self.seats.acquire() {
-                self.waiting.fetch_sub(1, Ordering::SeqCst);
-                return Ok(place);
-            }
+        if self.is_closed() {
+            return Err(NoPermit::Closed);
         }
-        Err(row.push(waker))
+        if count > self.max {
+            return Err(NoPermit::Full);
+        }
+        if count == 0 {
+            return Ok(true);
+        }
+        self.wanted.fetch_add(1, Ordering::SeqCst);
+        let is_first = row.waiting.is_empty();
+        *tickets = row.push(count, waker);
+        let mut own = None;
+        if is_first {
+            own = self.hand_on(&mut row);
+        }
+        let has_all = own.is_some();
+        let is_full = !has_all && self.waiting(&row) > most_waiting;
+        if is_full {
+            own = self.remove(&mut row, mem::take(tickets));
+        }
+        drop(row);
+        drop(own);
+        if is_full {
+            Err(NoPermit::Full)
+        } else {
+            Ok(has_all)
+        }
+    }
+
+    /// Has a task stand in the row for so many permits, and fetches them once it was given all; else this waker wakes it from here on.
+    pub(super) fn fetch_many(
+        &self,
+        tickets: &mut Range<u64>,
+        count: u32,
+        waker: &Waker,
+    ) -> Result<Option<Vec<Held<'_>>>, NoPermit> {
+        if tickets.is_empty() && !self.stand(tickets, count, waker, usize::MAX)? {
+            return Ok(None);
+        }
+        let Some(last) = tickets.clone().last() else {
+            return Ok(Some(Vec::new()));
+        };
+        let Some(fetched) = self.fetch(last, waker).transpose() else {
+            return Ok(None);
+        };
+        let last = fetched.map(|place| Held(self, place));
+        // Of a closed bulkhead they are given back.
+        let mut held = self.fetch_given(tickets.clone());
+        held.push(last?);
+        Ok(Some(held))
     }
 
     // Fetches the permit that was given to a task; else this waker wakes it from here on.
-    fn fetch(&self, ticket: u64, waker: &Waker) -> Option<Place> {
+    fn fetch(&self, ticket: u64, waker: &Waker) -> Result<Option<Place>, NoPermit> {
         // As above.
         let mut new = None;
         loop {
             let mut row = locked(&self.gate);
-            let index = row.index(ticket);
-            match (&mut row.tasks[index].state, &mut new) {
-                (State::Given(place), _) => {
-                    let place = *place;
-                    row.remove(index);
-                    return Some(place);
-                }
-                (State::Waits(old), _) if old.will_wake(waker) => return None,
-                (State::Waits(old), Some(new)) => {
-                    mem::swap(old, new);
-                    return None;
-                }
-                (State::Waits(_), None) => {}
+            let given = row.given.remove(&ticket);
+            if given.is_some() {
+                return Ok(given);
+            }
+            let Some(Some(old)) = row.waiting.get_mut(ticket) else {
+                return Err(NoPermit::Closed);
+            };
+            if old.will_wake(waker) {
+                return Ok(None);
+            }
+            if let Some(new) = &mut new {
+                mem::swap(old, new);
+                return Ok(None);
             }
             drop(row);
             new = Some(waker.clone());
         }
     }
 
-    // Leaves the row. What was given to it meanwhile is given back.
-    fn leave(&self, ticket: u64) {
+    // Fetches the permits that were given to these tickets.
+    fn fetch_given(&self, tickets: Range<u64>) -> Vec<Held<'_>> {
         let mut row = locked(&self.gate);
-        let index = row.index(ticket);
-        let left = row.remove(index);
-        if let Some(State::Waits(_)) = left {
-            self.waiting.fetch_sub(1, Ordering::SeqCst);
+        let given = tickets.filter_map(|ticket| row.given.remove(&ticket));
+        given.map(|place| Held(self, place)).collect()
+    }
+
+    /// Leaves the row with these tickets. What was given to them meanwhile is given back.
+    #[inline]
+    pub(super) fn leave(&self, tickets: Range<u64>) {
+        if !tickets.is_empty() {
+            self.leave_row(tickets);
         }
-        drop(row);
-        if let Some(State::Given(place)) = left {
-            self.release(place);
-        }
+    }
+
+    fn leave_row(&self, tickets: Range<u64>) {
+        let waker = self.remove(&mut locked(&self.gate), tickets.clone());
+        drop(self.fetch_given(tickets));
+        drop(waker);
+    }
+
+    // Removes who waits by these tickets, and gives its waker.
+    fn remove(&self, row: &mut Row, tickets: Range<u64>) -> Option<Waker> {
+        let remove = |ticket| row.waiting.remove(ticket).flatten();
+        let waker = tickets.filter_map(remove).last();
+        let is_there = usize::from(waker.is_some());
+        self.wanted.fetch_sub(is_there, Ordering::SeqCst);
+        waker
     }
 }
 
-/// A permit that is awaited. [`Bulkhead::acquire`] makes it.
+/// A permit that is awaited, or why there is none. [`Bulkhead::acquire`] makes it.
 ///
 /// It may be dropped at any time: it leaves the row, and a permit that it was given goes to the next.
+///
+/// ```
+/// use std::pin::pin;
+/// use std::sync::Arc;
+/// use std::task::{Context, Poll, Waker};
+///
+/// let backend = Arc::new(resil::Bulkhead::new("backend", 1)?);
+/// let mut context = Context::from_waker(Waker::noop());
+/// let Poll::Ready(permit) = pin!(backend.acquire()).poll(&mut context) else {
+///     unreachable!("a permit is free");
+/// };
+/// assert_eq!(permit.map(drop), Ok(()));
+/// # Ok::<(), resil::BulkheadError>(())
+/// ```
 #[must_use = "a future that isn't polled does nothing"]
 pub struct Acquire {
-    // None once it has a permit, which has it then.
-    bulkhead: Option<Arc<Bulkhead>>,
-    // Of its place in the row, from the first poll until it has a permit.
-    ticket: Option<u64>,
+    // None once it was ready.
+    pub(super) bulkhead: Option<Arc<Bulkhead>>,
+    // Of its places in the row: none before the first poll, and once it is ready.
+    pub(super) tickets: Range<u64>,
+    most_waiting: usize,
 }
 
 impl Acquire {
@@ -200,45 +310,86 @@ impl Acquire {
     pub(super) fn new(bulkhead: Arc<Bulkhead>) -> Acquire {
         Acquire {
             bulkhead: Some(bulkhead),
-            ticket: None,
+            tickets: 0..0,
+            most_waiting: usize::MAX,
         }
+    }
+
+    /// The same, which doesn't wait where so many calls wait already, threads among them: then it is refused at once, by `Full`.
+    ///
+    /// ```
+    /// use std::pin::pin;
+    /// use std::sync::Arc;
+    /// use std::task::{Context, Poll, Waker};
+    ///
+    /// let backend = Arc::new(resil::Bulkhead::new("backend", 1)?);
+    /// let permit = backend.enter()?;
+    /// let mut context = Context::from_waker(Waker::noop());
+    /// let mut first = pin!(backend.acquire().most_waiting(1));
+    /// assert!(first.as_mut().poll(&mut context).is_pending());
+    /// let second = pin!(backend.acquire().most_waiting(1)).poll(&mut context);
+    /// assert!(matches!(second, Poll::Ready(Err(resil::Full))));
+    /// # drop(permit);
+    /// # Ok::<(), Box<dyn std::error::Error>>(())
+    /// ```
+    pub fn most_waiting(mut self, most: usize) -> Acquire {
+        self.most_waiting = most;
+        self
+    }
+
+    /// Leaves the row as a drop does, and tells the bulkhead's observer that a call was refused, by `Full`.
+    ///
+    /// ```
+    /// use std::sync::Arc;
+    ///
+    /// let backend = Arc::new(resil::Bulkhead::new("backend", 1)?);
+    /// assert_eq!(backend.acquire().give_up(), resil::Full);
+    /// # Ok::<(), resil::BulkheadError>(())
+    /// ```
+    pub fn give_up(&mut self) -> NoPermit {
+        if let Some(own) = self.bulkhead.take() {
+            own.leave(mem::take(&mut self.tickets));
+            let _told = own.told(Err(NoPermit::Full));
+        }
+        NoPermit::Full
     }
 }
 
 impl Future for Acquire {
-    type Output = OwnedPermit;
+    type Output = Result<OwnedPermit, NoPermit>;
 
     /// # Panics
     ///
     /// Where it is polled once more after it was ready.
     #[inline]
-    fn poll(mut self: Pin<&mut Self>, context: &mut Context<'_>) -> Poll<OwnedPermit> {
-        let Acquire { bulkhead, ticket } = &mut *self;
+    fn poll(mut self: Pin<&mut Self>, context: &mut Context<'_>) -> Poll<Self::Output> {
+        let Acquire {
+            bulkhead,
+            tickets,
+            most_waiting,
+        } = &mut *self;
         let own = bulkhead.as_ref();
         let own = own.expect("a permit was awaited after it was there");
-        let place = match *ticket {
-            Some(ticket) => own.fetch(ticket, context.waker()),
-            None => own.acquire_at_once().or_else(|| {
-                let stands = own.acquire_or_stand(context.waker());
-                *ticket = stands.err();
-                stands.ok()
-            }),
+        let asked = if tickets.is_empty() {
+            own.ask(tickets, context.waker(), *most_waiting)
+        } else {
+            own.fetch(tickets.start, context.waker())
         };
-        let Some(place) = place else {
+        let Some(asked) = asked.transpose() else {
             return Poll::Pending;
         };
-        *ticket = None;
-        let place = own.awaited(place);
-        let permit = bulkhead.take().map(|own| OwnedPermit::new(own, place));
-        permit.map_or(Poll::Pending, Poll::Ready)
+        *tickets = 0..0;
+        let asked = own.told(asked);
+        let own = bulkhead.take().expect("it is there until here");
+        Poll::Ready(asked.map(|place| OwnedPermit::new(own, place)))
     }
 }
 
 impl Drop for Acquire {
     #[inline]
     fn drop(&mut self) {
-        if let (Some(ticket), Some(bulkhead)) = (self.ticket, &self.bulkhead) {
-            bulkhead.leave(ticket);
+        if let Some(bulkhead) = &self.bulkhead {
+            bulkhead.leave(mem::take(&mut self.tickets));
         }
     }
 }

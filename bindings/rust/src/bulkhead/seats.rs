@@ -6,7 +6,7 @@
 //! permits.
 //!
 //! An observed bulkhead has its seats apart, so that one that isn't observed doesn't ask whether it is.
-use super::error::{BulkheadError, Full};
+use super::error::{BulkheadError, NoPermit};
 use crate::lock::locked;
 use crate::pass::Pass;
 use crate::thread_number::{self, MOST_PLACES, PLACES};
@@ -54,7 +54,7 @@ impl Seat {
     //
     // SAFETY: this thread has taken the seat.
     #[inline]
-    unsafe fn acquire(&self) -> Result<(), Full> {
+    unsafe fn acquire(&self) -> Result<(), NoPermit> {
         // SAFETY: as is asked of the caller.
         match unsafe { (*self.pass.get()).acquire() } {
             Ok(()) => Ok(()),
@@ -161,7 +161,7 @@ impl Seats {
 
     /// Takes a permit, and says where it is held.
     #[inline]
-    pub(super) fn acquire(&self) -> Result<Place, Full> {
+    pub(super) fn acquire(&self) -> Result<Place, NoPermit> {
         self.acquire_or(|number| self.acquire_elsewhere(number))
     }
 
@@ -170,8 +170,8 @@ impl Seats {
     #[inline]
     pub(super) fn acquire_or(
         &self,
-        elsewhere: impl FnOnce(usize) -> Result<Place, Full>,
-    ) -> Result<Place, Full> {
+        elsewhere: impl FnOnce(usize) -> Result<Place, NoPermit>,
+    ) -> Result<Place, NoPermit> {
         let number = thread_number::current();
         match self.plain.get(number) {
             Some(seat) if seat.take() => {
@@ -184,13 +184,13 @@ impl Seats {
     }
 
     #[cold]
-    fn acquire_elsewhere(&self, number: usize) -> Result<Place, Full> {
+    fn acquire_elsewhere(&self, number: usize) -> Result<Place, NoPermit> {
         self.acquire_observed(number)
     }
 
     /// Takes a permit by a seat of an observed bulkhead, or else by a spare pass.
     #[inline]
-    pub(super) fn acquire_observed(&self, number: usize) -> Result<Place, Full> {
+    pub(super) fn acquire_observed(&self, number: usize) -> Result<Place, NoPermit> {
         match self.observed.get(number) {
             Some(seat) if seat.take() => {
                 // SAFETY: this thread has taken the seat.
@@ -203,7 +203,7 @@ impl Seats {
 
     /// Takes a permit by a spare pass.
     #[inline]
-    pub(super) fn acquire_spare(&self, number: usize) -> Result<Place, Full> {
+    pub(super) fn acquire_spare(&self, number: usize) -> Result<Place, NoPermit> {
         let index = number % self.spare.len();
         self.spare(index).acquire()?;
         Ok(Place::Elsewhere(Stamp::new(MOST_PLACES + index)))

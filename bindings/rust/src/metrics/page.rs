@@ -79,8 +79,9 @@ impl Page {
     ) {
         self.family("counter", head, all, |page, name, own, counted| {
             for (kind, count) in counts(counted) {
-                let labels = format_args!("kind=\"{kind}\",name=\"{own}\"");
-                page.line(format_args!("{name}{{{labels}}} {count}"));
+                page.line(format_args!(
+                    "{name}{{kind=\"{kind}\",name=\"{own}\"}} {count}"
+                ));
             }
         });
     }
@@ -126,10 +127,11 @@ impl Page {
     }
 }
 
-const BULKHEAD_GAUGES: [&str; 4] = [
+const BULKHEAD_GAUGES: [&str; 5] = [
     "resilience4j_bulkhead_available_concurrent_calls The number of available permissions",
     "resilience4j_bulkhead_max_allowed_concurrent_calls The maximum number of available permissions",
     "resil_bulkhead_retired_permits The number of permits that are retired",
+    "resil_bulkhead_owed_permits The number of permits that are retired once they are given back",
     "resil_bulkhead_waiting_calls The number of calls that wait for a permit",
 ];
 
@@ -150,6 +152,7 @@ pub(super) fn write_bulkheads(page: &mut Page, bulkheads: &[Arc<Bulkhead>]) {
             numbers.available.into(),
             numbers.max.saturating_sub(numbers.retired).into(),
             numbers.retired.into(),
+            numbers.owed.into(),
             numbers.waiting as u64,
         ];
         (bulkhead.name(), gauges)

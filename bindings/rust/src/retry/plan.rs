@@ -20,6 +20,13 @@ struct More {
 }
 
 /// How far a call has come: for loops of one's own, as a policy of a client's. [`Retry::begin`](crate::Retry::begin) makes it.
+///
+/// ```
+/// let retry = resil::Retry::new();
+/// let (mut attempts, failed) = (retry.begin(), Err::<&u32, _>(&"busy"));
+/// assert!(retry.wait_after(&mut attempts, failed).is_some());
+/// assert_eq!(attempts.count(), 2);
+/// ```
 #[derive(Debug, Clone)]
 pub struct Attempts {
     // The attempt that was made last, from 1.

@@ -15,6 +15,8 @@ use std::fmt;
 pub enum PoolError {
     /// The pool's name has a byte 0, which no thread's name may have.
     NulInName,
+    /// The record of a pool isn't for 1 to 25,000 events.
+    RecordOutOfRange,
     /// The core size isn't from 1 to 64.
     CoreOutOfRange,
     /// The greatest size isn't from the core size to 64; of a resize, to that at making.
@@ -37,6 +39,7 @@ impl fmt::Display for PoolError {
     fn fmt(&self, f: &mut fmt::Formatter<'_>) -> fmt::Result {
         f.write_str(match self {
             PoolError::NulInName => "the name has a byte 0",
+            PoolError::RecordOutOfRange => "the record is not for 1 to 25000 events",
             PoolError::CoreOutOfRange => "the core size is not from 1 to 64",
             PoolError::MaxOutOfRange => {
                 "the greatest size is not from the core size to the largest one allowed"

@@ -5,11 +5,11 @@
 //! the greatest size; a thread doesn't pick then while as many jobs run as the greatest size, and holds back.
 use super::inside::Caller;
 use super::joins::{Joins, Threads};
-use super::task::{Function, Task, Work};
-use crate::rule::{JobId, Origin, Picked, PoolError, PoolNumbers, PoolRule, Reply};
+use super::task::Work;
+use crate::record::{Noted, Part, RecordedRule};
+use crate::rule::{JobId, Origin, Picked, PoolError, PoolNumbers, Reply};
 use std::collections::VecDeque;
 use std::mem;
-use std::sync::Arc;
 use std::thread::{JoinHandle, ThreadId};
 
 // The submissions of a pool are those of one caller of its rule, counted under the lock.
@@ -28,7 +28,7 @@ struct Queued {
 }
 
 pub(super) struct Book {
-    rule: PoolRule,
+    rule: RecordedRule,
     submitted: u64,
     // The jobs that wait in the rule's queue, and how many more are in there that were given back.
     queue: VecDeque<Queued>,
@@ -71,7 +71,7 @@ fn room<T>(count: usize) -> Result<VecDeque<T>, PoolError> {
 }
 
 impl Book {
-    pub(super) fn new(mut rule: PoolRule) -> Result<Book, PoolError> {
+    pub(super) fn new(mut rule: RecordedRule) -> Result<Book, PoolError> {
         let PoolNumbers { max, capacity, .. } = rule.numbers();
         let max = max as usize;
         Ok(Book {
@@ -98,15 +98,22 @@ impl Book {
         })
     }
 
-    /// Submits a share of a task, which comes back where it is refused. Where a thread is to start for it, it is picked
-    /// as the first job of that thread.
-    pub(super) fn submit<T, F>(&mut self, task: Arc<Task<T, F>>) -> (Reply, Option<Arc<Task<T, F>>>)
-    where
-        T: Send,
-        F: Function<T> + Send,
-    {
+    /// Begins a turn at this time of a recorded pool.
+    #[inline]
+    pub(super) fn begin_turn(&mut self, at: Option<u64>) {
+        self.rule.begin_turn(at);
+    }
+
+    /// What was recorded up to here, where the pool is recorded.
+    pub(super) fn begin_part(&mut self, memory: Vec<Noted>) -> Option<Part> {
+        self.rule.begin_part(memory)
+    }
+
+    /// Submits a worker's share of a task, by its number. Where a thread is to start for it, it is picked as the first job of
+    /// that thread.
+    pub(super) fn submit(&mut self, work: u64) -> Reply {
         self.submitted += 1;
-        let (number, work) = (self.submitted, task.number());
+        let number = self.submitted;
         let id = JobId {
             caller: CALLER,
             number,
@@ -114,20 +121,16 @@ impl Book {
         let reply = self.rule.submit(id, work);
         let reply = reply.expect("the one caller counts its submissions");
         match reply {
-            Reply::Full | Reply::Closed => return (reply, Some(task)),
-            Reply::Queued => {
-                task.into_share();
-                self.queue.push_back(Queued { number, work });
-            }
+            Reply::Full | Reply::Closed => {}
+            Reply::Queued => self.queue.push_back(Queued { number, work }),
             Reply::Core | Reply::Extra => {
-                task.into_share();
                 self.threads += 1;
                 self.running += 1;
                 let first = self.pick_by_rule();
                 self.firsts.extend(first);
             }
         }
-        (reply, None)
+        reply
     }
 
     /// The first job of a thread that starts.

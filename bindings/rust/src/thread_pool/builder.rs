@@ -1,13 +1,14 @@
 //! The sizes of a pool that is to be opened.
 use super::ThreadPool;
 use super::book::Book;
-use super::crew::{Crew, Kind};
+use super::crew::{Crew, Kind, Recorded};
 use crate::observer::{Observer, Watch};
+use crate::record::{MOST_EVENTS, RecordedRule};
 use crate::rule::{PoolError, PoolRule, QUEUE};
 use std::fmt;
 use std::panic::{RefUnwindSafe, UnwindSafe};
 use std::sync::Arc;
-use std::time::Duration;
+use std::time::{Duration, Instant};
 
 // How long an idle thread above the core size stays, where nothing else is said: Resilience4j's `keepAliveDuration`.
 const KEEP_ALIVE: Duration = Duration::from_millis(20);
@@ -32,6 +33,7 @@ pub struct ThreadPoolBuilder {
     max: u32,
     queue: u32,
     kind: Kind,
+    record: Option<u32>,
     observer: Option<Arc<dyn Observer>>,
 }
 
@@ -47,6 +49,7 @@ impl ThreadPoolBuilder {
                 stack_size: None,
                 start: |builder, work| builder.spawn(work),
             },
+            record: None,
             observer: None,
         }
     }
@@ -129,6 +132,29 @@ impl ThreadPoolBuilder {
         self
     }
 
+    /// Has the pool record what happens, for [`history`](ThreadPool::history): up to so many events at a time, 1 to 25,000, for which
+    /// the memory is taken at the opening, 24 bytes each. Nothing is recorded where this isn't called.
+    ///
+    /// An event is noted while the pool's lock is held, by the call of the rule that makes it, so the order is that of the
+    /// decisions: each submission with its reply, also where it is refused, each take from the queue, the finish of each job, also of
+    /// one that panicked or was given back, each idle end, each resize and the closing. Its time is read before the lock is taken,
+    /// in microseconds since the opening, and never goes back. Where there are more events than that the record ends until the
+    /// next call of `history`, whose text says how many are missing; the pool goes on.
+    ///
+    /// ```
+    /// let pool = resil::ThreadPool::builder(1, 1).record(10_000).open()?;
+    /// pool.submit(|| ())?.wait()?;
+    /// let history = pool.history().expect("the pool is recorded");
+    /// let events = history.lines().filter(|line| !line.starts_with('#')).skip(5);
+    /// let names: Vec<_> = events.filter_map(|event| event.split(',').next()).collect();
+    /// assert_eq!(names, ["submit", "finish"]);
+    /// # Ok::<(), Box<dyn std::error::Error>>(())
+    /// ```
+    pub fn record(mut self, events: u32) -> Self {
+        self.record = Some(events);
+        self
+    }
+
     /// What starts the threads.
     #[cfg(test)]
     pub(super) fn start(mut self, start: super::crew::Start) -> Self {
@@ -140,9 +166,9 @@ impl ThreadPoolBuilder {
     ///
     /// # Errors
     ///
-    /// In this order: `NulInName` where the name has a byte 0; `CoreOutOfRange` where the core size isn't from 1 to 64;
-    /// `MaxOutOfRange` where the greatest size isn't from the core size to 64; `QueueOutOfRange`; `Memory` where there is
-    /// none for the library's pool or the queue. What else is taken here and for each job, some hundred bytes, is taken as
+    /// In this order: `NulInName` where the name has a byte 0; `RecordOutOfRange`; `CoreOutOfRange` where the core size isn't from
+    /// 1 to 64; `MaxOutOfRange` where the greatest size isn't from the core size to 64; `QueueOutOfRange`; `Memory` where there is
+    /// none for the library's pool, the record or the queue. What else is taken here and for each job, some hundred bytes, is taken as
     /// everywhere in Rust: the process ends where it can't be had.
     ///
     /// ```
@@ -155,15 +181,23 @@ impl ThreadPoolBuilder {
         if self.kind.name.contains('\0') {
             return Err(PoolError::NulInName);
         }
+        if !(1..=MOST_EVENTS).contains(&self.record.unwrap_or(1)) {
+            return Err(PoolError::RecordOutOfRange);
+        }
         let rule = PoolRule::builder(self.core, self.max)
             .queue(self.queue)
             .open()?;
-        let book = Book::new(rule)?;
+        let events = self.record.map(|events| events as usize);
+        let book = Book::new(RecordedRule::new(rule, events)?)?;
         let watch = self.observer.map(|observer| {
             let own = observer.of_pool(&self.kind.name);
             Arc::new(Watch::new(&self.kind.name, observer, own))
         });
-        let crew = Crew::new(book, self.kind);
+        let recorded = events.map(|events| Recorded {
+            opened: Instant::now(),
+            events,
+        });
+        let crew = Crew::new(book, self.kind, recorded);
         Ok(ThreadPool::new(Arc::new(crew), watch))
     }
 }
@@ -185,6 +219,7 @@ impl fmt::Debug for ThreadPoolBuilder {
             .field("queue", &self.queue)
             .field("keep_alive", &self.kind.keep_alive)
             .field("stack_size", &self.kind.stack_size)
+            .field("record", &self.record)
             .finish()
     }
 }

@@ -1,11 +1,13 @@
 //! A pool as its submitters see it: how jobs come in, how threads are started and called, and how all of it ends.
 use super::book::{Book, Job};
+use super::door::Door;
 use super::handle::JobHandle;
 use super::inside::{self, Caller, Running};
 use super::refused::{Refusal, Refused};
-use super::task::{Function, HandOut, Task, Worker};
+use super::task::{Function, HandOut, Made, Worker};
 use super::unstarted::Unstarted;
 use crate::lock::{locked, sleep};
+use crate::record::memory_for;
 use crate::rule::{Picked, PoolError, PoolNumbers, Reply};
 use std::io;
 use std::sync::atomic::{AtomicBool, Ordering};
@@ -21,6 +23,9 @@ pub(super) type Guard<'a> = MutexGuard<'a, Book>;
 /// The threads of a pool, and the book that they share.
 pub(super) struct Crew {
     book: Mutex<Book>,
+    /// Where submitters wait that find the book taken, and where workers do that have run a job.
+    pub(super) submitters: Door,
+    pub(super) workers: &'static Door,
     /// Something was submitted while a thread searched.
     pub(super) found: AtomicBool,
     /// Where threads sleep that have no job.
@@ -28,6 +33,16 @@ pub(super) struct Crew {
     /// Where those sleep that join.
     pub(super) quiet: Condvar,
     pub(super) kind: Kind,
+    // Where it is recorded.
+    recorded: Option<Recorded>,
+}
+
+/// What is known of a record without the lock: when the pool was opened, and for how many events there is room. Each turn reads it,
+/// so it has a cache line that nobody writes to.
+#[repr(align(64))]
+pub(super) struct Recorded {
+    pub(super) opened: Instant,
+    pub(super) events: usize,
 }
 
 /// What the threads of a pool are like.
@@ -40,13 +55,16 @@ pub(super) struct Kind {
 }
 
 impl Crew {
-    pub(super) fn new(book: Book, kind: Kind) -> Crew {
+    pub(super) fn new(book: Book, kind: Kind, recorded: Option<Recorded>) -> Crew {
         Crew {
             book: Mutex::new(book),
+            submitters: Door::of_submitters(),
+            workers: Door::of_workers(),
             found: AtomicBool::new(false),
             bell: Condvar::new(),
             quiet: Condvar::new(),
             kind,
+            recorded,
         }
     }
 
@@ -55,27 +73,24 @@ impl Crew {
         T: Send + 'static,
         F: Function<T> + Send + 'static,
     {
-        let task = Task::new(function);
-        let share = Arc::clone(&task);
-        let mut book = self.lock();
-        let (reply, back) = book.submit(share);
+        let task = Made::new(function);
+        let mut book = self.turn(|book| self.submitters.lock(book));
+        let reply = book.submit(task.number());
         let reason = match reply {
             Reply::Core | Reply::Extra => {
                 drop(book);
                 self.start_thread();
-                return Ok(JobHandle::new(reply, task));
+                return Ok(JobHandle::new(reply, task.into_held(), self.workers));
             }
             Reply::Queued => {
                 self.see_to_queue(book);
-                return Ok(JobHandle::new(reply, task));
+                return Ok(JobHandle::new(reply, task.into_held(), self.workers));
             }
             Reply::Full => Refusal::Full,
             Reply::Closed => Refusal::Closed,
         };
         drop(book);
-        drop(back);
         let function = task.into_function();
-        let function = function.expect("a refused task is the submitter's alone");
         Err(Refused { reason, function })
     }
 
@@ -119,6 +134,13 @@ impl Crew {
 
     pub(super) fn numbers(&self) -> PoolNumbers {
         self.lock().numbers()
+    }
+
+    /// The text of what was recorded up to here, where the pool is recorded.
+    pub(super) fn history(&self) -> Option<String> {
+        let memory = memory_for(self.recorded.as_ref()?.events).ok()?;
+        let part = self.lock().begin_part(memory);
+        part.map(|part| part.text())
     }
 
     /// Waits until a join is done, and joins the threads of a closed pool. None of both waits for this thread.
@@ -168,7 +190,27 @@ impl Crew {
     }
 
     pub(super) fn lock(&self) -> Guard<'_> {
-        locked(&self.book)
+        self.turn(locked)
+    }
+
+    /// Takes the lock for a worker that has run a job.
+    pub(super) fn lock_at_door(&self) -> Guard<'_> {
+        self.turn(|book| self.workers.lock(book))
+    }
+
+    // Takes the lock for a turn. Its time is read before, while nobody waits for it.
+    fn turn<'a>(&'a self, lock: impl FnOnce(&'a Mutex<Book>) -> Guard<'a>) -> Guard<'a> {
+        let at = self.now();
+        let mut book = lock(&self.book);
+        book.begin_turn(at);
+        book
+    }
+
+    /// The time since a recorded pool was opened, in microseconds.
+    #[inline]
+    pub(super) fn now(&self) -> Option<u64> {
+        let time = self.recorded.as_ref()?.opened.elapsed();
+        Some(time.as_secs() * 1_000_000 + u64::from(time.subsec_micros()))
     }
 
     // Sees to it that what was queued is picked: by a thread that searches or sleeps, else by the next that has

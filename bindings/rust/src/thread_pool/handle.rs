@@ -1,11 +1,11 @@
 //! What a caller has of a job that was accepted.
+use super::door::Door;
 use super::error::JobError;
-use super::task::Answer;
+use super::task::Held;
 use crate::rule::Reply;
 use std::fmt;
 use std::panic::{RefUnwindSafe, UnwindSafe};
 use std::pin::Pin;
-use std::sync::Arc;
 use std::task::{Context, Poll};
 use std::time::{Duration, Instant};
 
@@ -26,12 +26,17 @@ use std::time::{Duration, Instant};
 #[must_use = "a job runs without its handle, but its answer is lost"]
 pub struct JobHandle<T> {
     reply: Reply,
-    task: Arc<dyn Answer<T>>,
+    held: Held<T>,
+    workers: &'static Door,
 }
 
 impl<T> JobHandle<T> {
-    pub(super) fn new(reply: Reply, task: Arc<dyn Answer<T>>) -> JobHandle<T> {
-        JobHandle { reply, task }
+    pub(super) fn new(reply: Reply, held: Held<T>, workers: &'static Door) -> JobHandle<T> {
+        JobHandle {
+            reply,
+            held,
+            workers,
+        }
     }
 
     /// The reply to the submission: `Core`, `Queued` or `Extra`.
@@ -69,7 +74,7 @@ impl<T> JobHandle<T> {
         self.is_not_given();
         loop {
             // SAFETY: the handle is this call's, and it ends with the answer.
-            if let Some(answer) = unsafe { self.task.wait(None) } {
+            if let Some(answer) = unsafe { self.held.task().wait(self.workers, None) } {
                 return answer;
             }
         }
@@ -101,13 +106,16 @@ impl<T> JobHandle<T> {
         match Instant::now().checked_add(limit) {
             None => Ok(self.wait()),
             // SAFETY: the handle is this call's, which keeps it where there is an answer.
-            deadline => unsafe { self.task.wait(deadline) }.ok_or(self),
+            deadline => unsafe { self.held.task().wait(self.workers, deadline) }.ok_or(self),
         }
     }
 
     // A handle gives its answer once.
     fn is_not_given(&self) {
-        assert!(!self.task.is_given(), "a job was asked after its answer");
+        assert!(
+            !self.held.task().is_given(),
+            "a job was asked after its answer"
+        );
     }
 
     /// Whether the answer is there.
@@ -121,7 +129,7 @@ impl<T> JobHandle<T> {
     /// ```
     #[must_use]
     pub fn is_finished(&self) -> bool {
-        self.task.is_there()
+        self.held.task().is_there()
     }
 }
 
@@ -147,7 +155,11 @@ impl<T> Future for JobHandle<T> {
     fn poll(self: Pin<&mut Self>, context: &mut Context<'_>) -> Poll<Self::Output> {
         self.is_not_given();
         // SAFETY: the handle is this call's alone, and hasn't given the answer.
-        unsafe { self.task.poll(context.waker()) }
+        let answer = unsafe { self.held.task().poll(context.waker()) };
+        if answer.is_pending() {
+            self.workers.call_in();
+        }
+        answer
     }
 }
 

@@ -34,6 +34,14 @@ impl<T, F: FnOnce() -> T> Function<T> for Observed<F> {
     }
 }
 
+// Tells what has happened to a submission, whose outcome is the submitter's whatever the observer does.
+fn quietly(tell: impl FnOnce()) {
+    if let Err(payload) = catch_unwind(AssertUnwindSafe(tell)) {
+        // The drop of a payload may panic again.
+        std::mem::forget(payload);
+    }
+}
+
 /// Submits a function to the crew of an observed pool.
 pub(super) fn submit<T, F>(
     crew: &Arc<Crew>,
@@ -51,11 +59,11 @@ where
     });
     match submitted {
         Ok(job) => {
-            watch.observer.job_accepted(&watch.name, job.reply());
+            quietly(|| watch.observer.job_accepted(&watch.name, job.reply()));
             Ok(job)
         }
         Err(Refused { reason, function }) => {
-            watch.observer.job_refused(&watch.name, reason);
+            quietly(|| watch.observer.job_refused(&watch.name, reason));
             let function = function.function;
             Err(Refused { reason, function })
         }

@@ -3,27 +3,29 @@
 //! The worker has the function, and writes the answer before it says `ANSWERED`; the handle reads the answer after it
 //! has seen that. One that finds no answer writes who it is before it says `AWAITED`, and sleeps; the worker that finds
 //! this wakes it. So nothing is locked. A worker knows a task by its address, which is the work that the rule keeps.
+//!
+//! Each of the two says when it reaches the task for the last time, the worker with the answer where it wakes nobody. The one that
+//! finds that the other has left frees the task.
+use super::door::Door;
 use super::error::JobError;
+use super::patience;
 use std::cell::UnsafeCell;
-use std::hint;
 use std::mem::ManuallyDrop;
 use std::panic::{AssertUnwindSafe, catch_unwind};
-use std::ptr;
-use std::sync::Arc;
-use std::sync::atomic::{AtomicU8, Ordering};
+use std::ptr::{self, NonNull};
+use std::sync::atomic::{self, AtomicBool, AtomicU8, Ordering};
 use std::task::{Poll, Waker};
 use std::thread::{self, Thread};
 use std::time::Instant;
-
-/// How often a handle looks for its answer before it sleeps.
-const LOOKS: u32 = 100;
 
 // The answer is written.
 const ANSWERED: u8 = 1;
 // The waiter is written, and the handle sleeps.
 const AWAITED: u8 = 2;
-// The handle has taken the answer.
-const GIVEN: u8 = 4;
+// The worker reaches the task no more.
+const WORKER_LEFT: u8 = 4;
+// The handle reaches the task no more.
+const HANDLE_LEFT: u8 = 8;
 
 /// What a task runs: a function, or one that is observed.
 pub(super) trait Function<T> {
@@ -48,15 +50,22 @@ pub(super) trait Worker {
 /// An answer that is written and is to be handed out, where somebody asks for it.
 pub(super) struct HandOut<'a> {
     state: Option<&'a AtomicU8>,
-    awaited: bool,
+    // What the state was before.
+    before: u8,
 }
 
 impl HandOut<'_> {
-    /// Hands the answer out, once.
+    /// Hands the answer out, once. Where nobody is to be woken the worker has left.
     pub(super) fn hand_out(&mut self) {
-        if let Some(state) = self.state.take() {
-            self.awaited = state.fetch_or(ANSWERED, Ordering::AcqRel) & AWAITED != 0;
-        }
+        let Some(state) = self.state.take() else {
+            return;
+        };
+        let after = |before: u8| {
+            let is_last = before & AWAITED == 0;
+            Some(before | ANSWERED | if is_last { WORKER_LEFT } else { 0 })
+        };
+        let before = state.fetch_update(Ordering::AcqRel, Ordering::Relaxed, after);
+        self.before = before.unwrap_or_else(|state| state);
     }
 }
 
@@ -111,7 +120,7 @@ struct Header {
 union Body<T, F> {
     // From the making until a worker starts.
     function: ManuallyDrop<F>,
-    // From `ANSWERED` until `GIVEN`.
+    // From `ANSWERED` until it is given.
     answer: ManuallyDrop<Result<T, JobError>>,
 }
 
@@ -122,6 +131,8 @@ pub(super) struct Task<T, F> {
     state: AtomicU8,
     // Whether the function was taken; the worker's, and after it the drop's.
     started: UnsafeCell<bool>,
+    // Whether the handle has taken the answer.
+    given: AtomicBool,
     // The handle's while it isn't `AWAITED`, and then the worker's.
     waiter: UnsafeCell<Option<Waiter>>,
     // The worker's until it is `ANSWERED`, and then the handle's.
@@ -134,54 +145,66 @@ unsafe impl<T: Send, F: Send> Send for Task<T, F> {}
 // SAFETY: as for `Send`.
 unsafe impl<T: Send, F: Send> Sync for Task<T, F> {}
 
-impl<T, F> Task<T, F>
+/// A task that its submitter alone has. Where it is accepted, it becomes a worker's and a handle's.
+pub(super) struct Made<T, F>(NonNull<Task<T, F>>);
+
+impl<T, F> Made<T, F>
 where
-    T: Send,
-    F: Function<T> + Send,
+    T: Send + 'static,
+    F: Function<T> + Send + 'static,
 {
-    pub(super) fn new(function: F) -> Arc<Task<T, F>> {
-        Arc::new(Task {
+    pub(super) fn new(function: F) -> Made<T, F> {
+        let task = Box::new(Task {
             header: Header {
                 end: Task::<T, F>::end,
             },
             state: AtomicU8::new(0),
             started: UnsafeCell::new(false),
+            given: AtomicBool::new(false),
             waiter: UnsafeCell::new(None),
             body: UnsafeCell::new(Body {
                 function: ManuallyDrop::new(function),
             }),
-        })
+        });
+        Made(NonNull::from(Box::leak(task)))
     }
 
-    /// The number by which a worker knows it.
-    pub(super) fn number(self: &Arc<Self>) -> u64 {
-        Arc::as_ptr(self).expose_provenance() as u64
+    /// The number by which a worker knows it. Where it is accepted, that is the worker's share, which is given up by
+    /// [`Work::run`] or [`Work::cancel`].
+    pub(super) fn number(&self) -> u64 {
+        self.0.as_ptr().expose_provenance() as u64
     }
 
-    /// Makes this a worker's share of it, which is given up by [`Work::run`] or [`Work::cancel`].
-    pub(super) fn into_share(self: Arc<Self>) {
-        let _address = Arc::into_raw(self);
+    /// The handle's share of a task that is accepted.
+    pub(super) fn into_held(self) -> Held<T> {
+        Held(self.0)
     }
 
-    /// The function of a task that nobody shares, where it wasn't run.
-    pub(super) fn into_function(self: Arc<Self>) -> Option<F> {
-        let mut task = Arc::into_inner(self)?;
-        if std::mem::replace(task.started.get_mut(), true) {
-            return None;
-        }
+    /// The function of a task that is refused.
+    pub(super) fn into_function(self) -> F {
+        // SAFETY: it is a box that was leaked, and no share of it was given away.
+        let mut task = unsafe { Box::from_raw(self.0.as_ptr()) };
+        *task.started.get_mut() = true;
         // SAFETY: it wasn't started, so the function is there; `started` says that it is taken now.
-        Some(unsafe { ManuallyDrop::take(&mut task.body.get_mut().function) })
+        unsafe { ManuallyDrop::take(&mut task.body.get_mut().function) }
     }
+}
 
-    // SAFETY: the header is that of a task of these types, of which this call has a share; no other call of it was
+impl<T, F> Task<T, F>
+where
+    T: Send,
+    F: Function<T> + Send,
+{
+    // SAFETY: the header is that of a task of these types, whose worker's share is this call's; no other call of it was
     // made.
     unsafe fn end(header: *const Header, fate: Fate, worker: &mut dyn Worker) {
-        // SAFETY: the share was made by `Arc::into_raw` of a task of these types, and is this call's.
-        let task = unsafe { Arc::from_raw(header.cast::<Task<T, F>>()) };
-        // SAFETY: one call starts the task, so the function is there, and nobody else reaches it.
-        let function = unsafe {
-            *task.started.get() = true;
-            ManuallyDrop::take(&mut (*task.body.get()).function)
+        let task = header.cast::<Task<T, F>>().cast_mut();
+        // SAFETY: the task is there until the worker has left, which is below. One call starts it, so the function is
+        // there, and nobody else reaches it.
+        let (function, state) = unsafe {
+            *(*task).started.get() = true;
+            let function = ManuallyDrop::take(&mut (*(*task).body.get()).function);
+            (function, &(*task).state)
         };
         let answer = match fate {
             Fate::Called => {
@@ -193,30 +216,38 @@ where
             }
         };
         // Where the handle is gone, nobody asks for the answer.
-        let asked = Arc::strong_count(&task) > 1;
+        let asked = state.load(Ordering::Relaxed) & HANDLE_LEFT == 0;
         let mut out = HandOut {
-            state: asked.then_some(&task.state),
-            awaited: false,
+            state: asked.then_some(state),
+            before: HANDLE_LEFT,
         };
         if asked {
             // SAFETY: it isn't answered yet, so the body is this call's.
-            unsafe { (*task.body.get()).answer = ManuallyDrop::new(answer) };
+            unsafe { (*(*task).body.get()).answer = ManuallyDrop::new(answer) };
         } else {
             drop_quietly(answer);
         }
         worker.end(&mut out);
         out.hand_out();
-        if out.awaited {
-            // SAFETY: it was awaited when it was answered, so the waiter is this call's.
-            let waiter = unsafe { (*task.waiter.get()).take() };
+        let mut before = out.before;
+        if before & AWAITED != 0 {
+            // SAFETY: it was awaited when it was answered, so the waiter is this call's, which leaves behind that.
+            let waiter = unsafe {
+                let waiter = (*(*task).waiter.get()).take();
+                before = (*task).state.fetch_or(WORKER_LEFT, Ordering::AcqRel);
+                waiter
+            };
             waiter.into_iter().for_each(Waiter::wake);
         }
         // The handle may have gone meanwhile, and left the answer here, or a waker before.
-        if let Some(task) = Arc::into_inner(task) {
+        if before & HANDLE_LEFT != 0 {
             if asked {
                 worker.before_drop();
             }
-            drop_quietly(task);
+            // What the handle did comes before this.
+            atomic::fence(Ordering::Acquire);
+            // SAFETY: it is a box that was leaked, and the handle had left it when the worker did.
+            drop_quietly(unsafe { Box::from_raw(task) });
         }
     }
 }
@@ -224,12 +255,12 @@ where
 impl<T, F> Drop for Task<T, F> {
     fn drop(&mut self) {
         let state = *self.state.get_mut();
-        let started = *self.started.get_mut();
+        let (started, given) = (*self.started.get_mut(), *self.given.get_mut());
         let body = self.body.get_mut();
         if !started {
             // SAFETY: the function wasn't taken.
             unsafe { ManuallyDrop::drop(&mut body.function) };
-        } else if state & (ANSWERED | GIVEN) == ANSWERED {
+        } else if state & ANSWERED != 0 && !given {
             // SAFETY: the answer is there, and wasn't taken.
             unsafe { ManuallyDrop::drop(&mut body.answer) };
         }
@@ -276,12 +307,13 @@ impl Work {
 
 /// What a handle does with a task.
 pub(super) trait Answer<T>: Send + Sync {
-    /// The answer, once it is there; none where it isn't at the deadline.
+    /// The answer, once it is there; none where it isn't at the deadline. While it looks for it, it calls in those that sleep at
+    /// this door.
     ///
     /// # Safety
     ///
     /// One thread at a time calls it, and none once it has given the answer.
-    unsafe fn wait(&self, deadline: Option<Instant>) -> Option<Result<T, JobError>>;
+    unsafe fn wait(&self, door: &Door, deadline: Option<Instant>) -> Option<Result<T, JobError>>;
 
     /// The answer, where it is there; else the waker is woken once it is.
     ///
@@ -289,6 +321,9 @@ pub(super) trait Answer<T>: Send + Sync {
     ///
     /// As for `wait`.
     unsafe fn poll(&self, waker: &Waker) -> Poll<Result<T, JobError>>;
+
+    /// The state of the task.
+    fn state(&self) -> &AtomicU8;
 
     /// Whether the answer was given.
     fn is_given(&self) -> bool;
@@ -298,9 +333,9 @@ pub(super) trait Answer<T>: Send + Sync {
 }
 
 impl<T: Send, F: Send> Answer<T> for Task<T, F> {
-    unsafe fn wait(&self, deadline: Option<Instant>) -> Option<Result<T, JobError>> {
+    unsafe fn wait(&self, door: &Door, deadline: Option<Instant>) -> Option<Result<T, JobError>> {
         // SAFETY: as is asked of the caller.
-        if !self.is_there() && !unsafe { self.sleep(deadline) } {
+        if !self.is_there() && !unsafe { self.sleep(door, deadline) } {
             return None;
         }
         // SAFETY: it is answered, and the answer wasn't given before.
@@ -316,8 +351,12 @@ impl<T: Send, F: Send> Answer<T> for Task<T, F> {
         Poll::Pending
     }
 
+    fn state(&self) -> &AtomicU8 {
+        &self.state
+    }
+
     fn is_given(&self) -> bool {
-        self.state.load(Ordering::Relaxed) & GIVEN != 0
+        self.given.load(Ordering::Relaxed)
     }
 
     fn is_there(&self) -> bool {
@@ -330,7 +369,7 @@ impl<T: Send, F: Send> Task<T, F> {
     //
     // SAFETY: it is there, and wasn't given.
     unsafe fn give(&self) -> Result<T, JobError> {
-        self.state.store(ANSWERED | GIVEN, Ordering::Relaxed);
+        self.given.store(true, Ordering::Relaxed);
         // SAFETY: it is answered, so the body is the handle's, and the answer wasn't taken before.
         unsafe { ManuallyDrop::take(&mut (*self.body.get()).answer) }
     }
@@ -353,12 +392,13 @@ impl<T: Send, F: Send> Task<T, F> {
     // Sleeps until there is an answer, and says whether there is.
     //
     // SAFETY: one thread at a time calls it.
-    unsafe fn sleep(&self, deadline: Option<Instant>) -> bool {
-        for _ in 0..LOOKS {
-            if self.is_there() {
-                return true;
-            }
-            hint::spin_loop();
+    unsafe fn sleep(&self, door: &Door, deadline: Option<Instant>) -> bool {
+        let looks = || {
+            door.call_in();
+            self.is_there()
+        };
+        if patience::looks(deadline, looks) {
+            return true;
         }
         // SAFETY: as is asked of the caller.
         if unsafe { self.is_answered_or_wakes(Waiter::Thread(thread::current())) } {
@@ -376,5 +416,36 @@ impl<T: Send, F: Send> Task<T, F> {
             }
         }
         true
+    }
+}
+
+/// A handle's share of a task.
+pub(super) struct Held<T>(NonNull<dyn Answer<T>>);
+
+// SAFETY: it is a reference to an `Answer`, which is `Sync`, and frees it at most, which is `Send`.
+unsafe impl<T> Send for Held<T> {}
+// SAFETY: as for `Send`.
+unsafe impl<T> Sync for Held<T> {}
+
+impl<T> Held<T> {
+    pub(super) fn task(&self) -> &dyn Answer<T> {
+        // SAFETY: the task is there until the handle has left, which is its drop.
+        unsafe { self.0.as_ref() }
+    }
+}
+
+impl<T> Drop for Held<T> {
+    fn drop(&mut self) {
+        let state: *const AtomicU8 = self.task().state();
+        // SAFETY: the task is there until the last of these two steps, by which the handle leaves. From there on nothing of it
+        // is borrowed.
+        let is_last = unsafe {
+            (*state).load(Ordering::Acquire) & WORKER_LEFT != 0
+                || (*state).fetch_or(HANDLE_LEFT, Ordering::AcqRel) & WORKER_LEFT != 0
+        };
+        if is_last {
+            // SAFETY: it is a box that was leaked, and the worker had left it when the handle did.
+            drop(unsafe { Box::from_raw(self.0.as_ptr()) });
+        }
     }
 }

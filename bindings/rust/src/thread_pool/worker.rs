@@ -39,7 +39,7 @@ impl Crew {
             next = match next {
                 Next::Run(job) => self.run(job),
                 Next::Search => self.search(),
-                Next::Sleep => self.sleep(self.lock()),
+                Next::Sleep => self.sleep(self.lock_at_door()),
                 Next::End => return,
             };
         }
@@ -72,6 +72,9 @@ impl Crew {
 
     // Looks for a moment whether something is submitted.
     fn search(&self) -> Next {
+        // Who sleeps at a door may have work for this thread.
+        self.submitters.call_in();
+        self.workers.call_in();
         for _ in 0..LOOKS {
             if self.found.load(Ordering::Relaxed) {
                 break;
@@ -140,6 +143,7 @@ impl Crew {
         if book.alarms == alarms {
             book.held -= holds;
         }
+        book.begin_turn(self.now());
         (book, called)
     }
 }
@@ -155,7 +159,7 @@ struct Member<'a> {
 impl Worker for Member<'_> {
     fn end(&mut self, out: &mut HandOut<'_>) {
         self.running.is_finished();
-        let mut book = self.crew.lock();
+        let mut book = self.crew.lock_at_door();
         self.crew.finish(&self.picked, out, &mut book);
         self.next = self.crew.next(&mut book);
     }

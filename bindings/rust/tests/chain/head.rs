@@ -125,7 +125,9 @@ impl Reader<'_> {
     }
 
     fn section(&mut self) -> Result<Section, String> {
-        match self.take_while(|next| next != '\n').trim() {
+        // TOML allows blanks and quotes about a name.
+        let header = self.take_while(|next| next != '\n');
+        match &*header.replace([' ', '"'], "") {
             "[[layer]]" => Ok(Section::Layer),
             "[permits]" => Ok(Section::Permits),
             other => Err(format!("an unknown section {other}")),

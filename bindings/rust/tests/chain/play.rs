@@ -27,6 +27,7 @@ impl Kind {
     fn of(error: CallError<Kind>) -> Kind {
         match error {
             CallError::Full => Kind::Full,
+            CallError::Closed => unreachable!("no bulkhead of a chain is closed"),
             CallError::Failed(kind) => kind,
         }
     }

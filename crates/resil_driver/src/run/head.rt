@@ -17,12 +17,12 @@ ghost use Rattle.resil_driver.specs.Run.Head.{parse_run, run_head_of};
 
 use resil_admission::Limits;
 use resil_decor::Chain;
-use resil_heads::HeadError;
 use resil_heads::document::read_document;
 use resil_heads::keys::count_at;
 use resil_heads::layers::{build_chain, parse_chain};
 use resil_heads::run::RUN_KEYS;
 use resil_heads::sizes::parse_limits;
+use resil_heads::{HeadError, HeadFault};
 use resil_registry::Registry;
 use std::alloc::Global;
 use std::marker::Model;
@@ -55,7 +55,7 @@ impl Model for RunHead {
 
 // What the table of a head says. Errors: as for `read_head`, but for `BadToml`.
 #[tactic(auto, unfolding(crate::specs::Run::Head::parse_run, resil_heads::specs::Layers::parse_chain))]
-fn parse_run(alloc: Global, head: &Table) -> Result<RunHead, HeadError>
+fn parse_run(alloc: Global, head: &Table) -> Result<RunHead, HeadFault>
     ensures answer { Gives result (parse_run (table_view head.now)) }
     ensures in_range { IfOk result (λ said. AreLimits said.limits) }
 {
@@ -94,5 +94,5 @@ pub fn read_head(alloc: Global, head: &[u8]) -> Result<RunHead, HeadError>
     ensures permits_in_range { IfOk result (λ said. ArePermitsInRange said.bulkheads) }
 {
     let table = read_document(alloc, head)?;
-    parse_run(alloc, &table)
+    Ok(parse_run(alloc, &table)?)
 }

@@ -8,7 +8,7 @@ ghost use Rattle.std.specs.Prelude.{◌≡◌};
 ghost use Rattle.resil_heads.specs.Checks.{GivesBy};
 ghost use Rattle.resil_heads.specs.LayerBuild.{build_interval, build_retry, build_layer, build_layers};
 
-use crate::error::HeadError;
+use crate::error::{HeadError, HeadFault, Part};
 use crate::layers::bulkheads::obtained;
 use crate::layers::values::{IntervalSpec, LayerSpec, RetrySpec};
 use resil_decor::Layer;
@@ -71,12 +71,15 @@ pub(super) fn build_layers(
     alloc: Global,
     registry: &mut Registry<u16>,
     asked: Vec<LayerSpec>,
-) -> Result<Vec<Layer>, HeadError>
+) -> Result<Vec<Layer>, HeadFault>
     ensures { GivesBy (λ layers. record { layers = layers.items; lists = registry.new }) result (build_layers registry.old asked.entry.items) }
 {
     let mut layers = Vec::new(alloc);
     for said in asked {
-        layers.push(build_layer(registry, said)?)?;
+        match build_layer(registry, said) {
+            Ok(layer) => layers.push(layer)?,
+            Err(why) => return Err(HeadFault::new(Part::Layer(layers.len()), why)),
+        }
     }
     Ok(layers)
 }

@@ -14,7 +14,7 @@ ghost use Rattle.resil_heads.specs.ByteOrder.{IsByteOrder, in_byte_order};
 ghost use Rattle.resil_heads.specs.Keys.{each};
 ghost use Rattle.resil_heads.specs.LayerBulkheads.{permits_in, parse_permits, parse_config, registry_error, unconfigured, with_configuration, configured, obtained};
 
-use crate::error::HeadError;
+use crate::error::{HeadError, HeadFault, Part};
 use crate::keys::{HeadText, parse_integer, parse_table, value_at};
 use resil_registry::{Registry, RegistryError};
 use std::alloc::Global;
@@ -48,16 +48,18 @@ fn parse_permits(value: &Value) -> Result<u16, HeadError>
 }
 
 // The configurations in a table, in byte order of their names. Errors: `BadValue`, `Memory`.
-fn configs_in<'a>(alloc: Global, table: &'a Table) -> Result<Vec<ConfigSpec<'a>>, HeadError>
+fn configs_in<'a>(alloc: Global, table: &'a Table) -> Result<Vec<ConfigSpec<'a>>, HeadFault>
     ensures { GivesBy (λ said. said.items) result (each parse_config (in_byte_order (table_view table.now))) }
 {
     let mut said = Vec::new(alloc);
     'entries: for (name, value) in table.iter() {
-        let permits = parse_permits(value)?;
-        said.push(ConfigSpec {
-            name: HeadText::new(name.as_str()),
-            permits,
-        })?;
+        match parse_permits(value) {
+            Ok(permits) => {
+                let name = HeadText::new(name.as_str());
+                said.push(ConfigSpec { name, permits })?;
+            }
+            Err(why) => return Err(HeadFault::new(Part::Configuration(said.len()), why)),
+        }
     }
     Ok(said)
 }
@@ -67,7 +69,7 @@ fn configs_in<'a>(alloc: Global, table: &'a Table) -> Result<Vec<ConfigSpec<'a>>
 pub(crate) fn parse_configs<'a>(
     alloc: Global,
     permits: Option<&'a Table>,
-) -> Result<Vec<ConfigSpec<'a>>, HeadError>
+) -> Result<Vec<ConfigSpec<'a>>, HeadFault>
     ensures { GivesBy (λ said. said.items) result (each parse_config (in_byte_order (option_map_or (λ table. table_view table.now) permits.entry no_members))) }
 {
     match permits {
@@ -101,14 +103,18 @@ fn add_configuration(registry: &mut Registry<u16>, said: ConfigSpec) -> Result<(
 
 /// A registry with the default configuration and these. Errors: that of the first configuration
 /// that can't be added; `Memory`.
-pub(crate) fn configured(alloc: Global, said: Vec<ConfigSpec>) -> Result<Registry<u16>, HeadError>
+pub(crate) fn configured(alloc: Global, said: Vec<ConfigSpec>) -> Result<Registry<u16>, HeadFault>
     ensures { Gives result (configured unconfigured said.entry.items) }
 {
     let Ok(mut registry) = Registry::new(alloc, DEFAULT_PERMITS) else {
-        return Err(HeadError::Memory);
+        return Err(HeadFault::new(Part::Head, HeadError::Memory));
     };
+    let mut place = 0usize;
     for configuration in said {
-        add_configuration(&mut registry, configuration)?;
+        match add_configuration(&mut registry, configuration) {
+            Ok(()) => place = place.saturating_add(1),
+            Err(why) => return Err(HeadFault::new(Part::Configuration(place), why)),
+        }
     }
     Ok(registry)
 }

@@ -13,8 +13,8 @@ ghost use Rattle.resil_heads.specs.Keys.{each};
 ghost use Rattle.resil_heads.specs.LayerValues.{kind_in, backoff_in, keys_in, check_layer, check_layers, parse_interval, parse_error_test, parse_retry, parse_bulkhead, parse_fallback, parse_layer, requested_layers};
 
 use crate::document::{check_known, check_required};
-use crate::error::HeadError;
-use crate::forms::{COUNT, Form, Key, WAIT};
+use crate::error::{HeadError, HeadFault, Part};
+use crate::forms::{Form, Key};
 use crate::keys::{
     HeadText, count_at, flag_at, fraction_at, kinds_at, parse_integer, parse_text, required,
     result_test_at, tables_at, text_at, value_at, wait_at,
@@ -26,15 +26,15 @@ use toml::Table;
 
 const KIND: Key = Key::Required("kind", Form::Layer);
 
-const ATTEMPTS: Key = Key::Optional("attempts", COUNT);
+const ATTEMPTS: Key = Key::Optional("attempts", Form::Count(1, 1_000));
 
-const INTERVAL: Key = Key::Optional("interval", WAIT);
+const INTERVAL: Key = Key::Optional("interval", Form::Wait);
 
 const BACKOFF: Key = Key::Optional("backoff", Form::Backoff);
 
 const MULTIPLIER: Key = Key::Optional("multiplier", Form::Fraction);
 
-const CAP: Key = Key::Optional("cap", WAIT);
+const CAP: Key = Key::Optional("cap", Form::Wait);
 
 const RETRY_ON: Key = Key::Optional("retry_on", Form::Kinds);
 
@@ -230,11 +230,15 @@ fn check_layer(stage: Stage, layer: &Table) -> Result<(), HeadError>
 }
 
 // Checks all layers at a stage. Errors: that of the first layer that fails.
-fn check_layers(stage: Stage, layers: &[&Table]) -> Result<(), HeadError>
+fn check_layers(stage: Stage, layers: &[&Table]) -> Result<(), HeadFault>
     ensures { Gives result (check_layers stage (map (λ layer. table_view layer.now) layers.now)) }
 {
+    let mut place = 0usize;
     for layer in layers {
-        check_layer(stage, layer)?;
+        match check_layer(stage, layer) {
+            Ok(()) => place = place.saturating_add(1),
+            Err(why) => return Err(HeadFault::new(Part::Layer(place), why)),
+        }
     }
     Ok(())
 }
@@ -326,12 +330,15 @@ fn parse_layer<'a>(alloc: Global, layer: &'a Table) -> Result<LayerSpec<'a>, Hea
 }
 
 // What all layers say. Errors: that of the first layer that has one; `Memory`.
-fn parse_layers<'a>(alloc: Global, layers: &[&'a Table]) -> Result<Vec<LayerSpec<'a>>, HeadError>
+fn parse_layers<'a>(alloc: Global, layers: &[&'a Table]) -> Result<Vec<LayerSpec<'a>>, HeadFault>
     ensures { GivesBy (λ said. said.items) result (each parse_layer (map (λ layer. table_view layer.now) layers.now)) }
 {
     let mut said = Vec::new(alloc);
     for layer in layers {
-        said.push(parse_layer(alloc, layer)?)?;
+        match parse_layer(alloc, layer) {
+            Ok(spec) => said.push(spec)?,
+            Err(why) => return Err(HeadFault::new(Part::Layer(said.len()), why)),
+        }
     }
     Ok(said)
 }
@@ -345,7 +352,7 @@ pub(crate) fn requested_layers<'a>(
     alloc: Global,
     keys: &[Key],
     head: &'a Table,
-) -> Result<Vec<LayerSpec<'a>>, HeadError>
+) -> Result<Vec<LayerSpec<'a>>, HeadFault>
     ensures { GivesBy (λ said. said.items) result (requested_layers (keys_of keys.now) (table_view head.now)) }
 {
     let layers = tables_at(alloc, "layer", head)?;

@@ -17,10 +17,6 @@ pub record IsGathered (callers : List CallerView) (seen : List LoggedEvent) (rec
   pub submissions : AreSubmissions (events_in seen) receipts
   pub logged : AreLogged seen receipts
 
--- the plan that was run is the one on the receipt at the number of the submission, where there is one
-abbrev pub IsOfPlanOn : List (List Receipt) → Row → Type 0
-IsOfPlanOn receipts row = (receipt : Receipt) → slice_get (receipts_at receipts row.id.caller) (row.id.number - 1) ≡ Some receipt → row.run.plan ≡ receipt.plan
-
 -- the receipt of the submission of this id has its number
 pub record HasNumberedReceipt (receipts : List (List Receipt)) (id : Id) : Type 0 where
   pub from : 1 ≤ id.caller

@@ -1,11 +1,13 @@
 -- What lies under the lock says of itself: which logs it stands for, which seats there are, what a turn wrote, and which jobs a seat's own turns picked and ended.
-use Rattle.std.specs.Prelude.{◌≡◌, ◌≤◌, ◌⊎◌, ◌+◌, ℕ, List, [], ◌∷◌, Option, Some, None, length, option_map, take}
+use Rattle.std.specs.Prelude.{◌≡◌, ◌≤◌, ◌⊎◌, ◌+◌, ℕ, true, List, [], ◌∷◌, Option, Some, None, length, option_map, take}
 use Rattle.atomic_table.specs.Table.{Me}
 use Rattle.resil_lock.specs.declared.protocol.View as lock
 use Rattle.resil_lock.specs.declared.protocol.Rank.{Rank}
 use Rattle.resil_lock.specs.declared.protocol.Rank.TheVariants as rank
 use Rattle.resil_lock.specs.declared.protocol.Phase.TheVariants.{Idle}
 use Rattle.resil_lock.specs.Lock.{view_of}
+use Rattle.resil_rule.specs.History.{is_closed}
+use Rattle.resil_admission.specs.MachineView.{HasOneToPick}
 use Rattle.resil_pool.specs.Words.{started, taken, finished, times, Id, MachineView, Accepted, LoggedEvent, Note, Opening, State, Written}
 use Rattle.resil_pool.specs.Lock.LoggedEvent.{AllNameCallers, IsLegalLog, MatchesLog, events_in, starts_in, picked_in, ended_in, logged}
 
@@ -56,6 +58,10 @@ entries_of jobs (Some written) = logged (option_map (λ plan. plan.value) writte
 
 abbrev pub told : State → List LoggedEvent
 told state = entries_of state.machine.jobs state.last
+
+-- a worker has something to do: the machine is closed, or has a job to pick
+abbrev pub HasWork : State → Type 0
+HasWork state = (is_closed state.machine.history ≡ true) ⊎ HasOneToPick state.machine
 
 -- a seat that wrote this has picked this job and not ended it: with one end of it more, no job was ended more often than it was picked
 abbrev pub IsDue : Id → List LoggedEvent → Type 0

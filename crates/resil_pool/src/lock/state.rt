@@ -49,7 +49,7 @@ pub(crate) fn note_if(written: bool, note: Note) -> Option<Written>
 }
 
 impl Guarded for BoxedState {
-    ghost use Rattle.resil_pool.specs.Lock.{is_own, StandsFor, MayHaveWritten, told};
+    ghost use Rattle.resil_pool.specs.Lock.{is_own, StandsFor, MayHaveWritten, told, HasWork};
 
     type Key = Opening;
 
@@ -62,6 +62,8 @@ impl Guarded for BoxedState {
     ghost is_own = { is_own };
 
     ghost written = { told };
+
+    ghost HasWork = { HasWork };
 
     /// Whether there is a job to pick, or the pool is closed.
     fn has_work(&self) -> bool {

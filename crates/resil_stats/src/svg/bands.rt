@@ -27,7 +27,7 @@ fn write_steps(draft: &mut Draft, sheet: &Sheet, scale: &Scale, measure: Measure
     for point in sheet.points {
         let y = scale.y(measure.of(point));
         if y.0 != height.0 {
-            let x = sheet.page.x(point.0.from);
+            let x = point.x;
             if x.0 == LEFT.0 {
                 put!(draft; "V{y}");
             } else {
@@ -78,12 +78,18 @@ pub(crate) fn write_ends(draft: &mut Draft, scale: &Scale, word: &str, most: usi
     write_number(draft, "", 0, scale.bottom, GREY);
 }
 
-// Writes the refusals of columns, in grey, and over them those of a full pool.
+// Writes the refusals of columns, in grey, and over them those of a full pool, under a line at the most of one column.
 fn write_refused(draft: &mut Draft, sheet: &Sheet) {
     let refused = sheet.points.iter().map(|point| Measure::Refused.of(point));
-    let scale = Scale::between(Pixels(800), Pixels(2800), refused.max().unwrap_or(0));
+    let most = refused.max().unwrap_or(0);
+    let scale = Scale::between(Pixels(800), Pixels(2800), most);
     write_area(draft, sheet, &scale, Measure::Refused, CLOSED);
     write_area(draft, sheet, &scale, Measure::Full, REFUSED);
+    if most > 0 {
+        let top = scale.top;
+        line!(draft; r#"<path d="M{LEFT} {top}H{RIGHT}" fill="none" stroke="{CLOSED}" stroke-dasharray="2 3"/>"#);
+        write_number(draft, "", most, scale.bottom.and(2), GREY);
+    }
 }
 
 // Writes the depth of the queue. A capacity above four times the most that waits is out of sight, and the scale then goes up to
@@ -137,7 +143,9 @@ fn write_workers(draft: &mut Draft, sheet: &Sheet, picture: &Picture) {
 /// Writes the bands, but for the refusals that are drawn each.
 pub(crate) fn write_bands(draft: &mut Draft, sheet: &Sheet, picture: &Picture) {
     let below = sheet.page.rows_end();
-    line!(draft; r#"<g transform="translate(0 {below})"><g font-weight="bold"><text x="6" y="24">refused</text>"#);
+    // In columns the number of the scale stands below the name.
+    let named = if picture.columns.is_empty() { 24 } else { 14 };
+    line!(draft; r#"<g transform="translate(0 {below})"><g font-weight="bold"><text x="6" y="{named}">refused</text>"#);
     line!(draft; r#"<text x="6" y="70">waiting</text><text x="6" y="124">workers</text></g>"#);
     write_queue(draft, sheet, picture);
     if !picture.columns.is_empty() {

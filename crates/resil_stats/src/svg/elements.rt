@@ -50,6 +50,10 @@ impl Element for Bar {
         let (x, width) = (page.x(from), page.width(from, to));
         let (y, height) = (page.row_top(self.row), page.bar_height());
         let edge = if width.0 < 150 { "none" } else { PAPER };
+        draft.put_time("data-start", page.time(from));
+        if to <= page.events {
+            draft.put_time("data-end", page.time(to));
+        }
         put!(draft; r#"x="{x}" y="{y}" width="{width}" height="{height}" fill="{fill}" stroke="{edge}">"#);
         put!(draft; "<title>job {job}, {words}: runs from event {from}");
         if to > page.events {
@@ -94,7 +98,8 @@ impl Element for Mark {
         } else {
             tick
         };
-        let width = if page.width(1, 2).0 < 160 { "1.2" } else { "2" };
+        let width = if page.event_width() < 160 { "1.2" } else { "2" };
+        draft.put_time("data-time", page.time(at));
         line!(draft; r#"d="M{x} {way}" fill="none" stroke="{stroke}" stroke-width="{width}"><title>job {job} refused at event {at}: {reason}</title></path>"#);
     }
 }
@@ -117,8 +122,12 @@ impl Element for Column {
     fn write_rest(self, draft: &mut Draft, sheet: &Sheet) {
         let (from, to, full, closed) = (self.from, self.to, self.full, self.closed);
         let (waiting, workers, page) = (self.waiting, self.workers, &sheet.page);
-        let (x, width) = (page.x(from), page.width(from, to.saturating_add(1)));
+        let (x, end) = page.ends(&self);
+        let width = end.behind(x);
         let height = page.bands_end().less(104);
+        if let Some((start, end)) = page.span(&self) {
+            put!(draft; r#"data-start="{start}" data-end="{end}" "#);
+        }
         put!(draft; r#"x="{x}" y="104" width="{width}" height="{height}" fill-opacity="0"><title>"#);
         put!(draft; "events {from} to {to}: at most {waiting} waiting, {workers} workers; ");
         line!(draft; "refused: {full} full, {closed} closed</title></rect>");

@@ -5,7 +5,7 @@ ghost use Rattle.resil_stats.specs.Svg.{opening};
 
 use super::Draft;
 use super::jobs::JobName;
-use super::page::{CORE, EXTRA, GREY, GRID, INK, PAPER, Page, QUEUED, REFUSED};
+use super::page::{CORE, EXTRA, GREY, GRID, INK, PAPER, Page, Pixels, QUEUED, REFUSED};
 use super::sheet::Sheet;
 use crate::{Illegal, Picture, column_width};
 use resil_heads::answer::name_of;
@@ -40,17 +40,18 @@ fn write_opening_sizes(draft: &mut Draft, picture: &Picture) {
 // Writes how many events are drawn, the verdict, and how full the pool got.
 fn write_facts(draft: &mut Draft, picture: &Picture) {
     let stats = &picture.stats;
-    let (events, waiting, workers) = (picture.levels.len(), stats.most.waiting, stats.most.workers);
-    put!(draft; r#"<text x="6" y="52">{events} event{}, "#, plural(events));
+    let (drawn, waiting, workers) = (picture.levels.len(), stats.most.waiting, stats.most.workers);
+    let (events, ending) = (picture.events, plural(picture.events));
     match stats.verdict {
-        Verdict::Legal => put!(draft; "legal"),
+        Verdict::Legal => put!(draft; r#"<text x="6" y="52">{events} event{ending}, legal"#),
         Verdict::FirstIllegal(place) => {
+            put!(draft; r#"<text x="6" y="52">{drawn} of {events} event{ending} drawn, "#);
             put!(draft; r#"<tspan fill="{REFUSED}" font-weight="bold">illegal at {place}</tspan>"#);
         }
     }
     put!(draft; " &#183; at most {waiting} waiting, {workers} worker{}", plural(workers));
     if stats.never_started > 0 {
-        put!(draft; " &#183; {} never started", stats.never_started);
+        put!(draft; " &#183; {} still waiting", stats.never_started);
     }
     line!(draft; "</text>");
 }
@@ -83,8 +84,8 @@ fn write_legend(draft: &mut Draft, page: &Page, picture: &Picture) {
     } else {
         ("|", "&#305;")
     };
-    put!(draft; r#"<text x="6" y="78"><tspan fill="{CORE}">&#9632;</tspan> core {core}<tspan dx="10" fill="{EXTRA}">&#9632;</tspan> extra {extra}"#);
-    put!(draft; r#"<tspan dx="10" fill="{QUEUED}">&#9632;</tspan> from the queue {taken}<tspan dx="10" fill="{REFUSED}">&#9644;</tspan> queue full"#);
+    put!(draft; r#"<text x="6" y="78"><tspan fill="{CORE}">&#9632;</tspan> core starts {core}<tspan dx="10" fill="{EXTRA}">&#9632;</tspan> extra starts {extra}"#);
+    put!(draft; r#"<tspan dx="10" fill="{QUEUED}">&#9632;</tspan> taken {taken}<tspan dx="10" fill="{REFUSED}">&#9644;</tspan> queue full"#);
     put!(draft; r#"<tspan dx="10">refused:</tspan><tspan dx="6" fill="{REFUSED}" font-weight="bold">{cross}</tspan> full {full}"#);
     line!(draft; r#"<tspan dx="10" fill="{GREY}" font-weight="bold">{diamond}</tspan> closed {closed}</text>"#);
 }
@@ -110,8 +111,8 @@ fn write_grid_line(draft: &mut Draft, page: &Page, place: usize) {
     line!(draft; r#"<path d="M{x} 104V{end}" stroke="{GRID}"/><text x="{x}" y="{base}" fill="{GREY}" text-anchor="{anchor}">{place}</text>"#);
 }
 
-// Writes the grid and its axis, up to this many events.
-fn write_grid(draft: &mut Draft, page: &Page, events: usize) {
+// Writes the grid of an axis of places, up to this many events.
+fn write_places(draft: &mut Draft, page: &Page, events: usize) {
     let step = grid_step(events);
     write_grid_line(draft, page, 1);
     for count in 1..12 {
@@ -120,8 +121,55 @@ fn write_grid(draft: &mut Draft, page: &Page, events: usize) {
             write_grid_line(draft, page, place);
         }
     }
+}
+
+// So many µs in the unit in which ticks are told that are as far apart, and the unit's name.
+fn in_unit(step: u64) -> (u64, &'static str) {
+    match step {
+        0..1000 => (step, "&#181;s"),
+        1000..1_000_000 => (step / 1000, "ms"),
+        1_000_000..60_000_000 => (step / 1_000_000, "s"),
+        60_000_000..3_600_000_000 => (step / 60_000_000, "min"),
+        _ => (step / 3_600_000_000, "h"),
+    }
+}
+
+// Writes the ticks of an axis of times, nine at most, with how long after the first event they are; what has no room has no label. There
+// is none where all times are one.
+fn write_ticks(draft: &mut Draft, page: &Page) {
+    let (period, end) = (page.period, page.bands_end());
+    let step = period.tick_step();
+    let (apart, unit) = in_unit(step);
+    let base = end.and(20);
+    let mut room = Pixels(0);
+    for count in 0..9 {
+        let after = step.saturating_mul(count);
+        if period.length() == 0 || after > period.length() {
+            return;
+        }
+        let x = Pixels(period.x_of(period.first.saturating_add(after)));
+        line!(draft; r#"<path d="M{x} 104V{end}" stroke="{GRID}"/>"#);
+        // A label at the right end stays on the page.
+        let center = Pixels(x.0.min(76_500));
+        if center.0 >= room.0 {
+            let number = apart.saturating_mul(count);
+            line!(draft; r#"<text x="{center}" y="{base}" fill="{GREY}" text-anchor="middle">{number} {unit}</text>"#);
+            room = center.and(68);
+        }
+    }
+}
+
+// Writes the grid and its axis, of times or of so many events.
+fn write_grid(draft: &mut Draft, page: &Page, events: usize) {
+    let counted = if page.is_timed() {
+        write_ticks(draft, page);
+        "time"
+    } else {
+        write_places(draft, page, events);
+        "event"
+    };
     let base = page.bands_end().and(20);
-    line!(draft; r#"<g font-weight="bold"><text x="6" y="100">jobs run</text><text x="6" y="{base}">event</text></g>"#);
+    line!(draft; r#"<g font-weight="bold"><text x="6" y="100">jobs run</text><text x="6" y="{base}">{counted}</text></g>"#);
 }
 
 /// Writes what stands around the bands, and begins the group in which they are: one line lower where an event is illegal.
@@ -146,12 +194,22 @@ pub(crate) fn ending_text(sheet: &Sheet, picture: &Picture) -> Result<String, Al
     let mut draft = Draft::new(sheet.alloc);
     let below = sheet.page.rows_end();
     put!(draft; r#"</g><g transform="translate(0 {below})" fill="{GREY}"><text x="6" y="244">"#);
+    let page = &sheet.page;
+    let counted = if page.is_timed() {
+        "The axis is time, counted from the first event."
+    } else {
+        "The axis counts events, it is no clock."
+    };
     if picture.columns.is_empty() {
         put!(draft; "A history names no threads: a job stands in the first free row.");
     } else {
-        let width = column_width(picture.levels.len());
-        put!(draft; "Gathered: {width} events a column, each drawn by its greatest numbers.");
+        if page.is_timed() {
+            put!(draft; "Gathered: {} &#181;s", page.period.span_length());
+        } else {
+            put!(draft; "Gathered: {} events", column_width(picture.levels.len()));
+        }
+        put!(draft; " a column, each drawn by its greatest numbers.");
     }
-    line!(draft; r#"</text><text x="6" y="266">The axis counts events, it is no clock.</text></g></g></svg>"#);
+    line!(draft; r#"</text><text x="6" y="266">{counted}</text></g></g></svg>"#);
     draft.finish()
 }

@@ -2,10 +2,12 @@
 //!
 //! A page is 800 pixels wide. A gutter at its left has the names of the bands and their numbers. The rows of
 //! jobs stand over three bands of a fixed height: the refusals, the queue, the workers. These are written in a
-//! group that begins below the rows. All share one axis of places. Letters are 16 pixels high, so that they can
+//! group that begins below the rows. All share one axis, of places or of times. Letters are 16 pixels high, so that they can
 //! be read where the picture is half as wide; what has no room for them has no label.
 
-use crate::Picture;
+use crate::axis::{Period, period_of};
+use crate::spans::time_at;
+use crate::{Column, Picture};
 use std::fmt;
 
 // The colours. Each has one meaning in all bands; those of bars differ in grey, and for the colour-blind, too.
@@ -79,8 +81,11 @@ pub(crate) const RIGHT: Pixels = Pixels(78_600);
 /// How wide a letter is, at most on the whole.
 pub(crate) const LETTER: Pixels = Pixels(1020);
 
-// The length of the axis.
+// The length of an axis of places.
 const SPAN: u32 = 69_400;
+
+// The least width of a bar on an axis of times: a third of a pixel, and no less.
+const LEAST_BAR: u32 = 34;
 
 // The top of the first row, how far it is from the next one, at least and at most, and how high many rows are together.
 const ROWS_TOP: u32 = 10_800;
@@ -115,18 +120,22 @@ fn share(length: u32, parts: usize, all: usize) -> u32 {
 
 /// The page of a picture.
 #[derive(Clone, Copy)]
-pub(crate) struct Page {
+pub(crate) struct Page<'a> {
     /// How many events there are, 1 at least.
     pub events: usize,
+    /// Their times, where they have some: the axis is one of times then.
+    times: Option<&'a [u64]>,
+    /// From the first of these to the last one.
+    pub period: Period,
     /// How many rows there are.
     pub rows: u32,
     // The distance of a row from the next one, in hundredths of a pixel.
     pitch: u32,
 }
 
-impl Page {
-    /// The page of a picture.
-    pub(crate) fn of(picture: &Picture) -> Page {
+impl<'a> Page<'a> {
+    /// The page of a picture, for these times of its events.
+    pub(crate) fn of(picture: &Picture, times: Option<&'a [u64]>) -> Page<'a> {
         let rows = if picture.columns.is_empty() {
             picture.stats.most.workers.max(1).min(64) as u32
         } else {
@@ -135,25 +144,70 @@ impl Page {
         let pitch = ROWS_HEIGHT.checked_div(rows).unwrap_or(PITCH);
         Page {
             events: picture.levels.len().max(1),
+            times,
+            period: period_of(times.unwrap_or(&[]), picture.levels.len()),
             rows,
             pitch: pitch.max(LEAST_PITCH).min(PITCH),
         }
     }
 
-    /// Where a place stands on the axis: place p at left + (p - 1) (right - left) / n.
-    pub(crate) fn x(&self, place: usize) -> Pixels {
-        let along = share(SPAN, place.saturating_sub(1), self.events);
-        Pixels(LEFT.0.saturating_add(along))
+    /// The time of the event at a place, where that is known.
+    pub(crate) fn time(&self, place: usize) -> Option<u64> {
+        self.times
+            .map(|times| time_at(times, place.saturating_sub(1)))
     }
 
-    /// The length of the axis from one place to another.
+    /// Where a place stands on the axis: by its time, or place p at left + (p - 1) (right - left) / n.
+    pub(crate) fn x(&self, place: usize) -> Pixels {
+        match self.time(place) {
+            Some(_) if place > self.events => RIGHT,
+            Some(time) => Pixels(self.period.x_of(time)),
+            None => {
+                let along = share(SPAN, place.saturating_sub(1), self.events);
+                Pixels(LEFT.0.saturating_add(along))
+            }
+        }
+    }
+
+    /// The width of a bar from one place to another.
     pub(crate) fn width(&self, from: usize, to: usize) -> Pixels {
-        self.x(to).behind(self.x(from))
+        let width = self.x(to).behind(self.x(from));
+        match self.times {
+            Some(_) => Pixels(width.0.max(LEAST_BAR)),
+            None => width,
+        }
+    }
+
+    /// The beginning and the end of the span of a column, where it is one of time.
+    pub(crate) fn span(&self, column: &Column) -> Option<(u64, u64)> {
+        let time = self.time(column.from)?;
+        Some(self.period.ends_of(time))
+    }
+
+    /// Where a column begins and ends on the axis.
+    pub(crate) fn ends(&self, column: &Column) -> (Pixels, Pixels) {
+        match self.span(column) {
+            Some((start, end)) => (
+                Pixels(self.period.x_of(start)),
+                Pixels(self.period.x_of(end)),
+            ),
+            None => (self.x(column.from), self.x(column.to.saturating_add(1))),
+        }
+    }
+
+    /// Whether the axis is one of times.
+    pub(crate) fn is_timed(&self) -> bool {
+        self.times.is_some()
+    }
+
+    /// The length of the axis for each event.
+    pub(crate) fn event_width(&self) -> u32 {
+        share(SPAN, 1, self.events)
     }
 
     /// Whether refusals have room for signs: else they are ticks.
     pub(crate) fn has_room_for_signs(&self) -> bool {
-        self.width(1, 2).0 >= SIGNED
+        self.event_width() >= SIGNED
     }
 
     /// Whether rows have room for labels.

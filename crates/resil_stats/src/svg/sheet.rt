@@ -1,7 +1,8 @@
 //! What all parts of a picture are written with: its page, the points that its outlines go through, and what
 //! came of its jobs.
 
-use super::page::Page;
+use super::page::{Page, Pixels};
+use crate::columns::running_at;
 use crate::results::Outcomes;
 use crate::{Column, Level, Picture, Running, Start};
 use std::alloc::{AllocError, Global};
@@ -10,14 +11,18 @@ use std::alloc::{AllocError, Global};
 #[derive(Clone, Copy)]
 pub(crate) struct Sheet<'a> {
     pub alloc: Global,
-    pub page: Page,
+    pub page: Page<'a>,
     pub points: &'a [Point],
     pub outcomes: &'a Outcomes,
 }
 
-/// The numbers that hold from the first place of a column on, and what runs in it. An event that is drawn by itself is a column
-/// of one event.
-pub(crate) type Point = (Column, Running);
+/// The numbers that hold from a place on the axis on, and what runs there. An event that is drawn by itself is a column of one event.
+#[derive(Clone, Copy)]
+pub(crate) struct Point {
+    pub x: Pixels,
+    column: Column,
+    running: Running,
+}
 
 /// What an outline shows of points.
 #[derive(Clone, Copy)]
@@ -41,7 +46,7 @@ pub(crate) enum Measure {
 impl Measure {
     /// The number of a point.
     pub(crate) fn of(self, point: &Point) -> usize {
-        let (column, running) = *point;
+        let (column, running) = (point.column, point.running);
         match self {
             Measure::Waiting => column.waiting,
             Measure::IsFull(capacity) => (column.waiting >= capacity) as usize,
@@ -59,8 +64,8 @@ impl Measure {
 }
 
 // The numbers after an event, which is drawn by itself.
-fn point_of(level: Level) -> Point {
-    let column = Column {
+fn column_of(level: Level) -> Column {
+    Column {
         from: level.at,
         to: level.at,
         waiting: level.waiting,
@@ -70,19 +75,64 @@ fn point_of(level: Level) -> Point {
         closed: 0,
         core: level.core,
         max: level.max,
-    };
-    (column, Running::default())
+    }
 }
 
-/// The points of a picture: of each event, or of each column where there are columns.
-/// Errors: `AllocError` where memory runs out.
-pub(crate) fn points_of(alloc: Global, picture: &Picture) -> Result<Vec<Point>, AllocError> {
-    if picture.columns.is_empty() {
-        let levels = picture.levels.iter();
-        return levels.map(|level| point_of(*level)).collect(alloc);
+// Adds a point, which stands for the one before it where that is at the same place. Errors: `AllocError` where memory runs out.
+fn push_point(points: &mut Vec<Point>, point: Point) -> Result<(), AllocError> {
+    if let Some(last) = points.last_mut() {
+        if last.x.0 == point.x.0 {
+            *last = point;
+            return Ok(());
+        }
     }
-    let columns = picture.columns.iter().zip(&picture.areas);
-    columns
-        .map(|(column, running)| (*column, *running))
-        .collect(alloc)
+    points.push(point)?;
+    Ok(())
+}
+
+// Adds the points of a column, behind whose span of time holds what holds after its last event. Errors: `AllocError` where memory runs out.
+fn push_column(
+    points: &mut Vec<Point>,
+    page: &Page,
+    picture: &Picture,
+    column: Column,
+    running: Running,
+) -> Result<(), AllocError> {
+    let (x, end) = page.ends(&column);
+    push_point(points, Point { x, column, running })?;
+    match picture.levels.get(column.to.saturating_sub(1)) {
+        Some(level) if page.is_timed() => push_point(
+            points,
+            Point {
+                x: end,
+                column: column_of(*level),
+                running: running_at(&picture.bars, column.to),
+            },
+        ),
+        _ => Ok(()),
+    }
+}
+
+/// The points of a picture: of each event, or of each column where there are columns; of those at one place the last one.
+/// Errors: `AllocError` where memory runs out.
+pub(crate) fn points_of(
+    alloc: Global,
+    page: &Page,
+    picture: &Picture,
+) -> Result<Vec<Point>, AllocError> {
+    let mut points = Vec::new(alloc);
+    if picture.columns.is_empty() {
+        for level in picture.levels.iter() {
+            let point = Point {
+                x: page.x(level.at),
+                column: column_of(*level),
+                running: Running::default(),
+            };
+            push_point(&mut points, point)?;
+        }
+    }
+    for (column, running) in picture.columns.iter().zip(&picture.areas) {
+        push_column(&mut points, page, picture, *column, *running)?;
+    }
+    Ok(points)
 }

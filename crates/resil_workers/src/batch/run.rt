@@ -67,7 +67,7 @@ pub enum RunError {
     /// A thread couldn't be started.
     #[error("a thread could not be started")]
     NoThread,
-    /// A run was refused, or an accepted job has no result.
+    /// An accepted job has no result.
     #[error("a run was refused, or a job has no result")]
     Stranger,
     /// Rows that were held don't stand in the history in their order.

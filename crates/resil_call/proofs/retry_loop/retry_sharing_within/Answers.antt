@@ -35,7 +35,7 @@ returns-then-not-allows g c =
     let refused = rw c.if-not-allows.true at c.allows.ensures in
     let before_last : c.loop-answer.attempt < c.args.policy.now.max_attempts = omega (arith, c.if-attempt-policy.false) in
     SoFar-ended _ _ _ _ _ _ _ _ _ _ _ c.loop-answer.attempt c.loop-answer.invariant.0 _ _ refl (record { lent = _; shows = refl; left = _; met = c.call-answer.ensures; leaves = refl })
-    (verdict, before_last) (c.next_for-wait.result, c.next_for-wait.ensures.wait, refused)
+    (verdict, before_last) (c.next_for-wait.result, (search), (search))
 
 pub pause-requires : goal.pause-requires
 pause-requires g c =
@@ -53,8 +53,8 @@ loop-answer-preserved g c =
     let one_less : left.0 ≡ suc (left.0 - 1) = omega (arith, some_left) in
     let same : c.loop-answer.attempt + 1 - 1 ≡ c.loop-answer.attempt = omega arith in
     let can = ((CanTry-more _ _ _ _ left.0 _ left.2).1 _ _ (record { lent = _; shows = refl; left = _; met = c.call-answer.ensures; leaves = refl }) some_left).1 _ _ c.pause.ensures.paused in (
-      SoFar-again _ _ _ _ _ _ _ _ _ _ _ c.loop-answer.attempt c.loop-answer.invariant.0 c.call-answer.result _ _ _ (record { lent = _; shows = refl; left = _; met = c.call-answer.ensures; leaves = refl })
-          verdict before_last c.next_for-wait.ensures.wait allowed c.pause.ensures.paused,
+      SoFar-again _ _ _ _ _ _ _ _ _ _ _ c.loop-answer.attempt c.loop-answer.invariant.0 c.call-answer.result c.next_for-wait.result _ c.allows.new.self (record { lent = _; shows = refl; left = _; met = c.call-answer.ensures; leaves = refl })
+          verdict before_last (search) (search) c.pause.ensures.paused,
       (
         left.0 - 1,
         omega (arith, left.1, some_left),

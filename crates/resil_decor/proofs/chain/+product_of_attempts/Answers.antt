@@ -22,4 +22,4 @@ returns-then-calls-gt-MAX_CALLS t c =
 
 pub returns : goal.returns
 returns t c =
-    (rw (c.in-Some.ensures.cases.0, max_calls-cons, c.attempts.ensures.value, c.in_ok-calls.ensures.0) refl, one-le-mul c.attempts.ensures.least c.in_ok-calls.ensures.1, omega (arith, c.if-calls-gt-MAX_CALLS.false))
+    (rw (c.in-Some.ensures.cases.0, max_calls-cons, c.attempts.ensures.value, c.in_ok-calls.ensures.0) (search), one-le-mul c.attempts.ensures.least c.in_ok-calls.ensures.1, omega (arith, c.if-calls-gt-MAX_CALLS.false))

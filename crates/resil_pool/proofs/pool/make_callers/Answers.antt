@@ -1,18 +1,11 @@
 -- One more caller gets the next number.
-use Rattle.std.proofs.Common.{◌≡◌, ◌+◌, ℕ, [], ◌∷◌, ◌++◌, length, refl, inr, sym, ap, ◌∙◌, arith}
+use Rattle.std.proofs.Common.{◌≡◌, ◌+◌, ℕ, [], ◌∷◌, ◌++◌, length, sym, ap, ◌∙◌, arith}
 use Rattle.std.proofs.lemmas.List.{length-append}
 use Rattle.std.proofs.lemmas.List.FromFn.{map-range_with_len_more}
 use Rattle.resil_pool.specs.Parts.{caller_view, new_caller}
 use Rattle.resil_lock.specs.Lock.{made_one, member_view}
 use Rattle.resil_pool.specs.Lock.{LockSeatState, closer_view, pool_id}
 use Rattle.resil_pool.proofs.pool.make_callers.Goals as goal
-
-pub admit-requires : goal.admit-requires
-admit-requires c = record {
-  source = c.loop-made.invariant.table ∙ c.requires.source;
-  rank = ap (λ (k : LockSeatState). k.0.rank) c.loop-made.invariant.closer;
-  blank = record { numbered = inr refl; balanced = λ id. omega arith };
-}
 
 pub loop-made-preserved : goal.loop-made-preserved
 loop-made-preserved c =

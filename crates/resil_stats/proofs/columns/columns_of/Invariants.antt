@@ -1,4 +1,4 @@
-use Rattle.std.proofs.Common.{◌≤◌, ◌-◌, length}
+use Rattle.std.proofs.Common.{◌≤◌, ◌-◌, length, option_map}
 use Rattle.resil_stats.specs.Columns.{AreColumnsFrom}
 use Rattle.resil_stats.proofs.columns.columns_of.Given as goal
 
@@ -6,7 +6,7 @@ use Rattle.resil_stats.proofs.columns.columns_of.Given as goal
 abbrev pub invariant-loop-done : goal.invariant-loop-done
 invariant-loop-done l = record {
   within : l.done ≤ length l.levels;
-  columns : AreColumnsFrom l.events l.levels l.width 0 l.done l.columns.items;
+  columns : AreColumnsFrom l.events l.levels (option_map (λ times. times.now) l.times) 0 l.done l.columns.items;
 }
 
 abbrev pub decreases-loop-done : goal.decreases-loop-done

@@ -33,5 +33,5 @@ loop-index-preserved c =
       sizes = sizes;
       each = rw (items, length_push) (omega (arith, each));
       after = subst Told (sym items) (each-more (λ k level. IsLevelAfter limits (take (k + 1) events) level) c.loop-index.levels.items _ was.after
-          (rw each (record { at = omega (arith, long); waiting = load.waiting; running = load.running; workers = load.workers; core = sizes.core_is; max = sizes.max_is })));
+          (rw each (record { at = omega (arith, long); waiting = search; running = load.running; workers = load.workers; core = sizes.core_is; max = sizes.max_is })));
     }

@@ -12,7 +12,7 @@ sizes-other limits h (Resized c m) core max other are = absurd (other c m refl)
 sizes-other limits h e core max other are = sizes-quiet limits h e core max refl refl are
 
 pub returns-in-Resized : goal.returns-in-Resized
-returns-in-Resized c = λ limits h are. rw c.in-Resized.is (sizes-resized limits h c.in-Resized.core c.in-Resized.max)
+returns-in-Resized c = λ limits h are. rw c.in-Resized.is (search sizes-resized)
 
 pub returns-in_default : goal.returns-in_default
 returns-in_default c = λ limits h are. sizes-other limits h c.args.event _ _ c.in_default.not-Resized are

@@ -1,9 +1,10 @@
-use Rattle.std.proofs.Common.{◌≡◌, ◌-◌, ◌<◌, ◌∙◌, Bool, true, false, Option, Some, None, IfSome, if◌then◌else◌, List, get_or, length, set, refl, sym, ap, arith, length-set}
+use Rattle.std.proofs.Common.{◌≡◌, ◌-◌, ◌<◌, ◌∙◌, true, Some, None, List, get_or, length, set, refl, sym, ap, arith, length-set}
 use Rattle.std.proofs.Math.Seq.{map-set_same}
+use Rattle.std.proofs.lemmas.Bool.{cases_Bool}
+use Rattle.std.proofs.lemmas.Grind.{common_steps}
 use Rattle.std.specs.List.{position}
-use Rattle.resil_decor.specs.Plan.{PlanView}
 use Rattle.resil_rule.specs.History.{is_same_id}
-use Rattle.resil_admission.specs.MachineView.{ids_of, plan_of}
+use Rattle.resil_admission.specs.MachineView.{ids_of}
 use Rattle.resil_admission.specs.KeptJob.{KeptView}
 use Rattle.resil_admission.specs.JobsInvariant.{jobs_of, jobs_kept, all_kept}
 use Rattle.resil_admission.specs.declared.row.Row.{Row}
@@ -46,7 +47,7 @@ module _ (c : goal.After-self-1) where
   long = omega (arith, c.len.ensures, c.self.inside.rows.ok)
 
   is : get_or later (c.in_ok-get.field-0 - c.len.result) kept ≡ kept
-  is = ap (λ n. get_or later n kept) (sym c.in_ok-index.ensures.1) ∙ sym c.index_mut.ensures.value
+  is = grind (arith, c.in_ok-index.ensures.1, c.index_mut.ensures.value)
 
   jobs : jobs_of (set later c.in_ok-index.index c.pick.new.self) ≡ jobs_of later
   jobs = map-set_same (λ k. k.job) later c.in_ok-index.index c.pick.new.self kept (ap (λ k. k.job) c.pick.ensures.picked ∙ ap (λ k. k.job) c.index_mut.ensures.value)
@@ -66,15 +67,10 @@ returns-clause-some c unpicked =
     let waits : (kept c).unpicked ≡ true = sym (own ∙ ap (λ k. k.unpicked) (is c)) ∙ rw (← c.self.view_is) at unpicked in
     rw (c.pick.ensures.job, waits) refl
 
--- what is true of a plan is true of one that is given in some cases
-given : (b : Bool) (result : Option PlanView) (plan : PlanView) (P : PlanView → Type 0) → result ≡ (if b then Some plan else None) → P plan → IfSome result P
-given true result plan P is known = rw is known
-given false result plan P is known = rw is tt
-
 pub returns-clause-plan : goal.returns-clause-plan
 returns-clause-plan c =
-    let plan = later-plan (rows c) (later c) c.args.id c.in_ok-get.field-0 c.len.result (kept c) (found c) (long c) c.in_ok-index.ensures.0 ∙ ap (λ k. Some k.job.plan) (is c) in
-    rw (← c.self.view_is) (given (kept c).unpicked c.pick.result (kept c).job.plan (λ job. plan_of (jobs_kept (rows c) (jobs_of (later c))) c.args.id ≡ Some job) c.pick.ensures.job plan)
+    let own = later-plan (rows c) (later c) c.args.id c.in_ok-get.field-0 c.len.result (kept c) (found c) (long c) c.in_ok-index.ensures.0 in
+    rw (← c.self.view_is) (grind (arith, common_steps, own, c.in_ok-index.ensures.1, c.index_mut.ensures.value, c.pick.ensures.job, cases_Bool (kept c).unpicked))
 
 pub returns-clause-jobs : goal.returns-clause-jobs
 returns-clause-jobs c = rw (← c.self.view_is) (ap (jobs_kept (rows c)) (jobs c))

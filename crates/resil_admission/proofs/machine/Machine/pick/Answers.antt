@@ -1,4 +1,4 @@
-use Rattle.std.proofs.Common.{ap, ◌≡◌, ◌≤◌, inl, inr, ◌∙◌, true, sym, refl, arith}
+use Rattle.std.proofs.Common.{ap, ◌≡◌, ◌≤◌, inl, inr, ◌∙◌, true, sym, refl, arith, rules}
 use Rattle.resil_rule.specs.RuleView.{owed, with_pick, with_take}
 use Rattle.resil_rule.specs.declared.event.Id.{Id}
 use Rattle.resil_rule.specs.declared.event.Event.TheVariants.{Take}
@@ -7,17 +7,8 @@ use Rattle.resil_rule.proofs.OwedLaws.{pick-owes, take-owes}
 use Rattle.resil_admission.specs.JobsInvariant.{unpicked_in}
 use Rattle.resil_admission.specs.MachineInvariant.{times_unpicked}
 use Rattle.resil_admission.specs.MachineView.{ids_of}
-use Rattle.resil_admission.proofs.MachineLaws.{machine-after, front-there, left-picked, left-taken, own-picked, queue-picked}
+use Rattle.resil_admission.proofs.MachineLaws.{machine-after, left-picked, left-taken, own-picked, queue-picked}
 use Rattle.resil_admission.proofs.machine.Machine.pick.Goals as goal
-
-pub unwrap-job-requires : goal.unwrap-job-requires
-unwrap-job-requires c =
-    let v = c.self.inside.rule in
-    let p = c.in_ok-slot.field-0 in
-    elim c.in_ok-slot.ensures.picked.1 [
-      | inl own ↦ c.pick-2.ensures.some (c.self.invariant.unpicked p.slot.id (omega (arith, front-there v.unpicked (p.slot.id, p.work) own.1)))
-      | inr taken ↦ c.pick-2.ensures.some (c.self.invariant.unpicked p.slot.id (omega (arith, front-there v.waiting (p.slot.id, p.work) taken.2)))
-    ]
 
 pub invariant_of-self-in-OwnStart : goal.invariant_of-self-in-OwnStart
 invariant_of-self-in-OwnStart c =
@@ -78,5 +69,5 @@ returns-in-Queue-clause-picked c =
     let told = c.in_ok-slot.ensures.picked in
     elim told.1 [
       | inl own ↦ absurd (cc (own.0, c.in-Queue.is))
-      | inr taken ↦ rw (← c.self.view_is, taken.3, c.write.ensures.written h refl, c.pick-2.ensures.jobs) (queue-picked v h c.self.invariant.state c.self.inside.jobs.jobs p.slot taken.1 (taken.4 h c.self.invariant.state).0)
+      | inr taken ↦ rw (← c.self.view_is, taken.3, c.pick-2.ensures.jobs) (queue-picked v h c.self.invariant.state c.self.inside.jobs.jobs p.slot _ taken.1 (taken.4 h c.self.invariant.state).0 (search rules))
     ]

@@ -1,8 +1,8 @@
-use Rattle.std.proofs.Common.{◌++◌, ◌∷◌, [], ◌∙◌, ℕ, sym, ap, refl, arith}
+use Rattle.std.proofs.Common.{◌∙◌, sym, refl, arith, rules}
 use Rattle.resil_rule.specs.RuleView.{owed, with_sizes}
 use Rattle.resil_rule.specs.declared.event.Event.TheVariants.{Resized}
 use Rattle.resil_rule.proofs.UnpickedLaws.{accepted-same}
-use Rattle.resil_admission.proofs.MachineLaws.{machine-after, seen, quiet-picked}
+use Rattle.resil_admission.proofs.MachineLaws.{machine-after, quiet-view}
 use Rattle.resil_admission.proofs.machine.Machine.resize.Goals as goal
 
 pub invariant_of-self-2 : goal.invariant_of-self-2
@@ -19,8 +19,4 @@ invariant_of-self-2 c =
 
 pub returns-clause-event : goal.returns-clause-event
 returns-clause-event c =
-    let h = c.self.inside.history.events in
-    let e = Resized c.args.core c.args.max in
-    let v = c.self.inside.rule in
-    rw (← c.self.view_is, c.in_ok-resize.ensures.event, c.write.ensures.written h (c.reserve.ensures.kept h refl))
-    (ap (λ (n : ℕ). record (seen v (h ++ e ∷ []) c.self.inside.jobs.jobs) { picked = n }) (quiet-picked h e v.unpicked refl))
+    rw (← c.self.view_is, c.in_ok-resize.ensures.event) (quiet-view c.self.inside.rule c.self.inside.history.events _ (Resized c.args.core c.args.max) c.self.inside.jobs.jobs refl (search rules))

@@ -15,4 +15,5 @@ remove-requires c =
 pub returns-clause-held : goal.returns-clause-held
 returns-clause-held c =
     let found : position_from (λ other. other == c.args.id) 0 c.self.inside.held.items ≡ Some c.unwrap-index.result = rw c.deref.ensures.value at (sym c.index_of.ensures) ∙ c.unwrap-index.ensures in
-    rw (← c.self.view_is, c.remove.ensures.items) (first_removed c.args.id c.self.inside.held.items c.unwrap-index.result found).1
+    let removed = (first_removed c.args.id c.self.inside.held.items c.unwrap-index.result found).1 in
+    rw (← c.self.view_is, c.remove.ensures.items) (search)

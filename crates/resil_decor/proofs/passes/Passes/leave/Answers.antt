@@ -26,7 +26,7 @@ returns g c =
     let inside : c.from-index.result < length passes = held_inside passes c.from-index.result (rw (← c.self.view_is, ← c.from-index.ensures) at c.requires) in
     rw (← c.self.view_is, ← c.from-index.ensures)
     (record {
-      answered = answers_of-set passes c.from-index.result lent c.leave.new.pass c.index_mut.ensures.value inside left.pass left.gave;
-      held = IsGivenBack-set passes c.from-index.result lent c.leave.new.pass c.index_mut.ensures.value inside left.pass left.held;
-      given = AreSamePasses-set passes c.from-index.result lent c.leave.new.pass c.index_mut.ensures.value inside left.pass;
+      answered = answers_of-set passes c.from-index.result lent c.leave.new.pass (search) inside left.pass left.gave;
+      held = IsGivenBack-set passes c.from-index.result lent c.leave.new.pass (search) inside left.pass left.held;
+      given = AreSamePasses-set passes c.from-index.result lent c.leave.new.pass (search) inside left.pass;
     })

@@ -18,10 +18,11 @@ returns g c =
     let lent = c.index_mut.result.now in
     let tried = c.enter.ensures in
     let answered = IsAnswered-set passes c.from-index.result lent c.enter.new.pass c.index_mut.ensures.value (omega arith) tried.pass c.enter.result tried.tried in
+    let held = IsHeldAfter-set passes c.from-index.result lent c.enter.new.pass c.index_mut.ensures.value (omega arith) tried.pass c.enter.result tried.held in
     rw (← c.self.view_is, ← c.from-index.ensures)
     (record {
-      answered = answered;
-      held = IsHeldAfter-set passes c.from-index.result lent c.enter.new.pass c.index_mut.ensures.value (omega arith) tried.pass c.enter.result tried.held;
+      answered = search;
+      held = search;
       given = record {
         same = AreSamePasses-set passes c.from-index.result lent c.enter.new.pass c.index_mut.ensures.value (omega arith) tried.pass;
         answered = (_, answered, refl);

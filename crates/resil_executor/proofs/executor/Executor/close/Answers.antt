@@ -15,6 +15,6 @@ pub returns : goal.returns
 returns g c =
     let turn = seats.turned c.args.closer.now.seat.me.0 c.take-state.new.seat.me.0 c.release.new.seat.me.0 c.close-closes.new.self (c.deref_mut.ensures.value ∙ c.state.view_is) c.take-state.ensures.home.0 c.take-state.ensures.key c.requires.mine.1 c.take-state.ensures.begins c.take-state.ensures.own c.release.ensures.seen in record {
       mine = search rules;
-      closed = OnTrue_from _ _ (λ is. seats.last-sees turn event.Close (OnTrue_at is c.close-closes.ensures.closed));
-      was_closed = OnFalse_from _ _ (λ is. seats.closed-sees turn (OnFalse_at is c.close-closes.ensures.was_closed));
+      closed = OnTrue_from _ _ (λ is. seats.last-sees turn event.Close (OnTrue_at (search (rules, is)) c.close-closes.ensures.closed));
+      was_closed = OnFalse_from _ _ (λ is. seats.closed-sees turn (OnFalse_at (search (rules, is)) c.close-closes.ensures.was_closed));
     }

@@ -10,7 +10,7 @@ submit-answer-requires g c =
     record { known = home.0.counts; room = home.1.room; count = seats.few-accepted _ _ _ _ _ _ _ home.0 home.1 }
 
 pub release-requires-clause-home : goal.release-requires-clause-home
-release-requires-clause-home g c = seats.back_home g.H.Record.capacity (c.deref_mut.ensures.value ∙ c.state.view_is) c.submit-answer.new.self c.take-state.ensures.home (seats.submit-steps _ _ _ _ _ c.submit-answer.ensures.accepted c.submit-answer.ensures.refused) c.submit-answer.ensures.keeps c.submit-answer.ensures.capacity
+release-requires-clause-home g c = seats.back_home g.H.Record.capacity (c.deref_mut.ensures.value ∙ c.state.view_is) c.submit-answer.new.self c.take-state.ensures.home (search (rules, seats.submit-steps _ _ _ _ _ c.submit-answer.ensures.accepted c.submit-answer.ensures.refused)) c.submit-answer.ensures.keeps c.submit-answer.ensures.capacity
 
 pub release-requires-clause-fits : goal.release-requires-clause-fits
 release-requires-clause-fits g c = seats.fits-visit _ _ c.submit-answer.new.self.rule _ c.take-state.ensures.fits c.submit-answer.ensures.visit

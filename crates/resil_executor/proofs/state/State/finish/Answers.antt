@@ -1,5 +1,5 @@
 -- The end of a job.
-use Rattle.std.proofs.Common.{sym, subst, ◌∙◌, ap, arith}
+use Rattle.std.proofs.Common.{sym, subst, ◌∙◌, ap, arith, rules}
 use Rattle.resil_rule.specs.declared.event.Event.TheVariants as event
 use Rattle.resil_executor.specs.Kept.{unfinished}
 use Rattle.resil_executor.proofs.StateLaws.{finish-writes}
@@ -10,7 +10,7 @@ use Rattle.resil_executor.proofs.state.State.finish.Goals as goal
 pub returns-clause-writes : goal.returns-clause-writes
 returns-clause-writes g c =
     let ended = c.end_job-slot.ensures in
-    finish-writes _ _ _ _ c.end_job-slot.result c.args.slot.id ended.id ended.place ended.event ended.follows c.note.ensures.same.0 c.note.ensures.same.1
+    finish-writes _ _ _ _ c.end_job-slot.result c.args.slot.id ended.id ended.place ended.event ended.follows c.note.ensures.same.0 (search rules)
 
 pub note-requires : goal.note-requires
 note-requires g c =

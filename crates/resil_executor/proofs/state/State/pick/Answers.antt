@@ -1,5 +1,5 @@
 -- A pick.
-use Rattle.std.proofs.Common.{refl, subst, sym}
+use Rattle.std.proofs.Common.{refl, subst, sym, rules}
 use Rattle.resil_rule.specs.RuleView.{owed}
 use Rattle.resil_executor.specs.Kept.{Keeps}
 use Rattle.resil_executor.proofs.StateLaws.{noted-picks}
@@ -13,7 +13,7 @@ note_pick-requires g c =
 
 pub returns-clause-picked : goal.returns-clause-picked
 returns-clause-picked g c =
-    noted-picks _ _ _ c.in_ok-picked.picked _ _ _ c.note_pick.ensures.own c.note_pick.ensures.queue c.in_ok-picked.ensures.picked c.note_pick.ensures.same.0 refl refl
+    noted-picks _ _ _ c.in_ok-picked.picked _ _ _ c.note_pick.ensures.own c.note_pick.ensures.queue c.in_ok-picked.ensures.picked (search rules) refl refl
 
 pub returns-clause-keeps : goal.returns-clause-keeps
 returns-clause-keeps g c =

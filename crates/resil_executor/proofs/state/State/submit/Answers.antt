@@ -1,5 +1,5 @@
 -- A submission.
-use Rattle.std.proofs.Common.{◌≡◌, ◌∙◌, subst, ap, arith}
+use Rattle.std.proofs.Common.{◌≡◌, ◌∙◌, subst, ap, arith, rules}
 use Rattle.resil_rule.specs.RuleState.{IsSubmitRefusal}
 use Rattle.resil_rule.specs.declared.event.Reply.TheVariants as reply
 use Rattle.resil_rule.specs.declared.event.Event.TheVariants as event
@@ -25,11 +25,11 @@ returns-in-Err-Full-default-clause-refused g c =
 
 pub returns-in-Err-Closed-default-clause-refused : goal.returns-in-Err-Closed-default-clause-refused
 returns-in-Err-Closed-default-clause-refused g c =
-    let why = subst (λ e. IsSubmitRefusal c.make_room.new.self.rule c.in-Some.id e c.submit.new.self) c.in-Err-Closed-default.field-0-0-is c.in-Err-Closed-default.ensures.refused in (
-      c.in-Some.id,
-      subst (λ v. Writes v (event.Submit c.in-Some.id reply.Closed) c.note-in-Err-Closed-default.new.self.rule c.note-in-Err-Closed-default.new.self.last) c.make_room.ensures.same.0
-          (submit-writes _ _ _ _ c.in-Some.id reply.Closed c.args.work why.1 why.2 c.note-in-Err-Closed-default.ensures.same.0 c.note-in-Err-Closed-default.ensures.same.1),
-    )
+    let why = subst (λ e. IsSubmitRefusal c.make_room.new.self.rule c.in-Some.id e c.submit.new.self) c.in-Err-Closed-default.field-0-0-is c.in-Err-Closed-default.ensures.refused in
+    let told =
+    subst (λ v. Writes v (event.Submit c.in-Some.id reply.Closed) c.note-in-Err-Closed-default.new.self.rule c.note-in-Err-Closed-default.new.self.last) c.make_room.ensures.same.0
+    (submit-writes _ _ _ _ c.in-Some.id reply.Closed c.args.work why.1 why.2 c.note-in-Err-Closed-default.ensures.same.0 c.note-in-Err-Closed-default.ensures.same.1) in
+    (c.in-Some.id, search (rules, told))
 
 pub returns-in-Ok-submit-clause-keeps : goal.returns-in-Ok-submit-clause-keeps
 returns-in-Ok-submit-clause-keeps g c =

@@ -4,5 +4,5 @@ use Rattle.resil_heads.proofs.layers.build.build_layers.Goals as goal
 
 pub loop-said-preserved : goal.loop-said-preserved
 loop-said-preserved c =
-    let next = rw (c.in-Some.ensures.steps.0, c.in_ok-build_layer.ensures) at c.loop-said.invariant in
-    rw c.in_ok-push.ensures.items (sym (after_layers-next c.loop-said.layers.items c.in_ok-build_layer.field-0 _) ∙ next)
+    let next = rw (c.in-Some.ensures.steps.0, c.in-Ok.ensures) at c.loop-said.invariant in
+    rw c.in_ok-push-in-Ok.ensures.items (sym (after_layers-next c.loop-said.layers.items c.in-Ok.layer _) ∙ next)

@@ -17,6 +17,6 @@ pub entries-preserved : goal.entries-preserved
 entries-preserved c =
     let e : Entry = (c.in-Some.name.now, c.in-Some.value.now) in
     let left : c.entries.name-iterator ≡ e ∷ c.next.new.self = grind (arith, common_steps) in
-    let one : parse_config (string_bytes e.0, view e.1) ≡ Ok (record { name = c.new.result; permits = c.in_ok-permits.permits }) =
-    rw (sym c.in_ok-permits.ensures, c.new.ensures, c.as_str.ensures.value) refl in
-    rw c.in_ok-push.ensures.items (each-turn (λ (x : Entry). parse_config (string_bytes x.0, view x.1)) e _ _ _ c.entries.said.items _ left one c.entries.invariant)
+    let one : parse_config (string_bytes e.0, view e.1) ≡ Ok (record { name = c.new-name.result; permits = c.in-Ok.permits }) =
+    rw (sym c.in-Ok.ensures, c.new-name.ensures, c.as_str.ensures.value) refl in
+    rw c.in_ok-push-in-Ok.ensures.items (each-turn (λ (x : Entry). parse_config (string_bytes x.0, view x.1)) e _ _ _ c.entries.said.items _ left one c.entries.invariant)

@@ -5,4 +5,4 @@ use Rattle.resil_heads.proofs.layers.values.check_layers.Goals as goal
 pub loop-layer-preserved : goal.loop-layer-preserved
 loop-layer-preserved c =
     checks-next c.args.stage (λ layer. table_view layer.now) c.args.layers.now c.loop-layer.layer-index c.layer-item.result _ _
-    c.loop-layer-test.true c.layer-item.is c.in_ok-check_layer.ensures c.loop-layer.invariant
+    c.loop-layer-test.true c.layer-item.is c.in-Ok.ensures c.loop-layer.invariant

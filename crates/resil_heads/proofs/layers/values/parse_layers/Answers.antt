@@ -8,5 +8,5 @@ loop-layer-init c = each-init parse_layer (λ layer. table_view layer.now) c.arg
 
 pub loop-layer-preserved : goal.loop-layer-preserved
 loop-layer-preserved c =
-    rw c.in_ok-push.ensures.items
-    (each-next _ c.args.layers.now c.loop-layer.layer-index c.layer-item.result c.in_ok-parse_layer.field-0 _ _ c.loop-layer-test.true c.layer-item.is c.in_ok-parse_layer.ensures c.loop-layer.invariant)
+    rw c.in_ok-push-in-Ok.ensures.items
+    (each-next _ c.args.layers.now c.loop-layer.layer-index c.layer-item.result c.in-Ok.spec _ _ c.loop-layer-test.true c.layer-item.is c.in-Ok.ensures c.loop-layer.invariant)

@@ -14,12 +14,10 @@ store-requires g c =
     let words = c.args.self.now.one_word in
     let old = c.args.seat.now.me in
     let table = c.args.self.now.table.shared in
-    let put = c.exchange-vacant.ensures.3 ∙ ap (λ xs. (old.0, (0, Some c.args.state) ∷ rest xs)) c.requires.slot in (
-      c.exchange-vacant.ensures.0 ∙ c.requires.source,
-      omega arith,
-      subst (λ me. Allows (IsLocked g.S.Guarded.StandsFor g.S.Guarded.MayHaveWritten g.S.Guarded.is_own table.key) table.table_id.slots c.exchange-vacant.new.seat.id me 0 (λ _. 0) (λ _. AfterRelease g.S.Guarded.written (step table.table_id.slots 0 0 0 none) me 0)) (sym put)
-          (releases-lock g.S.Guarded.StandsFor g.S.Guarded.MayHaveWritten g.S.Guarded.is_own _ g.S.Guarded.written _ _ (old.0, (0, Some c.args.state) ∷ []) c.args.state c.requires.holds refl c.requires.home c.requires.fits c.requires.own),
-    )
+    let put = c.exchange-vacant.ensures.3 ∙ ap (λ xs. (old.0, (0, Some c.args.state) ∷ rest xs)) c.requires.slot in
+    let released = subst (λ me. Allows (IsLocked g.S.Guarded.StandsFor g.S.Guarded.MayHaveWritten g.S.Guarded.is_own table.key) table.table_id.slots c.exchange-vacant.new.seat.id me 0 (λ _. 0) (λ _. AfterRelease g.S.Guarded.written (step table.table_id.slots 0 0 0 none) me 0)) (sym put)
+    (releases-lock g.S.Guarded.StandsFor g.S.Guarded.MayHaveWritten g.S.Guarded.is_own _ g.S.Guarded.written _ _ (old.0, (0, Some c.args.state) ∷ []) c.args.state c.requires.holds refl c.requires.home c.requires.fits c.requires.own) in
+    (c.exchange-vacant.ensures.0 ∙ c.requires.source, omega arith, search)
 
 pub returns : goal.returns
 returns g c =

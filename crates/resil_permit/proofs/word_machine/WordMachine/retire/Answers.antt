@@ -9,4 +9,5 @@ overflow_add-caller c =
     let few = room max c.args.id m f (omega arith) (rw c.from.ensures at c.index_mut-caller.ensures.value) in omega arith
 
 pub returns : goal.returns
-returns c = rw c.from.ensures (λ max m f. retire_retired max c.args.id m f (omega arith) (rw c.from.ensures at c.index_mut-caller.ensures.value) c.in_default.is c.if-caller-eq0.false)
+returns c = rw c.from.ensures (λ max m f.
+    let retired = retire_retired max c.args.id m f (omega arith) (rw c.from.ensures at c.index_mut-caller.ensures.value) c.in_default.is c.if-caller-eq0.false in search)

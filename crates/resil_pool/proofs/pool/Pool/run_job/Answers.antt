@@ -33,7 +33,7 @@ returns g c =
       given = record {
         run = c.run-run.result;
         plan = c.run-run.ensures.plan;
-        answered = c.run-run.ensures.given;
+        answered = search rules;
         ended = runs-now turn ∙ ap (λ (xs : List LoggedEvent). runs_in old.own ++ runs_in xs) e.kept;
       };
       takes_none = takes-now turn ∙ (ap (λ (xs : List LoggedEvent). takes_in old.own ++ takes_in xs) e.kept ∙ append-nil (takes_in old.own));

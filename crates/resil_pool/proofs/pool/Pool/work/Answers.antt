@@ -17,8 +17,5 @@ returns-clause-takes g c =
     (subst (λ (xs : List LoggedEvent). HasRunTakes Between c.args.permitter.now left.permitter.now c.args.worker.runs (runs_in xs) (takes_in c.args.worker.wrote) (takes_in xs) None)
     (let back = sym c.make_rounds.ensures.made.seat in let is : mine ≡ c.seat-2-1.given.0.me.0.own = search rules in is) took)
 
-pub returns-clause-given : goal.returns-clause-given
-returns-clause-given g c = (returns-clause-takes g c).0
-
 pub returns-clause-first_refusal : goal.returns-clause-first_refusal
 returns-clause-first_refusal g c = let took = returns-clause-takes g c in (took.0, took.1)

@@ -1,14 +1,11 @@
 -- A job that is out is ended: its finish is written, and its run kept.
-use Rattle.std.proofs.Common.{◌≡◌, true, false, ap, ◌∙◌}
+use Rattle.std.proofs.Common.{ap, ◌∙◌}
 use Rattle.resil_pool.specs.Words.{Finish, MachineView}
 use Rattle.resil_pool.specs.declared.lock.logged_event.Note.TheVariants as note
 use Rattle.resil_pool.specs.Lock.{run_of}
 use Rattle.resil_pool.proofs.RemainingLaws.{run_of-with_run}
 use Rattle.resil_pool.proofs.MachineCalls.{moved-one, finish-step, finish-told}
 use Rattle.resil_pool.proofs.lock.state.State.finish.Goals as goal
-
-pub unreachable-requires : goal.unreachable-requires
-unreachable-requires c = let no : false ≡ true = c.in-Err.ensures.out.1 (c.requires.out, c.requires.plan) in cc
 
 pub returns-clause-wrote : goal.returns-clause-wrote
 returns-clause-wrote c = moved-one _ _ _ (note.Event (Finish c.args.id)) c.note_if-self.ensures (finish-step _ _ _ _ c.requires.out c.in-Ok.ensures.event)

@@ -1,0 +1,276 @@
+import java.io.File;
+import java.nio.file.Files;
+import java.nio.file.Path;
+import java.util.ArrayList;
+import java.util.List;
+import java.util.concurrent.BlockingQueue;
+import java.util.concurrent.CountDownLatch;
+import java.util.concurrent.RejectedExecutionException;
+import java.util.concurrent.ThreadFactory;
+import java.util.concurrent.ThreadPoolExecutor;
+import java.util.concurrent.ThreadPoolExecutor.AbortPolicy;
+import java.util.concurrent.TimeUnit;
+import java.util.concurrent.atomic.AtomicInteger;
+
+/**
+ * What a recorded pool refuses, and what ends its record and never the pool: {@code FOLDER}, in a process whose files may have 100,000
+ * bytes. A line 'passed ..' or 'failed ..' for each, for tools/check_recorder, which judges the files.
+ */
+public final class RecorderFaults {
+    private static final ThreadFactory THREADS = Thread::new;
+    private static Path folder;
+
+    private interface Step { void run() throws Exception; }
+
+    private static RecordedThreadPoolExecutor open(Path folder, String name, int core, int max, int capacity, int keep) {
+        return new RecordedThreadPoolExecutor(core, max, 1, TimeUnit.MILLISECONDS, capacity, THREADS, new AbortPolicy(), folder, name, keep);
+    }
+
+    private static void end(ThreadPoolExecutor pool) throws InterruptedException {
+        pool.shutdown();
+        demand(pool.awaitTermination(30, TimeUnit.SECONDS), "it hangs");
+    }
+
+    private static void demand(boolean holds, String told) {
+        if (!holds) throw new IllegalStateException(told);
+    }
+
+    private static void tell(String name, Step step) {
+        try {
+            step.run();
+            System.out.println("passed " + name);
+        } catch (Throwable thrown) {
+            System.out.println("failed " + name + ": " + thrown);
+        }
+    }
+
+    private static void refuses(Class<?> wanted, Step step) {
+        tell("refused by " + wanted.getSimpleName(), () -> {
+            try { step.run(); } catch (RuntimeException thrown) {
+                demand(wanted.isInstance(thrown), "it throws " + thrown);
+                return;
+            }
+            throw new IllegalStateException("nothing is thrown");
+        });
+    }
+
+    /** Runs so many tasks one after the other, and says how many were completed. */
+    private static long runs(ThreadPoolExecutor pool, int tasks) throws Exception {
+        for (int i = 0; i < tasks; i++) {
+            CountDownLatch ran = new CountDownLatch(1);
+            pool.execute(ran::countDown);
+            demand(ran.await(30, TimeUnit.SECONDS), "a task isn't run");
+        }
+        end(pool);
+        return pool.getCompletedTaskCount();
+    }
+
+    private static List<String> files(String name) {
+        List<String> found = new ArrayList<>();
+        for (String file : new File(folder.toString()).list()) if (file.startsWith(name + "-")) found.add(file);
+        found.sort(null);
+        return found;
+    }
+
+    private static void refusals() {
+        refuses(IllegalArgumentException.class, () -> open(folder, "none", 0, 1, 1, 0));
+        refuses(IllegalArgumentException.class, () -> open(folder, "none", 1, 65, 1, 0));
+        refuses(IllegalArgumentException.class, () -> open(folder, "none", 2, 1, 1, 0));
+        refuses(IllegalArgumentException.class, () -> open(folder, "none", 1, 1, 0, 0));
+        refuses(IllegalArgumentException.class, () -> open(folder, "none", 1, 1, 65_537, 0));
+        refuses(IllegalArgumentException.class, () -> open(folder, "../none", 1, 1, 1, 0));
+        RecordedThreadPoolExecutor pool = open(folder, "refused", 1, 64, 65_536, 0);
+        refuses(IllegalArgumentException.class, () -> pool.setCorePoolSize(0));
+        refuses(IllegalArgumentException.class, () -> pool.setCorePoolSize(65));
+        refuses(IllegalArgumentException.class, () -> pool.setMaximumPoolSize(65));
+        refuses(UnsupportedOperationException.class, () -> pool.allowCoreThreadTimeOut(true));
+        refuses(UnsupportedOperationException.class, () -> pool.getQueue().put(() -> { }));
+        refuses(UnsupportedOperationException.class, () -> pool.getQueue().offer(() -> { }));
+        refuses(UnsupportedOperationException.class, () -> pool.getQueue().offer(() -> { }, 1, TimeUnit.SECONDS));
+        refuses(UnsupportedOperationException.class, () -> pool.getQueue().take());
+        refuses(UnsupportedOperationException.class, () -> pool.getQueue().poll(1, TimeUnit.SECONDS));
+        refuses(NullPointerException.class, () -> pool.execute(null));
+        tell("nothing of a refusal is left", () -> {
+            pool.allowCoreThreadTimeOut(false);
+            demand(runs(pool, 10) == 10 && pool.endRecord() == null, "the record ended");
+            demand(files("refused").size() == 1 && files("none").isEmpty(), "files " + files("refused") + files("none"));
+        });
+    }
+
+    private static void faults() {
+        tell("a folder that can't be made", () -> {
+            Files.createFile(folder.resolve("a_file"));
+            RecordedThreadPoolExecutor pool = open(folder.resolve("a_file/none"), "none", 1, 2, 4, 0);
+            demand(runs(pool, 100) == 100, "tasks are lost");
+            demand(pool.endRecord() != null, "endRecord doesn't tell");
+        });
+        tell("a folder that isn't there", () -> {
+            RecordedThreadPoolExecutor pool = open(folder.resolve("new/folder"), "made", 1, 2, 4, 0);
+            demand(runs(pool, 10) == 10 && pool.endRecord() == null, "the record ended");
+            demand(Files.exists(folder.resolve("new/folder/made-00001.csv")), "there is no file");
+        });
+        tell("a file that can't grow", () -> {
+            RecordedThreadPoolExecutor pool = open(folder, "limited", 1, 2, 4, 0);
+            demand(runs(pool, 4000) == 4000, "tasks are lost");
+            demand(pool.endRecord() != null, "endRecord doesn't tell");
+        });
+        tell("a file that is gone", () -> {
+            RecordedThreadPoolExecutor pool = open(folder, "gone", 1, 2, 4, 0);
+            Files.delete(folder.resolve("gone-00001.csv"));
+            demand(runs(pool, 500) == 500, "tasks are lost");
+            demand(pool.endRecord().contains("isn't as it was left") && files("gone").isEmpty(), "endRecord doesn't tell, or there is a file");
+        });
+        tell("the end of a pool", () -> {
+            runs(open(folder, "whole", 1, 2, 4, 0), 100);
+            Path file = folder.resolve("whole-00001.csv");
+            for (int i = 0; i < 1000 && !Files.readString(file).contains("\nidle"); i++) Thread.sleep(10);
+            demand(Files.readString(file).contains("\nidle"), "the rest isn't written");
+        });
+        tell("the end of a record", () -> {
+            RecordedThreadPoolExecutor pool = open(folder, "ended", 1, 2, 4, 0);
+            pool.execute(() -> { });
+            demand(pool.endRecord() == null && pool.endRecord() != null, "endRecord tells otherwise");
+            long size = Files.size(folder.resolve("ended-00001.csv"));
+            demand(runs(pool, 50) == 51 && Files.size(folder.resolve("ended-00001.csv")) == size, "it goes on, or tasks are lost");
+        });
+    }
+
+    /** A pool of one thread that is held, with three tasks in its queue. */
+    private static RecordedThreadPoolExecutor held(String name, int keep, CountDownLatch gate, List<Runnable> tasks) {
+        RecordedThreadPoolExecutor pool = open(folder, name, 1, 1, 8, keep);
+        pool.execute(() -> { try { gate.await(); } catch (InterruptedException ended) { Thread.currentThread().interrupt(); } });
+        for (int i = 0; i < 3; i++) tasks.add(new Thread());
+        for (Runnable task : tasks) pool.execute(task);
+        return pool;
+    }
+
+    private static void hands() {
+        tell("other hands on the queue", () -> {
+            CountDownLatch gate = new CountDownLatch(1);
+            List<Runnable> tasks = new ArrayList<>(), taken = new ArrayList<>();
+            RecordedThreadPoolExecutor pool = held("hands", 0, gate, tasks);
+            BlockingQueue<Runnable> queue = pool.getQueue();
+            demand(queue.peek() == tasks.get(0) && queue.contains(tasks.get(2)), "it shows others");
+            demand(queue.size() == 3 && queue.remainingCapacity() == 5, "it has other sizes");
+            demand(pool.remove(tasks.get(1)) && !pool.remove(tasks.get(1)) && queue.size() == 2, "remove takes others");
+            demand(queue.removeIf(task -> task == tasks.get(2)) && queue.poll() == tasks.get(0) && queue.poll() == null, "others are taken");
+            for (Runnable task : tasks) pool.execute(task);
+            demand(queue.drainTo(taken, 2) == 2 && taken.equals(tasks.subList(0, 2)), "drainTo takes others");
+            queue.clear();
+            for (Runnable task : tasks) pool.execute(task);
+            demand(pool.shutdownNow().equals(tasks) && queue.isEmpty(), "shutdownNow hands back others");
+            end(pool);
+            demand(pool.getCompletedTaskCount() == 1 && pool.endRecord() == null, "the record ended");
+        });
+        tell("the last files are kept, and counted on from", () -> {
+            for (int round = 0; round < 2; round++) {
+                CountDownLatch gate = new CountDownLatch(1);
+                RecordedThreadPoolExecutor pool = held("kept", 3, gate, new ArrayList<>());
+                for (int i = 0; i < 3; i++) pool.getQueue().poll();
+                gate.countDown();
+                end(pool);
+                demand(pool.endRecord() == null, "the record ended");
+            }
+            demand(files("kept").equals(List.of("kept-00006.csv", "kept-00007.csv", "kept-00008.csv")), "there are " + files("kept"));
+        });
+        tell("more callers than have a number", () -> {
+            RecordedThreadPoolExecutor pool = open(folder, "callers", 1, 1, 2000, 0);
+            for (int i = 0; i < 1100; i++) {
+                Thread thread = new Thread(() -> pool.execute(() -> { }));
+                thread.start();
+                thread.join();
+            }
+            end(pool);
+            demand(pool.getCompletedTaskCount() == 1100 && pool.endRecord() == null, "the record ended");
+        });
+    }
+
+    /** A pool whose thread factory gives a thread where there is a plus, one that can't start where there is a dot, and then threads. */
+    private static RecordedThreadPoolExecutor givenThreads(String name, int core, int max, int capacity, String given) {
+        RecordedThreadPoolExecutor pool = open(folder, name, core, max, capacity, 0);
+        AtomicInteger asked = new AtomicInteger();
+        pool.setThreadFactory(task -> {
+            int turn = asked.getAndIncrement();
+            char now = turn < given.length() ? given.charAt(turn) : '+';
+            Thread thread = now == '-' ? null : now == '+' ? new Thread(task) : new Thread(task) {
+                @Override public synchronized void start() { throw new OutOfMemoryError("no thread"); }
+            };
+            if (thread != null) thread.setUncaughtExceptionHandler((t, thrown) -> { });
+            return thread;
+        });
+        return pool;
+    }
+
+    /** Waits until so many do, or a second. */
+    private static void await(CountDownLatch gate) {
+        gate.countDown();
+        try { gate.await(1, TimeUnit.SECONDS); } catch (InterruptedException ended) { Thread.currentThread().interrupt(); }
+    }
+
+    private static void failingThreads() {
+        tell("a factory that gives no thread at times", () -> {
+            AtomicInteger asked = new AtomicInteger();
+            RecordedThreadPoolExecutor pool = open(folder, "threads", 2, 4, 5, 0);
+            pool.setThreadFactory(task -> {
+                int turn = asked.incrementAndGet() % 3;
+                if (turn == 1) return null;
+                if (turn == 2) throw new IllegalStateException("no thread");
+                Thread thread = new Thread(task);
+                thread.setUncaughtExceptionHandler((t, thrown) -> { });
+                return thread;
+            });
+            for (int i = 0; i < 200; i++) {
+                try { pool.execute(() -> { throw new IllegalStateException("a task that throws"); }); }
+                catch (RejectedExecutionException | IllegalStateException none) { Thread.yield(); }
+            }
+            pool.setThreadFactory(THREADS);
+            pool.prestartAllCoreThreads();
+            end(pool);
+            pool.endRecord();
+        });
+        tell("a factory that gives a thread at the second time", () -> {
+            demand(runs(givenThreads("second", 1, 1, 2, "-+"), 20) == 20, "a task isn't run");
+            RecordedThreadPoolExecutor pool = givenThreads("extra", 2, 4, 1, "+--+");
+            CountDownLatch gate = new CountDownLatch(3);
+            for (int i = 0; i < 3; i++) pool.execute(() -> await(gate));
+            end(pool);
+            demand(pool.getCompletedTaskCount() == 3 && pool.endRecord() == null, "a task isn't run, or the record ended");
+        });
+        tell("a thread that can't start", () -> {
+            RecordedThreadPoolExecutor pool = givenThreads("start", 2, 2, 9, "+.+.-");
+            pool.execute(() -> { });
+            try { pool.execute(() -> { }); } catch (OutOfMemoryError none) { Thread.yield(); }
+            pool.execute(() -> { throw new IllegalStateException("a task that throws"); });
+            demand(runs(pool, 10) >= 12 && pool.endRecord() == null, "a task isn't run, or the record ended");
+        });
+        tell("a step that throws when it has begun", () -> {
+            RecordedThreadPoolExecutor pool = givenThreads("thrown", 1, 4, 9, "+.+.");
+            CountDownLatch gate = new CountDownLatch(1);
+            pool.execute(() -> { try { gate.await(); } catch (InterruptedException ended) { Thread.currentThread().interrupt(); } });
+            for (int i = 0; i < 5; i++) pool.execute(() -> { });
+            try { pool.setCorePoolSize(3); } catch (OutOfMemoryError none) { Thread.yield(); }
+            try { pool.prestartAllCoreThreads(); } catch (OutOfMemoryError none) { Thread.yield(); }
+            gate.countDown();
+            end(pool);
+            demand(pool.getCorePoolSize() == 3 && pool.getCompletedTaskCount() == 6, "a size is another, or a task isn't run");
+            demand(pool.endRecord() == null, "the record ended");
+        });
+        tell("the pool's parts are the user's own", () -> {
+            RecordedThreadPoolExecutor pool = open(folder, "parts", 1, 1, 1, 0);
+            AbortPolicy handler = new AbortPolicy();
+            pool.setRejectedExecutionHandler(handler);
+            demand(pool.getThreadFactory() == THREADS && pool.getRejectedExecutionHandler() == handler, "it hands out others");
+            pool.setThreadFactory(pool.getThreadFactory());
+            demand(runs(pool, 20) == 20 && pool.endRecord() == null, "the record ended");
+        });
+    }
+
+    public static void main(String[] args) {
+        folder = Path.of(args[0]);
+        refusals();
+        faults();
+        hands();
+        failingThreads();
+        System.exit(0); // a pool of what failed may have threads left
+    }
+}

@@ -1,0 +1,294 @@
+//! The layer whose calls wait.
+use crate::{BulkheadLayer, CallError, ResponseFuture};
+use pin_project_lite::pin_project;
+use resil::{Acquire, Bulkhead, NoPermit, OwnedPermit};
+use std::fmt;
+use std::future::{self, Future, Pending};
+use std::pin::Pin;
+use std::sync::Arc;
+use std::task::{Context, Poll, ready};
+use std::time::Duration;
+use tower_layer::Layer;
+use tower_service::Service;
+
+impl BulkheadLayer {
+    /// A layer over this bulkhead whose services are ready at once, and whose calls wait for a permit, first come, first served by
+    /// their first polls. While nobody calls, nothing is held: an idle connection has neither a permit nor a place in the row.
+    ///
+    /// A call waits as long as there is no permit, unless its future is dropped, as by tower's `Timeout` outside, or the layer is
+    /// told [how long](QueueingLayer::longest) a call may wait, or [how many](QueueingLayer::most_waiting). The inner service is
+    /// asked whether it is ready once there is a permit, so each call has a copy of it.
+    ///
+    /// ```
+    /// use resil::Bulkhead;
+    /// use resil_tower::{BulkheadLayer, CallError};
+    /// use std::{convert::Infallible, sync::Arc, time::Duration};
+    /// use tower::{BoxError, Service, ServiceBuilder, ServiceExt, service_fn};
+    ///
+    /// # #[tokio::main(flavor = "current_thread")]
+    /// # async fn main() -> Result<(), BoxError> {
+    /// let backend = Arc::new(Bulkhead::new("backend", 1)?);
+    /// let queueing = BulkheadLayer::queueing(Arc::clone(&backend))
+    ///     .longest(Duration::from_millis(5), tokio::time::sleep)
+    ///     .most_waiting(100);
+    /// let mut answers = ServiceBuilder::new()
+    ///     .layer(queueing)
+    ///     .service(service_fn(async |number: u32| Ok::<u32, Infallible>(number + 1)));
+    ///
+    /// let permit = backend.enter()?;
+    /// assert_eq!(answers.ready().await?.call(41).await, Err(CallError::Full));
+    /// drop(permit);
+    /// assert_eq!(answers.ready().await?.call(41).await, Ok(42));
+    /// # Ok(())
+    /// # }
+    /// ```
+    pub fn queueing(bulkhead: Arc<Bulkhead>) -> QueueingLayer {
+        QueueingLayer {
+            bulkhead,
+            most_waiting: usize::MAX,
+            longest: Duration::MAX,
+            sleep: |_longest| future::pending(),
+        }
+    }
+}
+
+/// Puts a bulkhead round a service whose calls wait for its permits. [`BulkheadLayer::queueing`] makes it.
+///
+/// ```
+/// let backend = std::sync::Arc::new(resil::Bulkhead::new("backend", 1)?);
+/// let layer: resil_tower::QueueingLayer = resil_tower::BulkheadLayer::queueing(backend);
+/// # drop(layer);
+/// # Ok::<(), resil::BulkheadError>(())
+/// ```
+#[derive(Debug, Clone)]
+pub struct QueueingLayer<P = fn(Duration) -> Pending<()>> {
+    bulkhead: Arc<Bulkhead>,
+    most_waiting: usize,
+    longest: Duration,
+    sleep: P,
+}
+
+impl<P> QueueingLayer<P> {
+    /// The same, but a call is refused by [`CallError::Full`] where it has no permit after so long, which is Resilience4j's
+    /// `maxWaitDuration`. The function gives a future that is ready after a while, as `tokio::time::sleep`.
+    ///
+    /// ```
+    /// use std::{sync::Arc, time::Duration};
+    ///
+    /// let backend = Arc::new(resil::Bulkhead::new("backend", 1)?);
+    /// let layer = resil_tower::BulkheadLayer::queueing(backend)
+    ///     .longest(Duration::from_millis(500), tokio::time::sleep);
+    /// # drop(layer);
+    /// # Ok::<(), resil::BulkheadError>(())
+    /// ```
+    pub fn longest<S, F>(self, longest: Duration, sleep: S) -> QueueingLayer<S>
+    where
+        S: Fn(Duration) -> F + Clone,
+        F: Future<Output = ()>,
+    {
+        QueueingLayer {
+            bulkhead: self.bulkhead,
+            most_waiting: self.most_waiting,
+            longest,
+            sleep,
+        }
+    }
+
+    /// The same, but a call is refused by [`CallError::Full`] at once where it would have to wait and so many wait for the bulkhead
+    /// already, by this layer or otherwise.
+    ///
+    /// ```
+    /// let backend = std::sync::Arc::new(resil::Bulkhead::new("backend", 1)?);
+    /// let layer = resil_tower::BulkheadLayer::queueing(backend).most_waiting(100);
+    /// # drop(layer);
+    /// # Ok::<(), resil::BulkheadError>(())
+    /// ```
+    #[must_use]
+    pub fn most_waiting(mut self, most: usize) -> QueueingLayer<P> {
+        self.most_waiting = most;
+        self
+    }
+}
+
+impl<S, P: Clone> Layer<S> for QueueingLayer<P> {
+    type Service = QueueingService<S, P>;
+
+    fn layer(&self, inner: S) -> QueueingService<S, P> {
+        QueueingService {
+            inner,
+            layer: self.clone(),
+        }
+    }
+}
+
+/// Calls copies of a service under permits of a bulkhead, for which the calls wait. It is always ready. A [`QueueingLayer`] makes it.
+///
+/// ```
+/// use resil::Bulkhead;
+/// use resil_tower::BulkheadLayer;
+/// use std::{convert::Infallible, sync::Arc};
+/// use tower::{Layer, Service, service_fn};
+///
+/// # #[tokio::main(flavor = "current_thread")]
+/// # async fn main() -> Result<(), tower::BoxError> {
+/// let backend = Arc::new(Bulkhead::new("backend", 1)?);
+/// let answers = service_fn(async |number: u32| Ok::<u32, Infallible>(number + 1));
+/// let mut answers = BulkheadLayer::queueing(backend).layer(answers);
+/// let (first, second) = (answers.call(41), answers.call(6));
+/// assert_eq!(tokio::join!(first, second), (Ok(42), Ok(7)));
+/// # Ok(())
+/// # }
+/// ```
+#[derive(Debug, Clone)]
+pub struct QueueingService<S, P = fn(Duration) -> Pending<()>> {
+    inner: S,
+    layer: QueueingLayer<P>,
+}
+
+impl<S, P, F, Request> Service<Request> for QueueingService<S, P>
+where
+    S: Service<Request> + Clone,
+    P: Fn(Duration) -> F + Clone,
+    F: Future<Output = ()>,
+{
+    type Response = S::Response;
+    type Error = CallError<S::Error>;
+    type Future = QueueingFuture<S, Request, P, F>;
+
+    #[inline]
+    fn poll_ready(&mut self, _context: &mut Context<'_>) -> Poll<Result<(), Self::Error>> {
+        Poll::Ready(Ok(()))
+    }
+
+    #[inline]
+    fn call(&mut self, request: Request) -> Self::Future {
+        let QueueingLayer {
+            bulkhead,
+            most_waiting,
+            longest,
+            sleep,
+        } = &self.layer;
+        QueueingFuture {
+            acquire: bulkhead.acquire().most_waiting(*most_waiting),
+            longest: *longest,
+            sleep: sleep.clone(),
+            timer: None,
+            permit: None,
+            next: Some((self.inner.clone(), request)),
+            call: None,
+        }
+    }
+}
+
+pin_project! {
+    /// The answer of a call that waits for its permit first, or why there is none.
+    ///
+    /// It stands in the bulkhead's row from its first poll on. It gives the permit back before it is ready, or when it is dropped.
+    ///
+    /// ```
+    /// use resil::Bulkhead;
+    /// use resil_tower::BulkheadLayer;
+    /// use std::{convert::Infallible, sync::Arc};
+    /// use tower::{Layer, Service, service_fn};
+    ///
+    /// let backend = Arc::new(Bulkhead::new("backend", 1)?);
+    /// let answers = service_fn(async |number: u32| Ok::<u32, Infallible>(number + 1));
+    /// let call = BulkheadLayer::queueing(Arc::clone(&backend)).layer(answers).call(41);
+    /// assert_eq!(backend.available(), 1);
+    /// drop(call);
+    /// # Ok::<(), resil::BulkheadError>(())
+    /// ```
+    #[must_use = "a future that isn't polled makes no call"]
+    pub struct QueueingFuture<S, Request, P, F>
+    where
+        S: Service<Request>,
+    {
+        acquire: Acquire,
+        longest: Duration,
+        sleep: P,
+        // From the first look on that finds no permit.
+        #[pin]
+        timer: Option<F>,
+        // Until it is called: the service, and what it is asked.
+        next: Option<(S, Request)>,
+        // While the service isn't ready yet.
+        permit: Option<OwnedPermit>,
+        #[pin]
+        call: Option<ResponseFuture<S::Future>>,
+    }
+}
+
+impl<S, Request, P, F> QueueingFuture<S, Request, P, F>
+where
+    S: Service<Request>,
+    P: Fn(Duration) -> F,
+    F: Future<Output = ()>,
+{
+    fn poll_permit(
+        self: Pin<&mut Self>,
+        context: &mut Context<'_>,
+    ) -> Poll<Result<OwnedPermit, NoPermit>> {
+        let mut this = self.project();
+        let acquired = Pin::new(&mut *this.acquire).poll(context);
+        if acquired.is_ready() {
+            this.timer.set(None);
+            return acquired;
+        }
+        if this.timer.is_none() {
+            this.timer.set(Some((this.sleep)(*this.longest)));
+        }
+        if let Some(timer) = this.timer.as_pin_mut() {
+            ready!(timer.poll(context));
+        }
+        Poll::Ready(Err(this.acquire.give_up()))
+    }
+
+    fn poll_answer(
+        mut self: Pin<&mut Self>,
+        context: &mut Context<'_>,
+    ) -> Poll<Result<S::Response, CallError<S::Error>>> {
+        if self.next.is_some() && self.permit.is_none() {
+            let permit = ready!(self.as_mut().poll_permit(context))?;
+            *self.as_mut().project().permit = Some(permit);
+        }
+        let mut this = self.project();
+        if let Some((inner, _)) = this.next {
+            ready!(inner.poll_ready(context)).map_err(CallError::Failed)?;
+        }
+        if let Some(((mut inner, request), permit)) = this.next.take().zip(this.permit.take()) {
+            // Where the inner service panics, the permit is dropped.
+            let call = ResponseFuture::running(inner.call(request), permit);
+            this.call.set(Some(call));
+        }
+        let call = this.call.as_pin_mut();
+        call.expect("a call was polled after its answer").poll(context)
+    }
+}
+
+impl<S, Request, P, F> Future for QueueingFuture<S, Request, P, F>
+where
+    S: Service<Request>,
+    P: Fn(Duration) -> F,
+    F: Future<Output = ()>,
+{
+    type Output = Result<S::Response, CallError<S::Error>>;
+
+    /// # Panics
+    ///
+    /// Where it is polled once more after it was ready.
+    #[inline]
+    fn poll(mut self: Pin<&mut Self>, context: &mut Context<'_>) -> Poll<Self::Output> {
+        let answer = ready!(self.as_mut().poll_answer(context));
+        let mut this = self.project();
+        this.call.set(None);
+        *this.next = None;
+        *this.permit = None;
+        Poll::Ready(answer)
+    }
+}
+
+impl<S: Service<Request>, Request, P, F> fmt::Debug for QueueingFuture<S, Request, P, F> {
+    fn fmt(&self, f: &mut fmt::Formatter<'_>) -> fmt::Result {
+        f.debug_struct("QueueingFuture").finish_non_exhaustive()
+    }
+}

@@ -1,0 +1,71 @@
+//! What is kept by tickets.
+use std::collections::VecDeque;
+
+/// Values in the order of their tickets, of which any may be taken out.
+///
+/// What is taken out of the middle leaves a gap. Once gaps are most of it they are closed, so that a removal takes as long however many
+/// there are, but for a search; and the memory of what is gone comes back.
+#[derive(Default)]
+pub(super) struct Tickets<T> {
+    // None in a gap. The first isn't one.
+    entries: VecDeque<(u64, Option<T>)>,
+    gaps: usize,
+}
+
+impl<T> Tickets<T> {
+    // Few values keep their memory.
+    const FEW: usize = 64;
+
+    pub(super) fn is_empty(&self) -> bool {
+        self.entries.is_empty()
+    }
+
+    /// The ticket is above all that are there.
+    pub(super) fn push(&mut self, ticket: u64, value: T) {
+        self.entries.push_back((ticket, Some(value)));
+    }
+
+    pub(super) fn pop_first(&mut self) -> Option<(u64, T)> {
+        let (ticket, value) = self.entries.pop_front()?;
+        self.close_gaps();
+        Some((ticket, value?))
+    }
+
+    pub(super) fn get_mut(&mut self, ticket: u64) -> Option<&mut T> {
+        let index = self.index(ticket)?;
+        self.entries[index].1.as_mut()
+    }
+
+    pub(super) fn remove(&mut self, ticket: u64) -> Option<T> {
+        let index = self.index(ticket)?;
+        let value = self.entries[index].1.take()?;
+        self.gaps += 1;
+        self.close_gaps();
+        Some(value)
+    }
+
+    pub(super) fn into_values(self) -> impl Iterator<Item = T> {
+        self.entries.into_iter().filter_map(|(_, value)| value)
+    }
+
+    fn index(&self, ticket: u64) -> Option<usize> {
+        let index = self.entries.binary_search_by_key(&ticket, |entry| entry.0);
+        index.ok()
+    }
+
+    fn close_gaps(&mut self) {
+        let is_gap = |entry: &(u64, Option<T>)| entry.1.is_none();
+        while self.entries.front().is_some_and(is_gap) {
+            self.entries.pop_front();
+            self.gaps -= 1;
+        }
+        if self.gaps > self.entries.len() / 2 {
+            self.entries.retain(|entry| !is_gap(entry));
+            self.gaps = 0;
+        }
+        let room = self.entries.capacity();
+        if room > Self::FEW && self.entries.len() < room / 4 {
+            self.entries.shrink_to(self.entries.len() * 2);
+        }
+    }
+}

@@ -1,0 +1,348 @@
+//! The record of a pool, and the text of a history that comes of it.
+//!
+//! An event is noted by the call of the rule that makes it. Both lie behind the pool's lock, so their order is that of the rule's
+//! decisions. Each part of a record begins with events that make the state in which the pool was, so it is judged alone.
+use crate::rule::{JobId, Origin, Picked, PoolError, PoolNumbers, PoolRule, Reply};
+use std::collections::{HashMap, VecDeque};
+use std::fmt::{Arguments, Write as _};
+use std::{iter, mem};
+
+/// The most events of a part. A line has at most 41 bytes while the pool is younger than 300 years, so a text has less than a mebibyte.
+pub(crate) const MOST_EVENTS: u32 = 25_000;
+
+/// How many jobs may run at once. The rule gives each a place below.
+const PLACES: usize = 64;
+
+/// The callers of a text: all who submit, and who stands in for what an idle thread had run before the text begins.
+const SUBMITTERS: u8 = 1;
+const STAND_INS: u8 = 2;
+
+#[derive(Clone, Copy)]
+enum What {
+    Submit(Reply),
+    Take,
+    Finish,
+    IdleEnd,
+    Close,
+    Resize(u8, u8),
+}
+
+/// An event with its time in microseconds. Of no job, and of one whose number isn't known, the job is 0.
+#[derive(Clone, Copy)]
+pub(crate) struct Noted {
+    at: u64,
+    job: u64,
+    caller: u8,
+    what: What,
+}
+
+const _: () = assert!(size_of::<Noted>() == 24);
+
+fn noted(at: u64, caller: u8, job: u64, what: What) -> Noted {
+    Noted {
+        at,
+        job,
+        caller,
+        what,
+    }
+}
+
+fn resized(core: u32, max: u32) -> What {
+    let size = |size: u32| u8::try_from(size).expect("a size is at most 64");
+    What::Resize(size(core), size(max))
+}
+
+/// Memory for so many events. It was written to, so that no turn has the system find it.
+///
+/// # Errors
+///
+/// `Memory` where memory runs out.
+pub(crate) fn memory_for(events: usize) -> Result<Vec<Noted>, PoolError> {
+    let mut memory = Vec::new();
+    let reserved = memory.try_reserve_exact(events);
+    reserved.map_err(|_| PoolError::Memory)?;
+    memory.resize(events, noted(0, SUBMITTERS, 0, What::Close));
+    memory.clear();
+    Ok(memory)
+}
+
+/// What the head of a part tells; how many events the part may have, and how many of them make its state.
+#[derive(Clone, Copy)]
+struct Head {
+    number: u64,
+    core: u32,
+    greatest: u32,
+    queue: u32,
+    most: usize,
+    made: usize,
+}
+
+/// A part of a record that is over, and how many events more came when there was no room.
+pub(crate) struct Part {
+    head: Head,
+    events: Vec<Noted>,
+    missed: u64,
+}
+
+impl Part {
+    /// The text of a history, with its head.
+    pub(crate) fn text(&self) -> String {
+        let head = self.head;
+        let (core, max, queue) = (head.core, head.greatest, head.queue);
+        let mut lines = Lines::default();
+        self.events.iter().for_each(|noted| lines.write(*noted));
+        let made = match head.made {
+            0 => String::new(),
+            made if made > head.most => " Too many jobs waited, so it is empty.".to_owned(),
+            made => format!(" The first {made} events make the state in which the pool was."),
+        };
+        let missed = match self.missed {
+            0 => String::new(),
+            missed => format!("\n# The room was full: {missed} events that came then are missing."),
+        };
+        let comments = format!("# Part {} of a pool's record.{made}{missed}", head.number);
+        let sizes = format!("core = {core}\nmax = {max}\nqueue = {queue}");
+        let head = format!("{comments}\n{sizes}\n---\nevent,caller,number,reply,core,max,at\n");
+        head + &lines.text
+    }
+}
+
+/// The lines of a text, in which each caller's submissions are numbered from 1.
+#[derive(Default)]
+struct Lines {
+    text: String,
+    submitted: [u64; 2],
+    // The numbers of the jobs that wait, oldest first, and of those that run, by their caller and their number in the pool.
+    waiting: VecDeque<u64>,
+    running: HashMap<(u8, u64), u64>,
+}
+
+impl Lines {
+    fn write(&mut self, noted: Noted) {
+        let (at, job, caller) = (noted.at, noted.job, noted.caller);
+        match noted.what {
+            What::Submit(reply) => {
+                let number = self.submit(caller, job, reply);
+                let reply = name_of(reply);
+                self.line(at, format_args!("submit,{caller},{number},{reply},,"));
+            }
+            What::Take => {
+                let number = self.waiting.pop_front().expect("what is taken waits");
+                self.running.insert((caller, job), number);
+                self.line(at, format_args!("take,{caller},{number},,,"));
+            }
+            What::Finish => {
+                let number = self.running.remove(&(caller, job));
+                let number = number.expect("what is finished runs");
+                self.line(at, format_args!("finish,{caller},{number},,,"));
+            }
+            What::IdleEnd => self.line(at, format_args!("idle,,,,,")),
+            What::Close => self.line(at, format_args!("close,,,,,")),
+            What::Resize(core, max) => self.line(at, format_args!("resize,,,,{core},{max}")),
+        }
+    }
+
+    fn submit(&mut self, caller: u8, job: u64, reply: Reply) -> u64 {
+        let count = &mut self.submitted[usize::from(caller - SUBMITTERS)];
+        let number = *count + 1;
+        *count = number;
+        match reply {
+            Reply::Core | Reply::Extra => drop(self.running.insert((caller, job), number)),
+            Reply::Queued => self.waiting.push_back(number),
+            Reply::Full | Reply::Closed => {}
+        }
+        number
+    }
+
+    fn line(&mut self, at: u64, fields: Arguments<'_>) {
+        let _written = writeln!(self.text, "{fields},{at}");
+    }
+}
+
+fn name_of(reply: Reply) -> &'static str {
+    match reply {
+        Reply::Core => "core",
+        Reply::Queued => "queued",
+        Reply::Extra => "extra",
+        Reply::Full => "full",
+        Reply::Closed => "closed",
+    }
+}
+
+/// What is noted. What each event changes lies in one cache line, where there are few places.
+#[repr(C, align(64))]
+struct Record {
+    // The time of the turn.
+    at: u64,
+    // No more come where they fill their memory.
+    events: Vec<Noted>,
+    // The jobs that run, each at its place; 0 where none does.
+    running: [u64; PLACES],
+    missed: u64,
+    head: Head,
+}
+
+impl Record {
+    #[inline]
+    fn note(&mut self, job: u64, what: What) {
+        if self.events.len() < self.events.capacity() {
+            self.events.push(noted(self.at, SUBMITTERS, job, what));
+        } else {
+            self.missed += 1;
+        }
+    }
+
+    /// The events that make the state of a pool, of an open one of its core size and the greatest size at the opening; at most one more
+    /// than a part may have.
+    fn made(&self, numbers: PoolNumbers, is_closed: bool) -> Vec<Noted> {
+        let (workers, waiting) = (numbers.workers, numbers.waiting);
+        let (core, max) = (numbers.core, numbers.max);
+        let mut jobs = self.running.to_vec();
+        jobs.retain(|job| *job > 0);
+        jobs.sort_unstable();
+        let (at, idle) = (self.at, u64::from(workers - numbers.running));
+        let of = |job: u64, what: What| noted(at, SUBMITTERS, job, what);
+        let one = |is_so: bool, what: What| is_so.then(|| of(0, what));
+        let each_idle = |what: What| (1..=idle).map(move |job| noted(at, STAND_INS, job, what));
+        // A worker comes by a submission below the core size, and jobs wait where there are as many as that.
+        let is_sized = workers > core || (workers < core && waiting > 0);
+        let all = self.head.greatest;
+        let (starts, waits) = (What::Submit(Reply::Core), What::Submit(Reply::Queued));
+        one(is_sized, resized(workers, all))
+            .into_iter()
+            .chain(jobs.into_iter().map(|job| of(job, starts)))
+            .chain(each_idle(starts))
+            .chain(iter::repeat_n(of(0, waits), waiting as usize))
+            .chain(each_idle(What::Finish))
+            .chain(one(is_sized || max < all, resized(core, max)))
+            .chain(one(is_closed, What::Close))
+            .take(self.head.most + 1)
+            .collect()
+    }
+}
+
+/// The rule of a pool with the record that it has where it is recorded: each call that makes an event notes it.
+pub(crate) struct RecordedRule {
+    rule: PoolRule,
+    record: Option<Box<Record>>,
+}
+
+impl RecordedRule {
+    /// A rule to which nothing has happened, with the memory for a record of so many events.
+    ///
+    /// # Errors
+    ///
+    /// `Memory` where memory runs out.
+    pub(crate) fn new(mut rule: PoolRule, events: Option<usize>) -> Result<Self, PoolError> {
+        let memory = events.map(memory_for).transpose()?;
+        let numbers = rule.numbers();
+        let record = memory.map(|events| Record {
+            at: 0,
+            running: [0; PLACES],
+            missed: 0,
+            head: Head {
+                number: 1,
+                core: numbers.core,
+                greatest: numbers.max,
+                queue: numbers.capacity,
+                most: events.capacity(),
+                made: 0,
+            },
+            events,
+        });
+        let record = record.map(Box::new);
+        Ok(RecordedRule { rule, record })
+    }
+
+    /// Begins a turn, whose events have this time in microseconds, or that of the turn before where it is later.
+    #[inline]
+    pub(crate) fn begin_turn(&mut self, at: Option<u64>) {
+        if let (Some(at), Some(record)) = (at, &mut self.record) {
+            record.at = record.at.max(at);
+        }
+    }
+
+    /// What was recorded up to here, where the pool is recorded. The next part goes on in this memory.
+    pub(crate) fn begin_part(&mut self, mut memory: Vec<Noted>) -> Option<Part> {
+        let record = self.record.as_mut()?;
+        let numbers = self.rule.numbers();
+        let mut made = record.made(numbers, self.rule.is_closed());
+        let next = Head {
+            number: record.head.number + 1,
+            core: numbers.core,
+            made: made.len(),
+            ..record.head
+        };
+        if made.len() > next.most {
+            memory = Vec::new();
+        } else {
+            memory.append(&mut made);
+        }
+        Some(Part {
+            head: mem::replace(&mut record.head, next),
+            events: mem::replace(&mut record.events, memory),
+            missed: mem::take(&mut record.missed),
+        })
+    }
+
+    #[inline]
+    fn note(&mut self, job: u64, what: What) {
+        if let Some(record) = &mut self.record {
+            record.note(job, what);
+        }
+    }
+
+    #[inline]
+    pub(crate) fn submit(&mut self, id: JobId, work: u64) -> Result<Reply, PoolError> {
+        let reply = self.rule.submit(id, work)?;
+        self.note(id.number, What::Submit(reply));
+        Ok(reply)
+    }
+
+    #[inline]
+    pub(crate) fn pick(&mut self) -> Option<Picked> {
+        let picked = self.rule.pick()?;
+        if let Some(record) = &mut self.record {
+            record.running[picked.place as usize] = picked.id.number;
+            // An own start is no event.
+            if picked.origin == Origin::Queue {
+                record.note(picked.id.number, What::Take);
+            }
+        }
+        Some(picked)
+    }
+
+    #[inline]
+    pub(crate) fn finish(&mut self, picked: &Picked) -> Result<(), PoolError> {
+        self.rule.finish(picked)?;
+        if let Some(record) = &mut self.record {
+            record.running[picked.place as usize] = 0;
+            record.note(picked.id.number, What::Finish);
+        }
+        Ok(())
+    }
+
+    pub(crate) fn resize(&mut self, core: u32, max: u32) -> Result<(), PoolError> {
+        self.rule.resize(core, max)?;
+        self.note(0, resized(core, max));
+        Ok(())
+    }
+
+    pub(crate) fn idle_end(&mut self) -> bool {
+        let has_ended = self.rule.idle_end();
+        if has_ended {
+            self.note(0, What::IdleEnd);
+        }
+        has_ended
+    }
+
+    pub(crate) fn close(&mut self) {
+        if self.rule.close() {
+            self.note(0, What::Close);
+        }
+    }
+
+    pub(crate) fn numbers(&mut self) -> PoolNumbers {
+        self.rule.numbers()
+    }
+}

@@ -1,0 +1,201 @@
+//! Bulkheads that are closed: for whom waits, for whom asks later, and for whom holds a permit.
+use resil::{Acquire, Bulkhead, Closed, NoPermit, Observer, OwnedPermit};
+use std::error::Error;
+use std::pin::{Pin, pin};
+use std::sync::atomic::{AtomicU32, Ordering};
+use std::sync::{Arc, Weak};
+use std::task::{Context, Poll, Wake, Waker};
+use std::thread;
+use std::time::Duration;
+
+type Checked = Result<(), Box<dyn Error>>;
+type Asked = Poll<Result<OwnedPermit, NoPermit>>;
+
+fn polled(permit: &mut Acquire) -> Asked {
+    Pin::new(permit).poll(&mut Context::from_waker(Waker::noop()))
+}
+
+fn is_closed(asked: &Asked) -> bool {
+    matches!(asked, Poll::Ready(Err(Closed)))
+}
+
+#[test]
+fn who_asks_later_is_told() -> Checked {
+    let backend = Arc::new(Bulkhead::new("backend", 2)?);
+    assert!(!backend.is_closed());
+    backend.close();
+    assert!(backend.is_closed());
+    assert_eq!(backend.call(|| unreachable!()), Err::<(), _>(Closed));
+    assert_eq!(backend.enter().err(), Some(Closed));
+    assert_eq!(backend.enter_owned().err(), Some(Closed));
+    assert_eq!(backend.enter_within(Duration::MAX).err(), Some(Closed));
+    assert_eq!(
+        backend.enter_owned_within(Duration::ZERO).err(),
+        Some(Closed)
+    );
+    assert!(is_closed(&polled(&mut backend.acquire())));
+    // A second time.
+    backend.close();
+    assert_eq!(
+        (backend.enter().err(), backend.available()),
+        (Some(Closed), 2)
+    );
+    Ok(())
+}
+
+#[test]
+fn who_waits_is_told_at_once() -> Checked {
+    let backend = Arc::new(Bulkhead::new("backend", 1)?);
+    let permit = backend.enter()?;
+    let mut row = [(); 3].map(|()| backend.acquire());
+    assert!(row.iter_mut().all(|one| polled(one).is_pending()));
+    let threads = thread::scope(|scope| {
+        let threads = [(); 2].map(|()| scope.spawn(|| backend.enter_within(Duration::MAX).err()));
+        while backend.numbers().waiting < 5 {
+            thread::yield_now();
+        }
+        backend.close();
+        threads.map(|thread| thread.join().ok().flatten())
+    });
+    assert_eq!(threads, [Some(Closed); 2]);
+    assert!(row.iter_mut().all(|one| is_closed(&polled(one))));
+    assert_eq!((backend.available(), backend.numbers().waiting), (0, 0));
+    // Who has a permit gives it back as ever.
+    drop(permit);
+    assert_eq!(backend.available(), 1);
+    Ok(())
+}
+
+#[test]
+fn who_was_given_a_permit_has_it() -> Checked {
+    let backend = Arc::new(Bulkhead::new("backend", 1)?);
+    let permit = backend.enter()?;
+    let (mut first, mut second) = (backend.acquire(), backend.acquire());
+    assert!(polled(&mut first).is_pending() && polled(&mut second).is_pending());
+    drop(permit);
+    backend.close();
+    let given = polled(&mut first);
+    assert!(matches!(given, Poll::Ready(Ok(_))));
+    assert!(is_closed(&polled(&mut second)));
+    assert_eq!(backend.available(), 0);
+    drop(given);
+    assert_eq!((backend.available(), backend.numbers().waiting), (1, 0));
+    // One that is dropped, and not polled.
+    let backend = Arc::new(Bulkhead::new("backend", 1)?);
+    let permit = backend.enter()?;
+    let mut waits = backend.acquire();
+    assert!(polled(&mut waits).is_pending());
+    backend.close();
+    drop(waits);
+    drop(permit);
+    assert_eq!((backend.available(), backend.numbers().waiting), (1, 0));
+    Ok(())
+}
+
+/// Closes the bulkhead when it is woken.
+struct Closes(Weak<Bulkhead>, AtomicU32);
+
+impl Wake for Closes {
+    fn wake(self: Arc<Self>) {
+        self.1.fetch_add(1, Ordering::SeqCst);
+        if let Some(backend) = self.0.upgrade() {
+            backend.close();
+        }
+    }
+}
+
+#[test]
+fn a_waker_may_close_it() -> Checked {
+    let backend = Arc::new(Bulkhead::new("backend", 1)?);
+    let permit = backend.enter()?;
+    let closes = Arc::new(Closes(Arc::downgrade(&backend), AtomicU32::new(0)));
+    let waker = Waker::from(Arc::clone(&closes));
+    let mut row = [(); 3].map(|()| backend.acquire());
+    for one in &mut row {
+        assert!(
+            Pin::new(one)
+                .poll(&mut Context::from_waker(&waker))
+                .is_pending()
+        );
+    }
+    // The first is given the permit, and by its waker the others are told, whose wakers close it once more.
+    drop(permit);
+    assert_eq!(closes.1.load(Ordering::SeqCst), 3);
+    let [first, second, third] = &mut row;
+    assert!(matches!(polled(first), Poll::Ready(Ok(_))));
+    assert!(is_closed(&polled(second)) && is_closed(&polled(third)));
+    Ok(())
+}
+
+/// Counts refusals.
+#[derive(Default)]
+struct Refusals(AtomicU32);
+
+impl Observer for Refusals {
+    fn call_refused(&self, _bulkhead: &str) {
+        self.0.fetch_add(1, Ordering::SeqCst);
+    }
+}
+
+#[test]
+fn the_observer_is_told_of_each_refusal() -> Checked {
+    let refusals = Arc::new(Refusals::default());
+    let backend = Arc::new(Bulkhead::new("backend", 1)?.observed(refusals.clone()));
+    let permit = backend.enter()?;
+    let mut waits = backend.acquire();
+    assert!(polled(&mut waits).is_pending());
+    backend.close();
+    assert!(is_closed(&polled(&mut waits)) && backend.enter().is_err());
+    assert!(backend.enter_within(Duration::MAX).is_err());
+    assert!(
+        pin!(backend.acquire())
+            .poll(&mut Context::from_waker(Waker::noop()))
+            .is_ready()
+    );
+    drop(permit);
+    assert_eq!(refusals.0.load(Ordering::SeqCst), 4);
+    Ok(())
+}
+
+// While threads go in and out of it by all ways.
+#[test]
+fn it_is_closed_in_the_middle_of_its_work() -> Checked {
+    for _ in 0..50 {
+        let backend = Arc::new(Bulkhead::new("backend", 2)?);
+        let closed = thread::scope(|scope| {
+            let threads: Vec<_> = (0..6)
+                .map(|kind| {
+                    let backend = &backend;
+                    scope.spawn(move || {
+                        loop {
+                            let refused = match kind % 3 {
+                                0 => backend.call(thread::yield_now).err(),
+                                1 => backend.enter_within(Duration::MAX).err(),
+                                _ => {
+                                    let mut permit = backend.acquire();
+                                    loop {
+                                        if let Poll::Ready(permit) = polled(&mut permit) {
+                                            break permit.err();
+                                        }
+                                        thread::yield_now();
+                                    }
+                                }
+                            };
+                            if refused == Some(Closed) {
+                                return true;
+                            }
+                        }
+                    })
+                })
+                .collect();
+            thread::sleep(Duration::from_millis(2));
+            backend.close();
+            threads
+                .into_iter()
+                .all(|thread| thread.join().unwrap_or(false))
+        });
+        assert!(closed);
+        assert_eq!((backend.available(), backend.numbers().waiting), (2, 0));
+    }
+    Ok(())
+}

@@ -1,0 +1,307 @@
+//! Several permits at a time: all or none, in the row's order, beside those who ask for one.
+use resil::{AcquireMany, Bulkhead, Closed, Full, NoPermit, Observer, OwnedPermit};
+use std::error::Error;
+use std::panic::{AssertUnwindSafe, catch_unwind};
+use std::pin::{Pin, pin};
+use std::sync::Arc;
+use std::sync::atomic::{AtomicI64, AtomicU32, Ordering};
+use std::task::{Context, Poll, Wake, Waker};
+use std::thread;
+use std::time::Duration;
+
+type Checked = Result<(), Box<dyn Error>>;
+
+fn polled<F: Future + Unpin>(future: &mut F) -> Poll<F::Output> {
+    Pin::new(future).poll(&mut Context::from_waker(Waker::noop()))
+}
+
+// All of them; an error where they aren't there.
+fn all(many: &mut AcquireMany) -> Result<Vec<OwnedPermit>, Box<dyn Error>> {
+    match polled(many) {
+        Poll::Ready(permits) => Ok(permits?),
+        Poll::Pending => Err("it still waits".into()),
+    }
+}
+
+fn is_idle(backend: &Bulkhead) -> bool {
+    (backend.available(), backend.numbers().waiting) == (backend.max(), 0)
+}
+
+#[test]
+fn they_are_all_or_none() -> Checked {
+    let backend = Arc::new(Bulkhead::new("backend", 3)?);
+    let mut permits = backend.enter_many(2)?;
+    assert_eq!((permits.len(), backend.available()), (2, 1));
+    assert_eq!(
+        (backend.enter_many(2).err(), backend.available()),
+        (Some(Full), 1)
+    );
+    // Given back in parts.
+    permits.pop();
+    drop(backend.enter_many(2)?);
+    assert_eq!(backend.available(), 2);
+    drop(permits);
+    let mut permits = all(&mut backend.acquire_many(3))?;
+    assert_eq!((permits.len(), backend.available()), (3, 0));
+    for free in 1..=3 {
+        drop(permits.remove(0));
+        assert_eq!(backend.available(), free);
+    }
+    // None at all, and more than there are.
+    assert!(backend.enter_many(0)?.is_empty() && all(&mut backend.acquire_many(0))?.is_empty());
+    assert_eq!(backend.enter_many(4).err(), Some(Full));
+    assert_eq!(backend.enter_many(u32::MAX).err(), Some(Full));
+    for count in [4, u32::MAX] {
+        assert!(matches!(
+            polled(&mut backend.acquire_many(count)),
+            Poll::Ready(Err(Full))
+        ));
+    }
+    let none = Arc::new(Bulkhead::new("none", 0)?);
+    assert!(matches!(
+        polled(&mut none.acquire()),
+        Poll::Ready(Err(Full))
+    ));
+    assert!(is_idle(&backend) && is_idle(&none));
+    Ok(())
+}
+
+/// Counts how often it is woken.
+#[derive(Default)]
+struct Woken(AtomicU32);
+
+impl Wake for Woken {
+    fn wake(self: Arc<Self>) {
+        self.0.fetch_add(1, Ordering::SeqCst);
+    }
+}
+
+#[test]
+fn who_waits_gathers_and_is_woken_once() -> Checked {
+    let backend = Arc::new(Bulkhead::new("backend", 3)?);
+    let mut permits = vec![backend.enter()?, backend.enter()?];
+    let woken = Arc::new(Woken::default());
+    let waker = Waker::from(Arc::clone(&woken));
+    let mut many = backend.acquire_many(3);
+    assert!(
+        Pin::new(&mut many)
+            .poll(&mut Context::from_waker(&waker))
+            .is_pending()
+    );
+    // It has the free one already, and it is one call.
+    assert_eq!((backend.available(), backend.numbers().waiting), (0, 1));
+    permits.pop();
+    assert_eq!(
+        (backend.available(), woken.0.load(Ordering::SeqCst)),
+        (0, 0)
+    );
+    permits.pop();
+    assert_eq!(
+        (woken.0.load(Ordering::SeqCst), backend.numbers().waiting),
+        (1, 0)
+    );
+    assert_eq!(all(&mut many)?.len(), 3);
+    assert!(is_idle(&backend));
+    let again = AssertUnwindSafe(|| polled(&mut many).is_pending());
+    assert!(catch_unwind(again).is_err());
+    Ok(())
+}
+
+#[test]
+fn they_are_served_in_the_order_of_the_row() -> Checked {
+    let backend = Arc::new(Bulkhead::new("backend", 3)?);
+    let mut permits = vec![backend.enter()?, backend.enter()?, backend.enter()?];
+    let (mut first, mut many) = (backend.acquire(), backend.acquire_many(2));
+    let (mut last, mut more) = (backend.acquire(), backend.acquire_many(3));
+    assert!(polled(&mut first).is_pending() && polled(&mut many).is_pending());
+    assert!(polled(&mut last).is_pending() && polled(&mut more).is_pending());
+    assert_eq!(backend.numbers().waiting, 4);
+    // The single one, two for those who want two, and nobody overtakes these.
+    permits.pop();
+    permits.pop();
+    let Poll::Ready(Ok(own)) = polled(&mut first) else {
+        return Err("the first has no permit".into());
+    };
+    assert!(polled(&mut many).is_pending() && polled(&mut last).is_pending());
+    permits.pop();
+    let two = all(&mut many)?;
+    assert!(polled(&mut last).is_pending());
+    drop(own);
+    assert!(matches!(polled(&mut last), Poll::Ready(Ok(_))));
+    // What the last gave back at once is gathered.
+    assert!(polled(&mut more).is_pending());
+    assert_eq!((backend.available(), backend.numbers().waiting), (0, 1));
+    drop(two);
+    assert_eq!(all(&mut more)?.len(), 3);
+    assert!(is_idle(&backend));
+    Ok(())
+}
+
+#[test]
+fn who_leaves_gives_back_what_it_has_gathered() -> Checked {
+    let backend = Arc::new(Bulkhead::new("backend", 3)?);
+    let permit = backend.enter()?;
+    let mut many = backend.acquire_many(3);
+    let mut one = backend.acquire();
+    assert!(polled(&mut many).is_pending() && polled(&mut one).is_pending());
+    assert_eq!(backend.available(), 0);
+    // Two permits are for the next, who takes one of them.
+    drop(many);
+    assert!(matches!(polled(&mut one), Poll::Ready(Ok(_))));
+    assert_eq!((backend.available(), backend.numbers().waiting), (2, 0));
+    // With all that it was given, and hasn't fetched.
+    let mut many = backend.acquire_many(3);
+    assert!(polled(&mut many).is_pending());
+    drop(permit);
+    assert_eq!((backend.available(), backend.numbers().waiting), (0, 0));
+    drop(many);
+    assert!(is_idle(&backend));
+    Ok(())
+}
+
+#[test]
+fn a_closing_gives_back_what_was_gathered() -> Checked {
+    let backend = Arc::new(Bulkhead::new("backend", 2)?);
+    let permit = backend.enter()?;
+    let (mut many, mut dropped) = (backend.acquire_many(2), backend.acquire_many(1));
+    assert!(polled(&mut many).is_pending() && polled(&mut dropped).is_pending());
+    backend.close();
+    assert_eq!(backend.numbers().waiting, 0);
+    assert!(matches!(polled(&mut many), Poll::Ready(Err(Closed))));
+    drop(dropped);
+    for count in [0, 1, 9] {
+        assert!(matches!(
+            polled(&mut backend.acquire_many(count)),
+            Poll::Ready(Err(Closed))
+        ));
+        assert_eq!(backend.enter_many(count).err(), Some(Closed));
+    }
+    assert_eq!(backend.available(), 1);
+    drop(permit);
+    assert!(is_idle(&backend));
+    Ok(())
+}
+
+#[test]
+fn what_is_raised_is_gathered_and_what_is_owed_is_not() -> Checked {
+    let backend = Arc::new(Bulkhead::new("backend", 3)?);
+    assert_eq!(backend.retire(3), 3);
+    let mut many = backend.acquire_many(2);
+    assert!(polled(&mut many).is_pending());
+    assert_eq!(backend.raise(1), 1);
+    assert!(polled(&mut many).is_pending() && backend.available() == 0);
+    assert_eq!((backend.raise(1), all(&mut many)?.len()), (1, 2));
+    let permits = backend.enter_many(2)?;
+    assert_eq!(backend.shrink(1), 0);
+    let mut many = backend.acquire_many(1);
+    assert!(polled(&mut many).is_pending());
+    drop(permits);
+    assert_eq!((all(&mut many)?.len(), backend.retired()), (1, 2));
+    Ok(())
+}
+
+/// Counts who is inside by what it is told; its third permit panics.
+#[derive(Default)]
+struct Inside(AtomicI64, AtomicU32);
+
+impl Observer for Inside {
+    fn call_permitted(&self, _bulkhead: &str) {
+        assert!(
+            self.1.fetch_add(1, Ordering::SeqCst) != 2,
+            "this observer panics"
+        );
+        self.0.fetch_add(1, Ordering::SeqCst);
+    }
+
+    fn call_finished(&self, _bulkhead: &str, _time: Duration) {
+        self.0.fetch_sub(1, Ordering::SeqCst);
+    }
+}
+
+#[test]
+fn each_permit_is_told_and_none_is_lost_by_an_observer() -> Checked {
+    for waits in [false, true] {
+        let inside = Arc::new(Inside::default());
+        let backend = Arc::new(Bulkhead::new("backend", 5)?.observed(inside.clone()));
+        let asks = AssertUnwindSafe(|| {
+            if waits {
+                drop(polled(&mut backend.acquire_many(5)));
+            } else {
+                drop(backend.enter_many(5));
+            }
+        });
+        assert!(catch_unwind(asks).is_err());
+        assert!(is_idle(&backend));
+        assert_eq!(inside.0.load(Ordering::SeqCst), 0);
+        let permits = backend.enter_many(5)?;
+        assert_eq!(inside.0.load(Ordering::SeqCst), 5);
+        drop(permits);
+        assert_eq!(inside.0.load(Ordering::SeqCst), 0);
+    }
+    Ok(())
+}
+
+// Threads and tasks, for one permit and for many; neither kind starves the other.
+#[test]
+fn many_and_one_are_awaited_side_by_side() -> Checked {
+    const ROUNDS: u32 = 200;
+    let backend = Arc::new(Bulkhead::new("backend", 4)?);
+    let inside = AtomicU32::new(0);
+    let goes_in = |count: u32| {
+        assert!(inside.fetch_add(count, Ordering::SeqCst) + count <= 4);
+        thread::yield_now();
+        inside.fetch_sub(count, Ordering::SeqCst);
+    };
+    thread::scope(|scope| {
+        let threads: Vec<_> = (0..12)
+            .map(|kind| {
+                let (backend, goes_in) = (&backend, &goes_in);
+                scope.spawn(move || -> Result<(), NoPermit> {
+                    for round in 0..ROUNDS {
+                        match kind % 6 {
+                            0 => drop(backend.enter_many(3).map(|_permits| goes_in(3))),
+                            1 => drop(backend.call(|| goes_in(1))),
+                            2 => drop(
+                                backend
+                                    .enter_within(Duration::MAX)
+                                    .map(|_permit| goes_in(1))?,
+                            ),
+                            3 => {
+                                // Dropped at whatever moment.
+                                let mut many = backend.acquire_many(4);
+                                if polled(&mut many).is_pending() {
+                                    thread::yield_now();
+                                }
+                            }
+                            _ => {
+                                let count = 1 + (round + kind) % 4;
+                                let mut many = backend.acquire_many(count);
+                                loop {
+                                    if let Poll::Ready(permits) = polled(&mut many) {
+                                        let _permits = permits?;
+                                        goes_in(count);
+                                        break;
+                                    }
+                                    thread::yield_now();
+                                }
+                            }
+                        }
+                    }
+                    Ok(())
+                })
+            })
+            .collect();
+        for thread in threads {
+            thread.join().map_err(|_| "it panics")??;
+        }
+        Ok::<(), Box<dyn Error>>(())
+    })?;
+    assert!(
+        is_idle(&backend)
+            && pin!(backend.acquire_many(4))
+                .as_mut()
+                .poll(&mut Context::from_waker(Waker::noop()))
+                .is_ready()
+    );
+    Ok(())
+}

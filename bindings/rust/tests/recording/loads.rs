@@ -1,0 +1,241 @@
+//! Random loads of recorded pools: each seed is one, whatever the threads make of it. `RESIL_LOADS='FIRST COUNT FOLDER'` has the ignored
+//! test write the texts of so many into a folder, for `tools/check_bindings`.
+use super::Checked;
+use super::text::Text;
+use resil::{PoolNumbers, ThreadPool, Unstarted};
+use std::error::Error;
+use std::sync::Arc;
+use std::sync::atomic::{AtomicU64, Ordering};
+use std::time::Duration;
+use std::{env, fs, panic, thread};
+
+/// How many loads go at once.
+const AT_ONCE: u64 = 4;
+
+/// Numbers by a seed, as xorshift64* makes them.
+struct Random(u64);
+
+impl Random {
+    fn new(seed: u64) -> Random {
+        Random(seed.wrapping_mul(0x9e37_79b9_7f4a_7c15) | 1)
+    }
+
+    fn next(&mut self) -> u64 {
+        self.0 ^= self.0 >> 12;
+        self.0 ^= self.0 << 25;
+        self.0 ^= self.0 >> 27;
+        self.0.wrapping_mul(0x2545_f491_4f6c_dd1d) >> 11
+    }
+
+    fn below(&mut self, end: u32) -> u32 {
+        u32::try_from(self.next() % u64::from(end)).expect("it is below")
+    }
+
+    fn micros(&mut self, end: u32) -> Duration {
+        Duration::from_micros(self.below(end).into())
+    }
+}
+
+/// What the callers of a load have counted.
+#[derive(Default)]
+struct Counted {
+    submitted: AtomicU64,
+    refused: AtomicU64,
+}
+
+/// A load: its pool, the greatest size, and the texts so far.
+struct Load {
+    pool: Arc<ThreadPool>,
+    max: u32,
+    counted: Arc<Counted>,
+}
+
+impl Load {
+    fn open(random: &mut Random) -> Result<Load, Box<dyn Error>> {
+        let core = 1 + random.below(6);
+        let max = core + random.below(5);
+        let room = [25_000, 25_000, 25_000, 400, 50][random.below(5) as usize];
+        let pool = ThreadPool::builder(core, max).queue(1 + random.below(40));
+        let pool = pool.keep_alive(random.micros(3_000)).record(room).open()?;
+        Ok(Load {
+            pool: Arc::new(pool),
+            max,
+            counted: Arc::default(),
+        })
+    }
+
+    // Submits jobs, of which some panic, some submit another one, and some are waited for.
+    fn call(&self, random: &mut Random) {
+        let pause = 1 + random.below(300);
+        for _ in 0..10 + random.below(50) {
+            let (time, fails, submits) = (random.micros(200), random.below(20), random.below(10));
+            let (pool, counted) = (Arc::clone(&self.pool), Arc::clone(&self.counted));
+            let job = move || {
+                if time > Duration::from_micros(20) {
+                    thread::sleep(time);
+                }
+                if submits == 0 {
+                    drop(submit(&pool, &counted, || ()));
+                }
+                if fails == 0 {
+                    panic::resume_unwind(Box::new(()));
+                }
+            };
+            let (wait, waits) = (random.micros(400), random.below(3) == 0);
+            match submit(&self.pool, &self.counted, job) {
+                Some(handle) if waits => drop(handle.wait_for(wait)),
+                _ => {}
+            }
+            if random.below(3) == 0 {
+                thread::sleep(random.micros(pause));
+            }
+            if random.below(40) == 0 {
+                thread::sleep(Duration::from_millis(4));
+            }
+        }
+    }
+
+    // Resizes the pool, begins the record anew, and maybe closes the pool in the middle.
+    fn manage(&self, random: &mut Random) -> Result<Vec<String>, Box<dyn Error>> {
+        let mut texts = Vec::new();
+        for _ in 0..random.below(12) {
+            thread::sleep(random.micros(2_000));
+            if random.below(3) > 0 {
+                let core = 1 + random.below(self.max);
+                self.pool
+                    .resize(core, core + random.below(self.max - core + 1))?;
+            } else {
+                texts.extend(self.pool.history());
+            }
+        }
+        match random.below(5) {
+            0 => self.pool.close(),
+            1 => self.pool.close_now().into_iter().for_each(Unstarted::run),
+            2 => drop(self.pool.close_now()),
+            _ => {}
+        }
+        if random.below(2) == 0 {
+            texts.extend(self.pool.history());
+        }
+        Ok(texts)
+    }
+
+    // The texts of a load, in their order.
+    fn run(&self, random: &mut Random) -> Result<Vec<String>, Box<dyn Error>> {
+        let seeds: Vec<u64> = (0..=random.below(7)).map(|_| random.next()).collect();
+        let mut texts = thread::scope(|scope| {
+            for seed in seeds {
+                scope.spawn(move || self.call(&mut Random::new(seed)));
+            }
+            self.manage(random).map_err(|error| error.to_string())
+        })?;
+        self.pool.close();
+        self.pool.join();
+        texts.extend(self.pool.history());
+        Ok(texts)
+    }
+
+    // Holds the texts against what the pool and the callers have counted, and against each other.
+    fn check(&self, texts: &[String]) -> Checked {
+        let texts = texts.iter().map(|text| Text::of(text));
+        let texts = texts.collect::<Result<Vec<_>, _>>()?;
+        let times: Vec<_> = texts.iter().flat_map(|text| &text.times).collect();
+        assert!(times.is_sorted(), "a time goes back");
+        for text in &texts {
+            let made = &text.times[..text.made];
+            assert!(
+                made.first() == made.last(),
+                "what makes the state has several times"
+            );
+        }
+        for pair in texts.windows(2) {
+            let [before, after] = [&pair[0], &pair[1]];
+            if !before.is_empty && before.missed == 0 && !after.is_empty {
+                let (left, made) = (before.events.len(), after.made);
+                assert_eq!(before.state_behind(left)?, after.state_behind(made)?);
+            }
+        }
+        if texts.iter().all(|text| text.missed == 0) {
+            let sum = |first, last| {
+                texts
+                    .iter()
+                    .map(|text| text.count(first, last))
+                    .sum::<u64>()
+            };
+            let PoolNumbers {
+                accepted,
+                refused,
+                finished,
+                ..
+            } = self.pool.numbers();
+            assert_eq!(
+                (accepted, sum("idle", "")),
+                (finished, sum("submit", "core,,") + sum("submit", "extra,,"))
+            );
+            assert_eq!(
+                sum("submit", ""),
+                self.counted.submitted.load(Ordering::SeqCst)
+            );
+            assert_eq!(refused, self.counted.refused.load(Ordering::SeqCst));
+            assert_eq!(sum("submit", "full,,") + sum("submit", "closed,,"), refused);
+            assert_eq!(sum("finish", ""), finished);
+        }
+        Ok(())
+    }
+}
+
+fn submit<F>(pool: &ThreadPool, counted: &Counted, job: F) -> Option<resil::JobHandle<()>>
+where
+    F: FnOnce() + Send + 'static,
+{
+    counted.submitted.fetch_add(1, Ordering::SeqCst);
+    let job = pool.submit(job).ok();
+    counted
+        .refused
+        .fetch_add(job.is_none().into(), Ordering::SeqCst);
+    job
+}
+
+// The texts of the load of a seed, which fit.
+fn load(seed: u64) -> Result<Vec<String>, Box<dyn Error>> {
+    let mut random = Random::new(seed);
+    let load = Load::open(&mut random)?;
+    let texts = load.run(&mut random)?;
+    load.check(&texts)?;
+    Ok(texts)
+}
+
+// Does these loads, some at once.
+fn each(first: u64, count: u64, done: impl Fn(u64, Vec<String>) -> Checked + Sync) {
+    let next = AtomicU64::new(first);
+    let some = || {
+        let seeds = std::iter::repeat_with(|| next.fetch_add(1, Ordering::SeqCst));
+        for seed in seeds.take_while(|seed| *seed < first + count) {
+            let is_done = load(seed).and_then(|texts| done(seed, texts));
+            is_done.unwrap_or_else(|error| panic!("load {seed}: {error}"));
+        }
+    };
+    thread::scope(|scope| (0..AT_ONCE).for_each(|_| drop(scope.spawn(some))));
+}
+
+#[test]
+fn random_loads_fit() {
+    each(1, 20, |_, _| Ok(()));
+}
+
+#[test]
+#[ignore = "tools/check_bindings names the folder, and has the program judge the texts"]
+fn random_loads_are_written() -> Checked {
+    let told = env::var("RESIL_LOADS")?;
+    let words: Vec<_> = told.splitn(3, ' ').collect();
+    let [first, count, folder] = words[..] else {
+        return Err("RESIL_LOADS isn't FIRST COUNT FOLDER".into());
+    };
+    each(first.parse()?, count.parse()?, |seed, texts| {
+        for (part, text) in texts.iter().enumerate() {
+            fs::write(format!("{folder}/load-{seed}-{}.csv", part + 1), text)?;
+        }
+        Ok(())
+    });
+    Ok(())
+}

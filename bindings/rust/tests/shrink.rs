@@ -1,0 +1,163 @@
+//! Fewer permits while calls are under way and others wait: what is free is retired, and the rest is owed.
+use resil::{Acquire, Bulkhead, OwnedPermit};
+use std::error::Error;
+use std::pin::Pin;
+use std::sync::Arc;
+use std::sync::atomic::{AtomicBool, AtomicU32, Ordering};
+use std::task::{Context, Poll, Waker};
+use std::thread;
+use std::time::{Duration, Instant};
+
+type Checked = Result<(), Box<dyn Error>>;
+
+const PATIENCE: Duration = Duration::from_secs(60);
+
+fn polled(permit: &mut Acquire) -> Option<OwnedPermit> {
+    match Pin::new(permit).poll(&mut Context::from_waker(Waker::noop())) {
+        Poll::Ready(permit) => permit.ok(),
+        Poll::Pending => None,
+    }
+}
+
+// How many permits are free, retired and owed.
+fn counts(backend: &Bulkhead) -> (u32, u32, u32) {
+    let numbers = backend.numbers();
+    assert_eq!(numbers.owed, backend.owed());
+    (numbers.available, numbers.retired, numbers.owed)
+}
+
+#[test]
+fn what_is_free_is_retired_and_the_rest_is_owed() -> Checked {
+    let backend = Arc::new(Bulkhead::new("backend", 3)?);
+    let (first, second) = (backend.enter_owned()?, backend.enter()?);
+    assert_eq!((backend.shrink(2), counts(&backend)), (1, (0, 1, 1)));
+    // At most as many as are held.
+    assert_eq!((backend.shrink(9), counts(&backend)), (0, (0, 1, 2)));
+    assert_eq!((backend.shrink(1), backend.retire(1)), (0, 0));
+    // By another thread than the one that has it.
+    thread::scope(|scope| scope.spawn(|| drop(first)).join()).map_err(|_| "it panics")?;
+    assert_eq!(counts(&backend), (0, 2, 1));
+    drop(second);
+    assert_eq!(
+        (counts(&backend), backend.enter().is_err()),
+        ((0, 3, 0), true)
+    );
+    assert_eq!((backend.raise(9), counts(&backend)), (3, (3, 0, 0)));
+    let permits = [backend.enter()?, backend.enter()?, backend.enter()?];
+    drop(permits);
+    assert_eq!(counts(&backend), (3, 0, 0));
+    Ok(())
+}
+
+#[test]
+fn a_debt_is_paid_before_the_row() -> Checked {
+    let backend = Arc::new(Bulkhead::new("backend", 2)?);
+    let (first, second) = (backend.enter()?, backend.enter()?);
+    let mut row = [backend.acquire(), backend.acquire()];
+    assert!(row.iter_mut().all(|one| polled(one).is_none()));
+    assert_eq!((backend.retire(1), backend.shrink(1)), (0, 0));
+    assert_eq!(
+        (counts(&backend), backend.numbers().waiting),
+        ((0, 0, 1), 2)
+    );
+    drop(first);
+    assert_eq!(counts(&backend), (0, 1, 0));
+    assert!(row.iter_mut().all(|one| polled(one).is_none()));
+    drop(second);
+    let [first, second] = &mut row;
+    let permit = polled(first).ok_or("it has no permit")?;
+    assert!(polled(second).is_none());
+    // What is raised goes to who waits, and what is owed isn't.
+    assert_eq!((backend.shrink(1), backend.raise(1)), (0, 1));
+    assert!(polled(second).is_none());
+    assert_eq!(backend.raise(1), 1);
+    drop(polled(second).ok_or("it has no permit")?);
+    drop(permit);
+    assert_eq!(counts(&backend), (2, 0, 0));
+    Ok(())
+}
+
+#[test]
+fn a_permit_that_is_forgotten_pays_nothing() -> Checked {
+    let backend = Arc::new(Bulkhead::new("backend", 2)?);
+    backend.enter_owned()?.forget();
+    assert_eq!((backend.shrink(2), counts(&backend)), (1, (0, 1, 1)));
+    assert_eq!((backend.raise(1), counts(&backend)), (1, (0, 1, 0)));
+    assert_eq!((backend.raise(9), counts(&backend)), (1, (1, 0, 0)));
+    Ok(())
+}
+
+#[test]
+fn those_who_may_wait_are_not_those_who_are_owed() -> Checked {
+    let backend = Arc::new(Bulkhead::new("backend", 1)?);
+    let permit = backend.enter()?;
+    assert_eq!(backend.shrink(1), 0);
+    let mut waits = backend.acquire().most_waiting(1);
+    assert!(polled(&mut waits).is_none() && backend.numbers().waiting == 1);
+    drop(permit);
+    assert_eq!((counts(&backend), backend.raise(1)), ((0, 1, 0), 1));
+    assert!(polled(&mut waits).is_some());
+    Ok(())
+}
+
+// Permits go from hand to hand, so that `retire` finds none.
+#[test]
+fn an_operator_shrinks_under_load() -> Checked {
+    let backend = Arc::new(Bulkhead::new("backend", 4)?);
+    let is_over = AtomicBool::new(false);
+    let inside = AtomicU32::new(0);
+    let goes_in = || {
+        assert!(inside.fetch_add(1, Ordering::SeqCst) < 4);
+        thread::yield_now();
+        inside.fetch_sub(1, Ordering::SeqCst);
+    };
+    thread::scope(|scope| {
+        for kind in 0..9 {
+            let (backend, is_over, goes_in) = (&backend, &is_over, &goes_in);
+            scope.spawn(move || {
+                while !is_over.load(Ordering::SeqCst) {
+                    match kind % 3 {
+                        0 => drop(backend.call(goes_in)),
+                        1 => drop(backend.enter_within(PATIENCE).map(|_permit| goes_in())),
+                        _ => {
+                            let mut waits = backend.acquire();
+                            while !is_over.load(Ordering::SeqCst) {
+                                if let Some(_permit) = polled(&mut waits) {
+                                    goes_in();
+                                    break;
+                                }
+                                thread::yield_now();
+                            }
+                        }
+                    }
+                }
+            });
+        }
+        let mut is_paid = true;
+        for _ in 0..50 {
+            let begun = Instant::now();
+            backend.shrink(3);
+            while backend.owed() > 0 && begun.elapsed() < PATIENCE {
+                thread::yield_now();
+            }
+            is_paid &= backend.owed() == 0 && backend.retired() == 3;
+            thread::sleep(Duration::from_micros(200));
+            is_paid &= backend.raise(2) == 2;
+            // Some of it is owed while the rest is raised.
+            backend.shrink(2);
+            backend.raise(4);
+            is_paid &= backend.owed() + backend.retired() == 0;
+            // Each permit is owed or retired once.
+            backend.shrink(4);
+            backend.retire(4);
+            is_paid &= backend.raise(9) == 4;
+        }
+        is_over.store(true, Ordering::SeqCst);
+        assert!(is_paid);
+    });
+    assert_eq!(
+        (counts(&backend), backend.numbers().waiting),
+        ((4, 0, 0), 0)
+    );
+    Ok(())
+}

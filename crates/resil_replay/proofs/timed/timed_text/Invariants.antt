@@ -1,0 +1,10 @@
+use Rattle.std.proofs.Common.{◌≡◌, ◌∷◌, map, take}
+use Rattle.resil_input.specs.CsvTable.{HasColumns, table_text, text_so_far}
+use Rattle.resil_replay.specs.Timed.{timed_fields, timed_header}
+use Rattle.resil_replay.proofs.timed.timed_text.Given as goal
+
+abbrev pub invariant-loop-timed : goal.invariant-loop-timed
+invariant-loop-timed l = record {
+  columns : HasColumns l.table 7;
+  text : text_so_far l.table ≡ table_text (timed_header ∷ map timed_fields (take l.timed-index l.history));
+}

@@ -1,0 +1,49 @@
+-- Where the moments of a history stand in its picture, which of them share a column, and how far its ticks are apart. Times are in microseconds.
+use Rattle.std.specs.Prelude.{ℕ, ◌≡◌, ◌≢◌, ◌≤◌, ◌<◌, ◌⊎◌, ◌+◌, ◌-◌, ◌*◌, ◌/◌, ◌∷◌, [], Contains, List, max, min, slice_index}
+use Rattle.resil_stats.specs.declared.axis.Period.{Period}
+
+-- from the first of so many events to the last one
+abbrev pub period_of : List ℕ → ℕ → Period
+period_of times count = record { first = slice_index times 0; last = slice_index times (count - 1) }
+
+-- ---- Where a moment stands.
+
+-- Where a moment stands, in hundredths of a pixel: from 92 pixels, where the first one stands, to the last one at 772. All stand at 92 where they are
+-- one; what is later goes on by the same measure, a µs at least, up to 786.
+abbrev pub x_at : Period → ℕ → ℕ
+x_at period time = min 78600 (9200 + 68000 * (time - period.first) / max 1 (period.last - period.first))
+
+-- ---- Columns.
+
+-- How long the span of a column is: the least length of which 350 hold the whole period.
+pub record IsSpanLength (period : Period) (long : ℕ) : Type 0 where
+  pub enough : period.last - period.first < 350 * long
+  pub least : (other : ℕ) → period.last - period.first < 350 * other → long ≤ other
+
+abbrev pub span_length : Period → ℕ
+span_length period = (period.last - period.first) / 350 + 1
+
+-- the span in which a moment lies, from 0
+abbrev pub span_of : Period → ℕ → ℕ
+span_of period time = (time - period.first) / span_length period
+
+-- The events behind the first so many, up to an end, are those in a row that lie in one span.
+pub record IsSpanEnd (times : List ℕ) (count done end : ℕ) : Type 0 where
+  pub shared : (i : ℕ) → done ≤ i → i < end → span_of (period_of times count) (slice_index times i) ≡ span_of (period_of times count) (slice_index times done)
+  pub next : end < count → span_of (period_of times count) (slice_index times end) ≢ span_of (period_of times count) (slice_index times done)
+
+-- ---- Ticks.
+
+-- the distances that ticks may have: 1, 2 and 5 times a power of ten up to 20 s, then 30 s, and whole minutes and hours
+abbrev pub tick_steps : List ℕ
+tick_steps =
+    1 ∷ 2 ∷ 5 ∷ 10 ∷ 20 ∷ 50 ∷ 100 ∷ 200 ∷ 500
+    ∷ 1000 ∷ 2000 ∷ 5000 ∷ 10000 ∷ 20000 ∷ 50000 ∷ 100000 ∷ 200000 ∷ 500000
+    ∷ 1000000 ∷ 2000000 ∷ 5000000 ∷ 10000000 ∷ 20000000 ∷ 30000000
+    ∷ 60000000 ∷ 120000000 ∷ 300000000 ∷ 600000000 ∷ 900000000 ∷ 1800000000
+    ∷ 3600000000 ∷ 7200000000 ∷ 10800000000 ∷ 21600000000 ∷ 43200000000 ∷ 86400000000 ∷ []
+
+-- How far the ticks of a period of this length are apart: the widest distance at which there are five or more, which is four steps; 1 µs where there is none.
+pub record IsTickStep (long step : ℕ) : Type 0 where
+  pub known : (step ≡ 1) ⊎ (Contains tick_steps step × (4 * step ≤ long))
+  pub widest : (other : ℕ) → Contains tick_steps other → 4 * other ≤ long → other ≤ step

@@ -1,0 +1,128 @@
+//! The axis of a picture of events that have times: where a moment stands, which moments share a column, and how far ticks are apart.
+//!
+//! All is reckoned in whole microseconds, and in 128 bits where 64 are too few.
+
+ghost use Rattle.std.specs.Prelude.{ℕ, ◌≡◌, ◌≤◌, ◌<◌, ◌⊎◌, ◌-◌, ◌*◌};
+ghost use Rattle.resil_stats.specs.Axis.{IsSpanEnd, IsSpanLength, IsTickStep, period_of, span_length, span_of, x_at};
+
+use crate::spans::time_at;
+
+/// The times of the first event that is drawn and of the last one, in microseconds.
+#[derive(Clone, Copy)]
+pub(crate) struct Period {
+    pub first: u64,
+    pub last: u64,
+}
+
+// An hour, in microseconds.
+const HOUR: u64 = 3_600_000_000;
+
+const HOURS_3: u64 = 3 * HOUR;
+
+const HOURS_6: u64 = 6 * HOUR;
+
+const HOURS_12: u64 = 12 * HOUR;
+
+const HOURS_24: u64 = 24 * HOUR;
+
+// The distances that ticks may have, in microseconds.
+const TICK_STEPS: [u64; 36] = [
+    1, 2, 5, 10, 20, 50, 100, 200, 500, 1000, 2000, 5000, 10000, 20000, 50000, 100000, 200000,
+    500000, 1000000, 2000000, 5000000, 10000000, 20000000, 30000000, 60000000, 120000000,
+    300000000, 600000000, 900000000, 1800000000, HOUR, 7200000000, HOURS_3, HOURS_6, HOURS_12,
+    HOURS_24,
+];
+
+/// The period of so many events.
+pub(crate) fn period_of(times: &[u64], count: usize) -> Period
+    ensures { result ≡ period_of times.now count }
+{
+    Period {
+        first: time_at(times, 0),
+        last: time_at(times, count.saturating_sub(1)),
+    }
+}
+
+// The wider one of two steps, where four of the other one are no longer than this.
+fn wider(length: u64, widest: u64, step: u64) -> u64
+    ensures one { (result ≡ widest) ⊎ ((result ≡ step) × (4 * step ≤ length)) }
+    ensures kept { widest ≤ result }
+    ensures fitting { 4 * step ≤ length → step ≤ result }
+{
+    if step <= length / 4 {
+        widest.max(step)
+    } else {
+        widest
+    }
+}
+
+impl Period {
+    /// From its first time to its last one.
+    pub(crate) fn length(self) -> u64
+        ensures { result ≡ self.last - self.first }
+    {
+        self.last.saturating_sub(self.first)
+    }
+
+    /// Where a moment stands, in hundredths of a pixel: between the ends of the axis, and no earlier one stands further.
+    pub(crate) fn x_of(self, time: u64) -> u32
+        ensures place { result ≡ x_at self time }
+        ensures between { (9200 ≤ result) × (result ≤ 78600) × (time ≤ self.last → result ≤ 77200) }
+        ensures order { (later : ℕ) → time ≤ later → result ≤ x_at self later }
+    {
+        let along = 68_000 * u128::from(time.saturating_sub(self.first));
+        let x = 9200 + along / u128::from(self.length().max(1));
+        x.min(78_600) as u32
+    }
+
+    /// How long the span of a column is: the least length of which 350 hold the whole period.
+    pub(crate) fn span_length(self) -> u64
+        ensures length { result ≡ span_length self }
+        ensures least { IsSpanLength self result }
+    {
+        self.length() / 350 + 1
+    }
+
+    /// The span in which a moment lies, from 0.
+    pub(crate) fn span_of(self, time: u64) -> u64
+        ensures { result ≡ span_of self time }
+    {
+        time.saturating_sub(self.first) / self.span_length()
+    }
+
+    /// The beginning of the span in which a moment lies, and its end, at which the next one begins.
+    pub(crate) fn ends_of(self, time: u64) -> (u64, u64) {
+        let long = self.span_length();
+        let before = self.span_of(time).saturating_mul(long);
+        let start = self.first.saturating_add(before);
+        (start, start.saturating_add(long))
+    }
+
+    /// How far ticks are apart, in microseconds.
+    pub(crate) fn tick_step(self) -> u64
+        ensures { IsTickStep (self.last - self.first) result }
+    {
+        let mut widest = 1;
+        for step in TICK_STEPS {
+            widest = wider(self.length(), widest, step);
+        }
+        widest
+    }
+}
+
+/// Where the events end that follow in the span of the one behind the first so many, of all that are drawn.
+pub(crate) fn span_end(times: &[u64], count: usize, done: usize) -> usize
+    requires { done < count }
+    ensures later { done < result }
+    ensures within { result ≤ count }
+    ensures span { IsSpanEnd times.now count done result }
+{
+    let period = period_of(times, count);
+    let span = period.span_of(time_at(times, done));
+    for end in done + 1..count {
+        if period.span_of(time_at(times, end)) != span {
+            return end;
+        }
+    }
+    count
+}
