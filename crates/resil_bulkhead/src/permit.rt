@@ -23,7 +23,7 @@ use std::time::{Clock, Duration};
 /// where a `?` leaves the function.
 ///
 /// ```
-/// let _permit = Permit::acquire(&mut pass, &bulkhead, &rt)?;
+/// let _permit = Permit::enter(&mut pass, &bulkhead, &rt)?;
 /// write(&letter)?;
 /// ```
 pub struct Permit<'a> {
@@ -43,10 +43,10 @@ impl<'a> Permit<'a> {
     /// `Full` where no permit is free.
     ///
     /// ```
-    /// let _permit = Permit::acquire(&mut pass, &bulkhead, &rt)?;
+    /// let _permit = Permit::enter(&mut pass, &bulkhead, &rt)?;
     /// let number = text.parse::<u32>().map_err(|_| ReadError::NotANumber)?;
     /// ```
-    pub fn acquire<R: Wait>(
+    pub fn enter<R: Wait>(
         pass: &'a mut Pass,
         bulkhead: &'a Bulkhead,
         rt: &R,
@@ -67,7 +67,7 @@ impl<'a> Permit<'a> {
     }
 
     /// The same, where a pass that finds no free permit waits for one, at most as long as `longest`
-    /// (`maxWaitDuration`). With zero it is `acquire`.
+    /// (`maxWaitDuration`). With zero it is `enter`.
     ///
     /// # Errors
     ///
@@ -75,9 +75,9 @@ impl<'a> Permit<'a> {
     ///
     /// ```
     /// let longest = Duration::from_millis(50);
-    /// let _permit = Permit::acquire_within(&mut pass, &bulkhead, &rt, longest)?;
+    /// let _permit = Permit::enter_within(&mut pass, &bulkhead, &rt, longest)?;
     /// ```
-    pub fn acquire_within<R: Wait + Clock>(
+    pub fn enter_within<R: Wait + Clock>(
         pass: &'a mut Pass,
         bulkhead: &'a Bulkhead,
         rt: &R,

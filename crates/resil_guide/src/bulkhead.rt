@@ -44,7 +44,7 @@ fn number<R: Wait>(
     ensures source { pass.new.source ≡ pass.old.source }
     ensures held { held_by pass.new ≡ held_by pass.old }
 {
-    let _permit = Permit::acquire(pass, bulkhead, rt)?;
+    let _permit = Permit::enter(pass, bulkhead, rt)?;
     let number = text.parse::<u32>().map_err(|_| ReadError::NotANumber)?;
     Ok(number)
 }
@@ -76,7 +76,7 @@ fn print_calls<R: Clock + Print + Wait>(
     println!(rt; "{:?}", number(rt, bulkhead, pass, "12"))?;
     println!(rt; "{:?}", number(rt, bulkhead, pass, "twelve"))?;
     println!(rt; "free: {}", bulkhead.available(operator))?;
-    if let Ok(_permit) = Permit::acquire(other, bulkhead, rt) {
+    if let Ok(_permit) = Permit::enter(other, bulkhead, rt) {
         println!(rt; "free: {}", bulkhead.available(operator))?;
         println!(rt; "{:?}", seven(rt, bulkhead, pass))?;
     }

@@ -56,7 +56,7 @@ fn tried_once(bulkhead: &Bulkhead) -> Result<u8, NoPermit> {
 
 // Whether a scope gets a permit.
 fn is_acquired<R: Wait>(rt: &R, bulkhead: &Bulkhead) -> bool {
-    Permit::acquire(&mut bulkhead.new_pass(), bulkhead, rt).is_ok()
+    Permit::enter(&mut bulkhead.new_pass(), bulkhead, rt).is_ok()
 }
 
 #[test]

@@ -98,7 +98,7 @@ fn acquire_late<R: Clock + Wait>(rt: &R, bulkhead: &Bulkhead, stage: &Stage) -> 
     let start = Instant::now(rt).ok();
     let mut pass = bulkhead.new_pass();
     stage.waiting.fetch_add(1, SeqCst);
-    Permit::acquire_within(&mut pass, bulkhead, rt, Duration::from_secs(60)).is_ok()
+    Permit::enter_within(&mut pass, bulkhead, rt, Duration::from_secs(60)).is_ok()
         && is_early(rt, start)
 }
 
