@@ -9,13 +9,11 @@
 //! - `NoPermit`: why there is none
 //! - `BulkheadError`: why there is no bulkhead
 //! - `DEFAULT_MAX_CALLS`: the permits of a bulkhead by defaults, 25
-//! - `MAX_NAME_LEN`, `is_name`: what may be a name
 //!
 //! Functions and retries (`resil_call`, Retry):
 //! - `Call`: what can be called again and again
 //! - `FromFn`: a closure as one
 //! - `retry`, `retry_within`, `retry_in_budget`: a retry of it, with an end, with a budget of waits
-//! - `retry_sharing`, `retry_sharing_within`: the same where calls and pauses share a value
 //! - `Tried`, `End`: what came of it, and why it ended
 //! - `RetryPolicy`: how many attempts, which wait, what is tried again
 //! - `RetryTest`, `EveryError`, `RetryIf`: which answers are tried again
@@ -24,7 +22,6 @@
 //! - `Interval`, `MAX_INTERVAL` (`resil_retry`): waits that are fixed or grow
 //! - `RetryError` (`resil_retry`): why there is no interval
 //! - `Pause`, `Sleep`, `NoPause`, `PauseBy`: what waits
-//! - `Recorded`, `recorded_waits`, `Waits` (`resil_retry`): what keeps the waits and doesn't wait
 //! - `Jitter`, `Spread` (`resil_layers`): waits that are drawn by chance
 //! - `WaitLimit`, `NoLimit`, `WaitBudget`, `Deadline`: how long all waits may take
 //!
@@ -55,15 +52,13 @@
 #![tactic(auto)]
 
 pub use resil_bulkhead::{
-    Bulkhead, BulkheadError, CallError, Client, DEFAULT_MAX_CALLS, MAX_NAME_LEN, NoPermit, Pass,
-    Permit, is_name,
+    Bulkhead, BulkheadError, CallError, Client, DEFAULT_MAX_CALLS, NoPermit, Pass, Permit,
 };
 pub use resil_bulkheads::{BulkheadRegistry, HeadError, Neighbours, Place, TextError};
 pub use resil_call::{
     Backoff, BackoffFor, ByAnswer, ByAttempt, Call, CanBeRefused, Deadline, End, EveryError,
     FromFn, NoLimit, NoPause, Pause, PauseBy, Retried, RetryIf, RetryPolicy, RetryTest, SameWait,
-    Sleep, TellsRefusal, Tried, WaitBudget, WaitLimit, retry, retry_in_budget, retry_sharing,
-    retry_sharing_within, retry_within,
+    Sleep, TellsRefusal, Tried, WaitBudget, WaitLimit, retry, retry_in_budget, retry_within,
 };
 pub use resil_layers::{
     BulkheadsText, CallCounts, CallTimes, CallsText, Count, Counted, Counting, Decorate,
@@ -72,4 +67,4 @@ pub use resil_layers::{
     RetryCounts, RetryKind, RetryObserver, Spread, Telling, TimesText, Timing, counts_by_name,
 };
 pub use resil_registry::{DEFAULT_CONFIG, Registry, RegistryError};
-pub use resil_retry::{Interval, MAX_INTERVAL, Recorded, RetryError, Waits, recorded_waits};
+pub use resil_retry::{Interval, MAX_INTERVAL, RetryError};
