@@ -1,48 +1,16 @@
 //! Permits that are awaited: the row of those who await, tasks that are dropped, and threads that wait beside them.
+mod common;
+
+use common::{Caller, Checked, block_on, is_idle, poll_by};
 use resil::{Acquire, Bulkhead, OwnedPermit};
 use std::error::Error;
 use std::panic::{AssertUnwindSafe, catch_unwind};
-use std::pin::{Pin, pin};
 use std::ptr;
 use std::sync::atomic::{AtomicBool, AtomicU32, Ordering};
 use std::sync::{Arc, Barrier};
-use std::task::{Context, Poll, RawWaker, RawWakerVTable, Wake, Waker};
-use std::thread::{self, Thread};
+use std::task::{Context, Poll, RawWaker, RawWakerVTable, Waker};
+use std::thread;
 use std::time::Duration;
-
-type Checked = Result<(), Box<dyn Error>>;
-
-/// Wakes a thread, and counts how often.
-struct Caller {
-    thread: Thread,
-    woken: AtomicU32,
-}
-
-impl Wake for Caller {
-    fn wake(self: Arc<Self>) {
-        self.woken.fetch_add(1, Ordering::SeqCst);
-        self.thread.unpark();
-    }
-}
-
-fn caller() -> Arc<Caller> {
-    Arc::new(Caller {
-        thread: thread::current(),
-        woken: AtomicU32::new(0),
-    })
-}
-
-// Runs a future to its end on this thread.
-fn block_on<F: Future>(future: F) -> F::Output {
-    let mut future = pin!(future);
-    let waker = Waker::from(caller());
-    loop {
-        if let Poll::Ready(output) = future.as_mut().poll(&mut Context::from_waker(&waker)) {
-            return output;
-        }
-        thread::park();
-    }
-}
 
 /// A permit that is awaited, and who is woken by it.
 struct Awaited {
@@ -54,7 +22,7 @@ impl Awaited {
     fn new(backend: &Arc<Bulkhead>) -> Awaited {
         Awaited {
             permit: backend.acquire(),
-            caller: caller(),
+            caller: Caller::here(),
         }
     }
 
@@ -68,16 +36,14 @@ impl Awaited {
     }
 
     fn poll(&mut self) -> Option<OwnedPermit> {
-        let waker = Waker::from(Arc::clone(&self.caller));
-        let polled = Pin::new(&mut self.permit).poll(&mut Context::from_waker(&waker));
-        match polled {
+        match poll_by(&mut self.permit, &self.caller) {
             Poll::Ready(permit) => permit.ok(),
             Poll::Pending => None,
         }
     }
 
     fn woken(&self) -> u32 {
-        self.caller.woken.load(Ordering::SeqCst)
+        self.caller.woken()
     }
 }
 
@@ -87,7 +53,7 @@ fn a_free_permit_is_there_at_once() -> Checked {
     let permits = [block_on(backend.acquire())?, block_on(backend.acquire())?];
     assert_eq!((backend.available(), backend.numbers().waiting), (0, 0));
     drop(permits);
-    assert_eq!(backend.available(), 2);
+    assert!(is_idle(&backend));
     Ok(())
 }
 
@@ -107,7 +73,7 @@ fn who_comes_first_is_served_first() -> Checked {
         assert!(backend.enter().is_err());
         drop(row[first].poll().ok_or("it has no permit")?);
     }
-    assert_eq!((backend.available(), backend.numbers().waiting), (1, 0));
+    assert!(is_idle(&backend));
     Ok(())
 }
 
@@ -124,7 +90,7 @@ fn a_newcomer_stands_behind_the_row() -> Checked {
     let first = first.poll().ok_or("it has no permit")?;
     drop(third);
     drop((first, second));
-    assert_eq!((backend.available(), backend.numbers().waiting), (2, 0));
+    assert!(is_idle(&backend));
     Ok(())
 }
 
@@ -136,7 +102,7 @@ fn a_task_that_is_dropped_loses_nothing() -> Checked {
     let mut ready = Awaited::new(&backend);
     drop(ready.poll().ok_or("it has no permit")?);
     drop(ready);
-    assert_eq!((backend.available(), backend.numbers().waiting), (1, 0));
+    assert!(is_idle(&backend));
     // While it stands in the row: in front, in the middle and at the end.
     for gone in 0..3 {
         let permit = backend.enter()?;
@@ -150,7 +116,7 @@ fn a_task_that_is_dropped_loses_nothing() -> Checked {
         for awaited in &mut row {
             drop(awaited.poll().ok_or("it has no permit")?);
         }
-        assert_eq!((backend.available(), backend.numbers().waiting), (1, 0));
+        assert!(is_idle(&backend));
     }
     // With a permit that it was given and hasn't taken: the next one has it then, or it is free.
     let permit = backend.enter()?;
@@ -167,7 +133,7 @@ fn a_task_that_is_dropped_loses_nothing() -> Checked {
     let third = Awaited::standing(&backend)?;
     drop(permit);
     drop(third);
-    assert_eq!((backend.available(), backend.numbers().waiting), (1, 0));
+    assert!(is_idle(&backend));
     Ok(())
 }
 
@@ -176,13 +142,10 @@ fn the_waker_of_the_last_poll_is_woken() -> Checked {
     let backend = Arc::new(Bulkhead::new("backend", 1)?);
     let permit = backend.enter()?;
     let mut awaited = Awaited::standing(&backend)?;
-    let before = std::mem::replace(&mut awaited.caller, caller());
+    let before = std::mem::replace(&mut awaited.caller, Caller::here());
     assert!(awaited.poll().is_none());
     drop(permit);
-    assert_eq!(
-        (before.woken.load(Ordering::SeqCst), awaited.woken()),
-        (0, 1)
-    );
+    assert_eq!((before.woken(), awaited.woken()), (0, 1));
     assert!(awaited.poll().is_some());
     let again = AssertUnwindSafe(|| awaited.poll().is_some());
     assert!(catch_unwind(again).is_err());
@@ -201,7 +164,7 @@ fn raised_permits_go_to_those_who_await() -> Checked {
     assert_eq!((backend.raise(9), row[2].woken()), (1, 1));
     drop(row);
     drop(permits);
-    assert_eq!((backend.available(), backend.numbers().waiting), (3, 0));
+    assert!(is_idle(&backend));
     Ok(())
 }
 
@@ -262,7 +225,7 @@ fn tasks_and_threads_wait_side_by_side() -> Checked {
         entered.sum::<Option<u32>>()
     });
     assert_eq!(entered, Some(6 * ROUNDS));
-    assert_eq!((backend.available(), backend.numbers().waiting), (2, 0));
+    assert!(is_idle(&backend));
     Ok(())
 }
 
@@ -297,7 +260,7 @@ fn a_waker_that_panics_leaves_no_place_in_the_row() -> Checked {
     // It has been given the permit, and hands it on.
     drop(first);
     assert!(second.as_mut().poll(&mut quiet).is_ready());
-    assert_eq!((backend.available(), backend.numbers().waiting), (1, 0));
+    assert!(is_idle(&backend));
     Ok(())
 }
 

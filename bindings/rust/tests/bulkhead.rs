@@ -1,7 +1,9 @@
 //! A bulkhead and its passes, by one thread and by many.
+mod common;
+
+use common::Checked;
 use resil::pass::Pass;
 use resil::{Bulkhead, BulkheadError, Full, NoPermit, OwnedPermit};
-use std::error::Error;
 use std::panic::{AssertUnwindSafe, catch_unwind};
 use std::sync::atomic::{AtomicBool, AtomicU32, Ordering};
 use std::sync::{Arc, Barrier};
@@ -16,7 +18,7 @@ fn is_send_and_sync<T: Send + Sync>() {}
 fn is_static<T: 'static>() {}
 
 #[test]
-fn a_full_bulkhead_refuses() -> Result<(), Box<dyn Error>> {
+fn a_full_bulkhead_refuses() -> Checked {
     let backend = Bulkhead::new("backend", 2)?;
     assert_eq!(
         (backend.name(), backend.max(), backend.available()),
@@ -30,11 +32,6 @@ fn a_full_bulkhead_refuses() -> Result<(), Box<dyn Error>> {
     assert_eq!(backend.call(|| 42), Ok(42));
     drop(second);
     assert_eq!(backend.available(), 2);
-    Ok(())
-}
-
-#[test]
-fn no_permit_is_no_call() -> Result<(), Box<dyn Error>> {
     assert_eq!(Bulkhead::new("closed", 0)?.call(|| 42), Err(Full));
     Ok(())
 }
@@ -57,7 +54,7 @@ fn too_many_permits_are_refused() {
 }
 
 #[test]
-fn a_call_that_panics_gives_back() -> Result<(), Box<dyn Error>> {
+fn a_call_that_panics_gives_back() -> Checked {
     let backend = Bulkhead::new("backend", 1)?;
     let mut pass = Pass::new(1)?;
     assert!(catch_unwind(|| backend.call(|| panic!("in the call"))).is_err());
@@ -68,27 +65,19 @@ fn a_call_that_panics_gives_back() -> Result<(), Box<dyn Error>> {
 }
 
 #[test]
-fn a_permit_comes_back_from_another_thread() -> Result<(), Box<dyn Error>> {
-    let backend = Bulkhead::new("backend", 1)?;
-    let permit = backend.enter()?;
-    thread::scope(|scope| scope.spawn(move || drop(permit)).join()).map_err(|_| "it panicked")?;
-    assert_eq!(backend.available(), 1);
-    Ok(())
-}
-
-#[test]
-fn a_dropped_pass_gives_back() -> Result<(), Box<dyn Error>> {
-    let mut first = Pass::new(2)?;
+fn a_dropped_pass_gives_back_and_raises() -> Checked {
+    let mut first = Pass::new(3)?;
     let mut second = first.split()?;
     std::mem::forget(second.enter()?);
-    assert_eq!(first.available(), 1);
+    second.retire()?;
+    assert_eq!((first.available(), second.retired()), (1, 1));
     drop(second);
-    assert_eq!(first.available(), 2);
+    assert_eq!(first.available(), 3);
     Ok(())
 }
 
 #[test]
-fn a_retired_permit_is_not_in_use() -> Result<(), Box<dyn Error>> {
+fn a_retired_permit_is_not_in_use() -> Checked {
     let mut operator = Pass::new(1)?;
     let mut caller = operator.split()?;
     operator.retire()?;
@@ -97,17 +86,6 @@ fn a_retired_permit_is_not_in_use() -> Result<(), Box<dyn Error>> {
     assert_eq!(operator.retire(), Err(Full));
     assert!(operator.raise() && !operator.raise());
     assert_eq!(caller.call(|| 7), Ok(7));
-    Ok(())
-}
-
-#[test]
-fn a_dropped_pass_raises() -> Result<(), Box<dyn Error>> {
-    let mut first = Pass::new(2)?;
-    let mut second = first.split()?;
-    second.retire()?;
-    assert_eq!((first.available(), second.retired()), (1, 1));
-    drop(second);
-    assert_eq!(first.available(), 2);
     Ok(())
 }
 
@@ -123,7 +101,7 @@ fn handles_cross_threads() {
 }
 
 #[test]
-fn an_owned_permit_keeps_its_bulkhead() -> Result<(), Box<dyn Error>> {
+fn an_owned_permit_keeps_its_bulkhead() -> Checked {
     let backend = Arc::new(Bulkhead::new("backend", 1)?);
     let permit = backend.enter_owned()?;
     assert_eq!(backend.enter_owned().err(), Some(Full));
@@ -138,7 +116,7 @@ fn an_owned_permit_keeps_its_bulkhead() -> Result<(), Box<dyn Error>> {
 }
 
 #[test]
-fn permits_come_back_in_any_order_from_any_thread() -> Result<(), Box<dyn Error>> {
+fn permits_come_back_in_any_order_from_any_thread() -> Checked {
     let backend = Arc::new(Bulkhead::new("backend", 100)?);
     let mut permits = Vec::new();
     for count in (1..=100).rev() {
@@ -160,7 +138,7 @@ fn permits_come_back_in_any_order_from_any_thread() -> Result<(), Box<dyn Error>
 }
 
 #[test]
-fn a_forgotten_permit_is_held() -> Result<(), Box<dyn Error>> {
+fn a_forgotten_permit_is_held() -> Checked {
     let backend = Bulkhead::new("backend", 2)?;
     std::mem::forget(backend.enter()?);
     assert_eq!(backend.available(), 1);
@@ -170,7 +148,7 @@ fn a_forgotten_permit_is_held() -> Result<(), Box<dyn Error>> {
 }
 
 #[test]
-fn a_wait_ends_at_its_limit() -> Result<(), Box<dyn Error>> {
+fn a_wait_ends_at_its_limit() -> Checked {
     let backend = Bulkhead::new("backend", 1)?;
     let permit = backend.enter_within(Duration::ZERO)?;
     assert_eq!(backend.enter_within(Duration::ZERO).err(), Some(Full));
@@ -186,7 +164,7 @@ fn a_wait_ends_at_its_limit() -> Result<(), Box<dyn Error>> {
 }
 
 #[test]
-fn a_release_wakes_each_that_waits() -> Result<(), Box<dyn Error>> {
+fn a_release_wakes_each_that_waits() -> Checked {
     let backend = Bulkhead::new("backend", 2)?;
     let seen = Seen::new();
     let permits = [backend.enter()?, backend.enter()?];
@@ -212,7 +190,7 @@ fn a_release_wakes_each_that_waits() -> Result<(), Box<dyn Error>> {
 }
 
 #[test]
-fn a_raise_wakes_one_that_waits() -> Result<(), Box<dyn Error>> {
+fn a_raise_wakes_one_that_waits() -> Checked {
     let backend = Bulkhead::new("backend", 2)?;
     assert_eq!(backend.retire(2), 2);
     thread::scope(|scope| {
@@ -228,7 +206,7 @@ fn a_raise_wakes_one_that_waits() -> Result<(), Box<dyn Error>> {
 }
 
 #[test]
-fn only_free_permits_are_retired() -> Result<(), Box<dyn Error>> {
+fn only_free_permits_are_retired() -> Checked {
     let backend = Bulkhead::new("backend", 4)?;
     let permit = backend.enter()?;
     assert_eq!(
@@ -249,23 +227,6 @@ fn only_free_permits_are_retired() -> Result<(), Box<dyn Error>> {
     Ok(())
 }
 
-#[test]
-fn a_name_is_one_that_a_registry_takes() {
-    let longest = "n".repeat(64);
-    for name in ["a", "0", "-", "_", ".", "A-z_0.9", &longest] {
-        assert!(Bulkhead::new(name, 1).is_ok(), "{name}");
-    }
-    let too_long = "n".repeat(65);
-    for name in ["", " ", "two prices\n", "a/b", "ä", "a\0", &too_long] {
-        let refused = Bulkhead::new(name, 65_536).err();
-        assert_eq!(refused, Some(BulkheadError::BadName), "{name}");
-    }
-    assert_eq!(
-        BulkheadError::BadName.to_string(),
-        "a name is 1 to 64 bytes of ASCII letters, digits, `-`, `_` and `.`"
-    );
-}
-
 // All orders of so many things.
 fn orders(count: usize) -> Vec<Vec<usize>> {
     if count == 0 {
@@ -284,7 +245,7 @@ fn orders(count: usize) -> Vec<Vec<usize>> {
 }
 
 #[test]
-fn permits_come_back_in_every_order() -> Result<(), Box<dyn Error>> {
+fn permits_come_back_in_every_order() -> Checked {
     let backend = Arc::new(Bulkhead::new("backend", 4)?);
     assert_eq!(orders(4).len(), 24);
     for order in orders(4) {
@@ -301,14 +262,15 @@ fn permits_come_back_in_every_order() -> Result<(), Box<dyn Error>> {
             lent.push(backend.enter()?);
         }
         lent.swap(0, 2);
-        drop(lent);
+        // By another thread.
+        thread::scope(|scope| scope.spawn(|| drop(lent)).join()).map_err(|_| "it panicked")?;
         assert_eq!(backend.available(), 4);
     }
     Ok(())
 }
 
 #[test]
-fn a_permit_that_is_forgotten_is_held_for_good() -> Result<(), Box<dyn Error>> {
+fn a_permit_that_is_forgotten_is_held_for_good() -> Checked {
     for order in orders(3) {
         let backend = Arc::new(Bulkhead::new("backend", 4)?);
         let mut permits = Vec::new();
@@ -335,7 +297,7 @@ fn a_permit_that_is_forgotten_is_held_for_good() -> Result<(), Box<dyn Error>> {
 }
 
 #[test]
-fn a_load_above_the_limit_is_shed() -> Result<(), Box<dyn Error>> {
+fn a_load_above_the_limit_is_shed() -> Checked {
     let backend = Bulkhead::new("backend", 3)?;
     let all = Barrier::new(16);
     for _ in 0..50 {
@@ -357,10 +319,10 @@ fn a_load_above_the_limit_is_shed() -> Result<(), Box<dyn Error>> {
 
 // Those who give up take no wake-up with them that is another one's.
 #[test]
-fn some_give_up_while_another_one_waits() -> Result<(), Box<dyn Error>> {
+fn some_give_up_while_another_one_waits() -> Checked {
     let backend = Bulkhead::new("backend", 1)?;
     let stop = AtomicBool::new(false);
-    thread::scope(|scope| -> Result<(), Box<dyn Error>> {
+    thread::scope(|scope| -> Checked {
         let give_up: Vec<_> = (0..4)
             .map(|waits| {
                 let (backend, stop) = (&backend, &stop);
@@ -387,7 +349,7 @@ fn some_give_up_while_another_one_waits() -> Result<(), Box<dyn Error>> {
 }
 
 #[test]
-fn numbers_are_told_while_many_are_retired() -> Result<(), Box<dyn Error>> {
+fn numbers_are_told_while_many_are_retired() -> Checked {
     let backend = Bulkhead::new("backend", 20_000)?;
     thread::scope(|scope| {
         let retires = scope.spawn(|| (0..3).map(|_| backend.retire(u32::MAX)).sum::<u32>());
@@ -403,7 +365,7 @@ fn numbers_are_told_while_many_are_retired() -> Result<(), Box<dyn Error>> {
 }
 
 #[test]
-fn numbers_tell_what_is_free_and_who_waits() -> Result<(), Box<dyn Error>> {
+fn numbers_tell_what_is_free_and_who_waits() -> Checked {
     let backend = Bulkhead::new("backend", 3)?;
     assert_eq!(backend.retire(2), 2);
     let permit = backend.enter()?;
@@ -426,7 +388,7 @@ fn numbers_tell_what_is_free_and_who_waits() -> Result<(), Box<dyn Error>> {
 }
 
 #[test]
-fn a_bulkhead_is_shown_by_its_numbers() -> Result<(), Box<dyn Error>> {
+fn a_bulkhead_is_shown_by_its_numbers() -> Checked {
     let backend = Arc::new(Bulkhead::new("backend", 4)?);
     assert_eq!(backend.retire(1), 1);
     let permit = backend.enter_owned()?;
@@ -471,7 +433,7 @@ impl Seen {
 
 // 64 threads make a million calls together; a call that is refused is made again.
 #[test]
-fn a_million_calls_stay_within_the_limit() -> Result<(), Box<dyn Error>> {
+fn a_million_calls_stay_within_the_limit() -> Checked {
     let backend = Bulkhead::new("backend", 3)?;
     let (seen, all) = (Seen::new(), Barrier::new(64));
     thread::scope(|scope| {
@@ -495,26 +457,7 @@ fn a_million_calls_stay_within_the_limit() -> Result<(), Box<dyn Error>> {
 }
 
 #[test]
-fn four_threads_share_a_bulkhead() -> Result<(), Box<dyn Error>> {
-    let backend = Bulkhead::new("backend", 2)?;
-    let seen = Seen::new();
-    thread::scope(|scope| {
-        for _ in 0..THREADS {
-            scope.spawn(|| {
-                for _ in 0..TRIES {
-                    let _refused = backend.call(|| seen.goes_in_and_out());
-                }
-            });
-        }
-    });
-    assert!(seen.most.into_inner() <= 2);
-    assert!(seen.entered.into_inner() > 0);
-    assert_eq!(backend.available(), 2);
-    Ok(())
-}
-
-#[test]
-fn four_threads_have_passes() -> Result<(), Box<dyn Error>> {
+fn four_threads_have_passes() -> Checked {
     let mut first = Pass::new(2)?;
     let seen = Seen::new();
     thread::scope(|scope| -> Result<(), BulkheadError> {

@@ -1,19 +1,16 @@
 //! Bulkheads that are closed: for whom waits, for whom asks later, and for whom holds a permit.
-use resil::{Acquire, Bulkhead, Closed, NoPermit, Observer, OwnedPermit};
-use std::error::Error;
-use std::pin::{Pin, pin};
+mod common;
+
+use common::{Checked, is_idle, polled};
+use resil::{Bulkhead, Closed, NoPermit, Observer, OwnedPermit};
+use std::pin::Pin;
 use std::sync::atomic::{AtomicU32, Ordering};
 use std::sync::{Arc, Weak};
 use std::task::{Context, Poll, Wake, Waker};
 use std::thread;
 use std::time::Duration;
 
-type Checked = Result<(), Box<dyn Error>>;
 type Asked = Poll<Result<OwnedPermit, NoPermit>>;
-
-fn polled(permit: &mut Acquire) -> Asked {
-    Pin::new(permit).poll(&mut Context::from_waker(Waker::noop()))
-}
 
 fn is_closed(asked: &Asked) -> bool {
     matches!(asked, Poll::Ready(Err(Closed)))
@@ -79,7 +76,7 @@ fn who_was_given_a_permit_has_it() -> Checked {
     assert!(is_closed(&polled(&mut second)));
     assert_eq!(backend.available(), 0);
     drop(given);
-    assert_eq!((backend.available(), backend.numbers().waiting), (1, 0));
+    assert!(is_idle(&backend));
     // One that is dropped, and not polled.
     let backend = Arc::new(Bulkhead::new("backend", 1)?);
     let permit = backend.enter()?;
@@ -88,7 +85,7 @@ fn who_was_given_a_permit_has_it() -> Checked {
     backend.close();
     drop(waits);
     drop(permit);
-    assert_eq!((backend.available(), backend.numbers().waiting), (1, 0));
+    assert!(is_idle(&backend));
     Ok(())
 }
 
@@ -111,12 +108,9 @@ fn a_waker_may_close_it() -> Checked {
     let closes = Arc::new(Closes(Arc::downgrade(&backend), AtomicU32::new(0)));
     let waker = Waker::from(Arc::clone(&closes));
     let mut row = [(); 3].map(|()| backend.acquire());
+    let mut context = Context::from_waker(&waker);
     for one in &mut row {
-        assert!(
-            Pin::new(one)
-                .poll(&mut Context::from_waker(&waker))
-                .is_pending()
-        );
+        assert!(Pin::new(one).poll(&mut context).is_pending());
     }
     // The first is given the permit, and by its waker the others are told, whose wakers close it once more.
     drop(permit);
@@ -147,11 +141,7 @@ fn the_observer_is_told_of_each_refusal() -> Checked {
     backend.close();
     assert!(is_closed(&polled(&mut waits)) && backend.enter().is_err());
     assert!(backend.enter_within(Duration::MAX).is_err());
-    assert!(
-        pin!(backend.acquire())
-            .poll(&mut Context::from_waker(Waker::noop()))
-            .is_ready()
-    );
+    assert!(is_closed(&polled(&mut backend.acquire())));
     drop(permit);
     assert_eq!(refusals.0.load(Ordering::SeqCst), 4);
     Ok(())
@@ -195,7 +185,7 @@ fn it_is_closed_in_the_middle_of_its_work() -> Checked {
                 .all(|thread| thread.join().unwrap_or(false))
         });
         assert!(closed);
-        assert_eq!((backend.available(), backend.numbers().waiting), (2, 0));
+        assert!(is_idle(&backend));
     }
     Ok(())
 }

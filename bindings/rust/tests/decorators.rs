@@ -1,4 +1,7 @@
 //! Layers around a function, innermost first.
+mod common;
+
+use common::Checked;
 use resil::{Bulkhead, CallError, Decorators, Interval, KeptLayer, Layer, Retry};
 use std::cell::{Cell, OnceCell, RefCell};
 use std::error::Error;
@@ -8,8 +11,6 @@ use std::sync::atomic::{AtomicU32, Ordering};
 use std::sync::{Arc, Mutex};
 use std::thread;
 use std::time::Duration;
-
-type Checked = Result<(), Box<dyn Error>>;
 
 const NOT_CALLED: &str = "it isn't called";
 
@@ -34,17 +35,6 @@ fn a_bulkhead_inside_a_retry_is_asked_once_for_each_attempt() -> Checked {
         .retried(&retry);
     assert_eq!((chain.call(), waits.get()), (Ok(7), 2));
     assert_eq!(backend.available(), 1);
-    Ok(())
-}
-
-#[test]
-fn a_bulkhead_outside_of_a_retry_is_asked_once() -> Checked {
-    let closed = Bulkhead::new("closed", 0)?;
-    let retry = Retry::new().pause_by(|_| unreachable!("{NOT_CALLED}"));
-    let mut chain = Decorators::of(|| -> Result<u32, String> { unreachable!("{NOT_CALLED}") })
-        .retried(&retry)
-        .inside(&closed);
-    assert_eq!(chain.call(), Err(CallError::Full));
     Ok(())
 }
 
@@ -104,18 +94,6 @@ fn two_bulkheads_nest_nothing() -> Checked {
 }
 
 #[test]
-fn a_fallback_makes_a_value_or_an_error_of_an_error() {
-    let zero_if_gone = |error| match error {
-        CallError::Failed("gone") => Ok(0),
-        error => Err(error),
-    };
-    let call = |outcome| Decorators::of(|| outcome).or_else(zero_if_gone).call();
-    assert_eq!(call(Err("gone")), Ok(0));
-    assert_eq!(call(Err("busy")), Err(CallError::Failed("busy")));
-    assert_eq!(call(Ok(7)), Ok(7));
-}
-
-#[test]
 fn a_retry_outside_of_a_fallback_sees_what_it_makes() {
     let retry = Retry::new()
         .pause_by(|_| ())
@@ -130,28 +108,6 @@ fn a_retry_outside_of_a_fallback_sees_what_it_makes() {
     assert_eq!(chain.call(), Ok(7));
     drop(chain);
     assert_eq!(calls, 3);
-}
-
-#[test]
-fn retries_multiply() {
-    let waits = RefCell::new(Vec::new());
-    let retry = |attempts, ms| {
-        Retry::new()
-            .attempts(attempts)
-            .interval(Interval::fixed(Duration::from_millis(ms)))
-            .pause_by(|wait| waits.borrow_mut().push(wait.as_millis()))
-    };
-    let (inner, outer) = (retry(2, 1), retry(2, 10));
-    let mut calls = 0;
-    let answer = Decorators::of(|| {
-        calls += 1;
-        Err::<(), _>("no")
-    })
-    .retried(&inner)
-    .retried(&outer)
-    .call();
-    assert_eq!((answer, calls), (Err(CallError::Failed("no")), 4));
-    assert_eq!(waits.take(), [1, 10, 1]);
 }
 
 #[test]

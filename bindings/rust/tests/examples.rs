@@ -25,48 +25,19 @@ use std::path::Path;
 type Checked = Result<(), Box<dyn Error>>;
 
 #[test]
-fn bulkhead_runs() -> Checked {
-    bulkhead::main()
-}
-
-#[test]
-fn decorators_runs() -> Checked {
-    decorators::main()
-}
-
-#[test]
-fn metrics_runs() -> Checked {
-    metrics::main()
-}
-
-#[test]
-fn owned_permit_runs() -> Checked {
-    owned_permit::main()
-}
-
-#[test]
-fn recording_runs() -> Checked {
-    recording::main()
-}
-
-#[test]
-fn registry_runs() -> Checked {
-    registry::main()
-}
-
-#[test]
-fn retry_runs() -> Checked {
-    retry::main()
-}
-
-#[test]
-fn tasks_runs() -> Checked {
-    tasks::main()
-}
-
-#[test]
-fn thread_pool_runs() -> Checked {
-    thread_pool::main()
+fn each_runs() -> Checked {
+    let examples: [fn() -> Checked; 9] = [
+        bulkhead::main,
+        decorators::main,
+        metrics::main,
+        owned_permit::main,
+        recording::main,
+        registry::main,
+        retry::main,
+        tasks::main,
+        thread_pool::main,
+    ];
+    examples.into_iter().try_for_each(|main| main())
 }
 
 // Lines without the space around them.

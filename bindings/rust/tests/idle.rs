@@ -2,16 +2,17 @@
 //! process.
 #![cfg(target_os = "linux")]
 
-use resil::{Bulkhead, JobHandle, ThreadPool};
+mod common;
+
+use common::{PATIENCE, all_gated, end};
+use resil::{Bulkhead, ThreadPool};
 use std::collections::BTreeMap;
 use std::error::Error;
 use std::fs;
-use std::sync::mpsc::{self, Sender};
-use std::sync::{Arc, Barrier};
+use std::sync::{Arc, Barrier, mpsc};
 use std::thread;
 use std::time::{Duration, Instant};
 
-const PATIENCE: Duration = Duration::from_secs(60);
 const LITTLE: Duration = Duration::from_secs(10);
 
 // How often each thread of a name that begins so has given its processor up or lost it; none where one isn't asleep.
@@ -68,20 +69,6 @@ fn sleep_is_told() -> Result<bool, Box<dyn Error>> {
     Ok(parked.join().unwrap_or(false) && is_told)
 }
 
-/// A job that ends once its gate is dropped.
-type Gated = (Sender<()>, JobHandle<()>);
-
-fn gated(pool: &ThreadPool, count: usize) -> Result<Vec<Gated>, Box<dyn Error>> {
-    let jobs = (0..count).map(|_| {
-        let (gate, closed) = mpsc::channel();
-        let job = pool.submit(move || {
-            let _opened: Result<(), _> = closed.recv();
-        })?;
-        Ok((gate, job))
-    });
-    jobs.collect()
-}
-
 fn an_idle_pool_sleeps() -> Result<(), Box<dyn Error>> {
     let pool = ThreadPool::builder(8, 8).name("nobody-asks").open()?;
     let all = Arc::new(Barrier::new(8));
@@ -101,13 +88,10 @@ fn threads_that_hold_back_sleep() -> Result<(), Box<dyn Error>> {
             .name("holds")
             .keep_alive(keep_alive)
             .open()?;
-        let mut first = gated(&pool, 4)?.into_iter();
-        let later = gated(&pool, 4)?;
+        let mut first = all_gated(&pool, 4)?.into_iter();
+        let later = all_gated(&pool, 4)?;
         pool.resize(1, 1)?;
-        for (gate, job) in first.by_ref().take(3) {
-            drop(gate);
-            job.wait()?;
-        }
+        first.by_ref().take(3).try_for_each(end)?;
         sleep_on("holds", 4)?;
         drop((first, later));
         assert!(pool.join_for(PATIENCE));

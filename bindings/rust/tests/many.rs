@@ -1,19 +1,15 @@
 //! Several permits at a time: all or none, in the row's order, beside those who ask for one.
+mod common;
+
+use common::{Caller, Checked, is_idle, poll_by, polled};
 use resil::{AcquireMany, Bulkhead, Closed, Full, NoPermit, Observer, OwnedPermit};
 use std::error::Error;
 use std::panic::{AssertUnwindSafe, catch_unwind};
-use std::pin::{Pin, pin};
 use std::sync::Arc;
 use std::sync::atomic::{AtomicI64, AtomicU32, Ordering};
-use std::task::{Context, Poll, Wake, Waker};
+use std::task::Poll;
 use std::thread;
 use std::time::Duration;
-
-type Checked = Result<(), Box<dyn Error>>;
-
-fn polled<F: Future + Unpin>(future: &mut F) -> Poll<F::Output> {
-    Pin::new(future).poll(&mut Context::from_waker(Waker::noop()))
-}
 
 // All of them; an error where they aren't there.
 fn all(many: &mut AcquireMany) -> Result<Vec<OwnedPermit>, Box<dyn Error>> {
@@ -23,8 +19,11 @@ fn all(many: &mut AcquireMany) -> Result<Vec<OwnedPermit>, Box<dyn Error>> {
     }
 }
 
-fn is_idle(backend: &Bulkhead) -> bool {
-    (backend.available(), backend.numbers().waiting) == (backend.max(), 0)
+fn refusal<T>(polled: Poll<Result<T, NoPermit>>) -> Option<NoPermit> {
+    match polled {
+        Poll::Ready(permits) => permits.err(),
+        Poll::Pending => None,
+    }
 }
 
 #[test]
@@ -52,54 +51,30 @@ fn they_are_all_or_none() -> Checked {
     assert_eq!(backend.enter_many(4).err(), Some(Full));
     assert_eq!(backend.enter_many(u32::MAX).err(), Some(Full));
     for count in [4, u32::MAX] {
-        assert!(matches!(
-            polled(&mut backend.acquire_many(count)),
-            Poll::Ready(Err(Full))
-        ));
+        assert_eq!(
+            refusal(polled(&mut backend.acquire_many(count))),
+            Some(Full)
+        );
     }
     let none = Arc::new(Bulkhead::new("none", 0)?);
-    assert!(matches!(
-        polled(&mut none.acquire()),
-        Poll::Ready(Err(Full))
-    ));
+    assert_eq!(refusal(polled(&mut none.acquire())), Some(Full));
     assert!(is_idle(&backend) && is_idle(&none));
     Ok(())
-}
-
-/// Counts how often it is woken.
-#[derive(Default)]
-struct Woken(AtomicU32);
-
-impl Wake for Woken {
-    fn wake(self: Arc<Self>) {
-        self.0.fetch_add(1, Ordering::SeqCst);
-    }
 }
 
 #[test]
 fn who_waits_gathers_and_is_woken_once() -> Checked {
     let backend = Arc::new(Bulkhead::new("backend", 3)?);
     let mut permits = vec![backend.enter()?, backend.enter()?];
-    let woken = Arc::new(Woken::default());
-    let waker = Waker::from(Arc::clone(&woken));
+    let caller = Caller::here();
     let mut many = backend.acquire_many(3);
-    assert!(
-        Pin::new(&mut many)
-            .poll(&mut Context::from_waker(&waker))
-            .is_pending()
-    );
+    assert!(poll_by(&mut many, &caller).is_pending());
     // It has the free one already, and it is one call.
     assert_eq!((backend.available(), backend.numbers().waiting), (0, 1));
     permits.pop();
-    assert_eq!(
-        (backend.available(), woken.0.load(Ordering::SeqCst)),
-        (0, 0)
-    );
+    assert_eq!((backend.available(), caller.woken()), (0, 0));
     permits.pop();
-    assert_eq!(
-        (woken.0.load(Ordering::SeqCst), backend.numbers().waiting),
-        (1, 0)
-    );
+    assert_eq!((caller.woken(), backend.numbers().waiting), (1, 0));
     assert_eq!(all(&mut many)?.len(), 3);
     assert!(is_idle(&backend));
     let again = AssertUnwindSafe(|| polled(&mut many).is_pending());
@@ -167,13 +142,13 @@ fn a_closing_gives_back_what_was_gathered() -> Checked {
     assert!(polled(&mut many).is_pending() && polled(&mut dropped).is_pending());
     backend.close();
     assert_eq!(backend.numbers().waiting, 0);
-    assert!(matches!(polled(&mut many), Poll::Ready(Err(Closed))));
+    assert_eq!(refusal(polled(&mut many)), Some(Closed));
     drop(dropped);
     for count in [0, 1, 9] {
-        assert!(matches!(
-            polled(&mut backend.acquire_many(count)),
-            Poll::Ready(Err(Closed))
-        ));
+        assert_eq!(
+            refusal(polled(&mut backend.acquire_many(count))),
+            Some(Closed)
+        );
         assert_eq!(backend.enter_many(count).err(), Some(Closed));
     }
     assert_eq!(backend.available(), 1);
@@ -296,12 +271,6 @@ fn many_and_one_are_awaited_side_by_side() -> Checked {
         }
         Ok::<(), Box<dyn Error>>(())
     })?;
-    assert!(
-        is_idle(&backend)
-            && pin!(backend.acquire_many(4))
-                .as_mut()
-                .poll(&mut Context::from_waker(Waker::noop()))
-                .is_ready()
-    );
+    assert!(is_idle(&backend) && polled(&mut backend.acquire_many(4)).is_ready());
     Ok(())
 }

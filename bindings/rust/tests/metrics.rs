@@ -1,12 +1,12 @@
 //! What a dashboard reads: each line of the text, by what was done.
+mod common;
+
+use common::{Checked, begun, end};
 use resil::metrics::Metrics;
 use resil::{Bulkhead, Interval, Observer, Refusal, Reply, Retry, ThreadPool};
-use std::error::Error;
-use std::sync::{Arc, Barrier, mpsc};
+use std::sync::{Arc, Barrier};
 use std::thread;
 use std::time::Duration;
-
-type Checked = Result<(), Box<dyn Error>>;
 
 // The lines of a family, without those of its head.
 fn lines<'a>(text: &'a str, family: &str) -> Vec<&'a str> {
@@ -15,6 +15,20 @@ fn lines<'a>(text: &'a str, family: &str) -> Vec<&'a str> {
             .is_some_and(|rest| rest.starts_with(['{', '_']))
     };
     text.lines().filter(is_of).collect()
+}
+
+// A family's lines: one for each of these, whose name stands in a label, with its count.
+fn counted(family: &str, label: &str, counts: &str) -> Vec<String> {
+    let pairs = counts.split(", ").filter_map(|pair| pair.split_once(' '));
+    let line = |(name, count)| format!("{family}{{{}}} {count}", label.replace('_', name));
+    pairs.map(line).collect()
+}
+
+fn has(text: &str, wanted: &[&str]) {
+    for line in wanted {
+        let is_there = text.lines().any(|told| told == *line);
+        assert!(is_there, "{line} isn't in {text}");
+    }
 }
 
 #[test]
@@ -37,16 +51,16 @@ fn calls_are_counted_and_measured() -> Checked {
     ];
     assert!(text.starts_with(&told.join("\n")), "{text}");
     let told = [
+        "resil_bulkhead_retired_permits{name=\"backend\"} 1",
+        "resil_bulkhead_owed_permits{name=\"backend\"} 0",
+        "resil_bulkhead_waiting_calls{name=\"backend\"} 0",
         "# TYPE resil_bulkhead_calls_total counter",
         "resil_bulkhead_calls_total{kind=\"permitted\",name=\"backend\"} 4",
         "resil_bulkhead_calls_total{kind=\"refused\",name=\"backend\"} 1",
+        "# TYPE resil_bulkhead_call_seconds histogram",
+        "resil_bulkhead_call_seconds_count{name=\"backend\"} 2",
     ];
-    assert!(text.contains(&told.join("\n")), "{text}");
-    assert!(text.contains("resil_bulkhead_retired_permits{name=\"backend\"} 1\n"));
-    assert!(text.contains("resil_bulkhead_owed_permits{name=\"backend\"} 0\n"));
-    assert!(text.contains("resil_bulkhead_waiting_calls{name=\"backend\"} 0\n"));
-    assert!(text.contains("# TYPE resil_bulkhead_call_seconds histogram\n"));
-    assert!(text.contains("resil_bulkhead_call_seconds_count{name=\"backend\"} 2\n"));
+    has(&text, &told);
     drop((permit, second));
     assert_eq!(backend.available(), 2);
     Ok(())
@@ -83,30 +97,13 @@ fn a_histogram_has_all_times_up_to_each_end() {
     for time in [Duration::ZERO, ms(1), ms(2), ms(30), ms(1_500), ms(10_001)] {
         calls.call_finished("b", time);
     }
-    let ends = [
-        ("0.001", 2),
-        ("0.0025", 3),
-        ("0.005", 3),
-        ("0.01", 3),
-        ("0.025", 3),
-        ("0.05", 4),
-        ("0.1", 4),
-        ("0.25", 4),
-        ("0.5", 4),
-        ("1", 4),
-        ("2.5", 5),
-        ("5", 5),
-        ("10", 5),
-        ("+Inf", 6),
-    ];
-    let bucket = |(end, count)| {
-        format!("resil_bulkhead_call_seconds_bucket{{name=\"b\",le=\"{end}\"}} {count}")
-    };
-    let mut wanted: Vec<_> = ends.into_iter().map(bucket).collect();
-    wanted.push("resil_bulkhead_call_seconds_sum{name=\"b\"} 11.534000000".into());
-    wanted.push("resil_bulkhead_call_seconds_count{name=\"b\"} 6".into());
+    let counts = "0.001 2, 0.0025 3, 0.005 3, 0.01 3, 0.025 3, 0.05 4, 0.1 4, 0.25 4, 0.5 4, 1 4, 2.5 5, 5 5, 10 5, +Inf 6";
+    let family = "resil_bulkhead_call_seconds";
+    let mut wanted = counted(&format!("{family}_bucket"), r#"name="b",le="_""#, counts);
+    wanted.push(format!("{family}_sum{{name=\"b\"}} 11.534000000"));
+    wanted.push(format!("{family}_count{{name=\"b\"}} 6"));
     let text = metrics.text(&[], &[]);
-    assert_eq!(lines(&text, "resil_bulkhead_call_seconds"), wanted);
+    assert_eq!(lines(&text, family), wanted);
 }
 
 #[test]
@@ -128,29 +125,19 @@ fn retries_are_counted_as_by_resilience4j() {
     let none = retry().within(Duration::ZERO);
     assert!(none.call(|| Err::<u32, _>("busy")).is_err());
     let text = metrics.text(&[], &[]);
-    let kinds = [
-        ("failed_with_retry", 2),
-        ("failed_without_retry", 1),
-        ("successful_with_retry", 2),
-        ("successful_without_retry", 1),
-    ];
-    let line = |(kind, count)| {
-        format!("resilience4j_retry_calls_total{{kind=\"{kind}\",name=\"r\"}} {count}")
-    };
-    assert_eq!(
-        lines(&text, "resilience4j_retry_calls_total"),
-        kinds.map(line)
-    );
-    let kinds = [
-        ("error", 1),
-        ("ignored_error", 1),
-        ("out_of_time", 1),
-        ("retry", 4),
-        ("success", 3),
-    ];
-    let line =
-        |(kind, count)| format!("resil_retry_events_total{{kind=\"{kind}\",name=\"r\"}} {count}");
-    assert_eq!(lines(&text, "resil_retry_events_total"), kinds.map(line));
+    for (family, counts) in [
+        (
+            "resilience4j_retry_calls_total",
+            "failed_with_retry 2, failed_without_retry 1, successful_with_retry 2, successful_without_retry 1",
+        ),
+        (
+            "resil_retry_events_total",
+            "error 1, ignored_error 1, out_of_time 1, retry 4, success 3",
+        ),
+    ] {
+        let wanted = counted(family, r#"kind="_",name="r""#, counts);
+        assert_eq!(lines(&text, family), wanted);
+    }
 }
 
 #[test]
@@ -161,56 +148,34 @@ fn jobs_are_counted_and_pools_have_their_sizes() -> Checked {
         .name("p")
         .observed(metrics.clone())
         .open()?;
-    let (open, gate) = mpsc::channel::<()>();
-    let (begins, begun) = mpsc::channel();
-    let first = pool.submit(move || {
-        let _told = begins.send(());
-        gate.recv().is_err()
-    })?;
-    begun.recv()?;
+    let first = begun(&pool)?;
     let second = pool.submit(|| -> u32 { panic!("no answer") })?;
     assert_eq!(
-        (first.reply(), second.reply()),
+        (first.1.reply(), second.reply()),
         (Reply::Core, Reply::Queued)
     );
     let text = metrics.text(&[], &[&pool]);
-    for (name, number) in [
-        ("queue_depth", 1),
-        ("queue_capacity", 1),
-        ("thread_pool_size", 1),
-        ("core_thread_pool_size", 1),
-        ("max_thread_pool_size", 2),
-        ("active_thread_count", 1),
-        ("available_thread_count", 1),
-    ] {
-        let line = format!("resilience4j_bulkhead_{name}{{name=\"p\"}} {number}\n");
-        assert!(text.contains(&line), "{line} isn't in {text}");
+    let sizes = "queue_depth 1, queue_capacity 1, thread_pool_size 1, core_thread_pool_size 1, \
+                 max_thread_pool_size 2, active_thread_count 1, available_thread_count 1";
+    for (name, number) in sizes.split(", ").filter_map(|pair| pair.split_once(' ')) {
+        let line = format!("resilience4j_bulkhead_{name}{{name=\"p\"}} {number}");
+        has(&text, &[&line]);
     }
-    drop(open);
-    assert!(first.wait()? && second.wait().is_err());
+    end(first)?;
+    assert!(second.wait().is_err());
     pool.close();
     assert_eq!(pool.submit(|| 42).unwrap_err().reason, Refusal::Closed);
     let text = metrics.text(&[], &[]);
-    let kinds = [
-        ("closed", 1),
-        ("core", 1),
-        ("extra", 0),
-        ("full", 0),
-        ("queued", 1),
-    ];
-    let line =
-        |(kind, count)| format!("resil_pool_jobs_total{{kind=\"{kind}\",name=\"p\"}} {count}");
-    assert_eq!(lines(&text, "resil_pool_jobs_total"), kinds.map(line));
-    for line in [
+    let family = "resil_pool_jobs_total";
+    let counts = "closed 1, core 1, extra 0, full 0, queued 1";
+    let wanted = counted(family, r#"kind="_",name="p""#, counts);
+    assert_eq!(lines(&text, family), wanted);
+    let told = [
         "resil_pool_panics_total{name=\"p\"} 1",
         "resil_pool_wait_seconds_count{name=\"p\"} 2",
         "resil_pool_run_seconds_count{name=\"p\"} 2",
-    ] {
-        assert!(
-            text.lines().any(|told| told == line),
-            "{line} isn't in {text}"
-        );
-    }
+    ];
+    has(&text, &told);
     Ok(())
 }
 

@@ -1,4 +1,7 @@
 //! What observers are told, by whom, and that nothing is locked meanwhile.
+mod common;
+
+use common::{Checked, begun, end, gated, polled};
 use resil::{
     Bulkhead, BulkheadRegistry, Full, Interval, Observer, Refusal, Reply, Retry, ThreadPool,
 };
@@ -6,12 +9,10 @@ use std::error::Error;
 use std::panic::{AssertUnwindSafe, catch_unwind};
 use std::pin::pin;
 use std::sync::atomic::{AtomicBool, AtomicU32, Ordering};
-use std::sync::{Arc, Mutex, OnceLock, PoisonError, mpsc};
-use std::task::{Context, Poll, Waker};
+use std::sync::{Arc, Mutex, MutexGuard, OnceLock, PoisonError};
+use std::task::Poll;
 use std::thread;
 use std::time::Duration;
-
-type Checked = Result<(), Box<dyn Error>>;
 
 /// Writes down what it is told, without the times, which it keeps apart.
 #[derive(Default)]
@@ -22,30 +23,27 @@ struct Log {
 
 impl Log {
     fn write(&self, line: String) {
-        let mut lines = self.lines.lock().unwrap_or_else(PoisonError::into_inner);
-        lines.push(line);
+        locked(&self.lines).push(line);
     }
 
-    fn time(&self, time: Duration) {
-        let mut times = self.times.lock().unwrap_or_else(PoisonError::into_inner);
-        times.push(time);
+    // With a time of it.
+    fn write_timed(&self, line: String, time: Duration) {
+        self.write(line);
+        locked(&self.times).push(time);
     }
 
     // What was told since the last look.
     fn take(&self) -> Vec<String> {
-        let mut lines = self.lines.lock().unwrap_or_else(PoisonError::into_inner);
-        std::mem::take(&mut *lines)
-    }
-
-    fn has(&self, wanted: &str) -> bool {
-        let lines = self.lines.lock().unwrap_or_else(PoisonError::into_inner);
-        lines.iter().any(|line| line == wanted)
+        std::mem::take(&mut locked(&self.lines))
     }
 
     fn take_times(&self) -> Vec<Duration> {
-        let mut times = self.times.lock().unwrap_or_else(PoisonError::into_inner);
-        std::mem::take(&mut *times)
+        std::mem::take(&mut locked(&self.times))
     }
+}
+
+fn locked<T>(list: &Mutex<T>) -> MutexGuard<'_, T> {
+    list.lock().unwrap_or_else(PoisonError::into_inner)
 }
 
 impl Observer for Log {
@@ -58,8 +56,7 @@ impl Observer for Log {
     }
 
     fn call_finished(&self, bulkhead: &str, time: Duration) {
-        self.write(format!("{bulkhead} finished"));
-        self.time(time);
+        self.write_timed(format!("{bulkhead} finished"), time);
     }
 
     fn attempt_failed(&self, retry: &str, attempt: u32, wait: Duration) {
@@ -91,18 +88,15 @@ impl Observer for Log {
     }
 
     fn job_started(&self, pool: &str, wait: Duration) {
-        self.write(format!("{pool} started"));
-        self.time(wait);
+        self.write_timed(format!("{pool} started"), wait);
     }
 
     fn job_finished(&self, pool: &str, time: Duration) {
-        self.write(format!("{pool} finished"));
-        self.time(time);
+        self.write_timed(format!("{pool} finished"), time);
     }
 
     fn job_panicked(&self, pool: &str, time: Duration) {
-        self.write(format!("{pool} panicked"));
-        self.time(time);
+        self.write_timed(format!("{pool} panicked"), time);
     }
 }
 
@@ -116,28 +110,27 @@ const CALL: [&str; 2] = ["b permitted", "b finished"];
 
 #[test]
 fn each_way_to_a_permit_is_told() -> Checked {
+    const LIMIT: Duration = Duration::from_millis(1);
     let (log, b) = logged(1)?;
-    let limit = Duration::from_millis(1);
-    assert_eq!(b.call(|| 42), Ok(42));
-    assert_eq!(log.take(), CALL);
-    drop(b.enter()?);
-    assert_eq!(log.take(), CALL);
-    drop(b.enter_within(limit)?);
-    assert_eq!(log.take(), CALL);
-    drop(b.enter_owned()?);
-    assert_eq!(log.take(), CALL);
-    drop(b.enter_owned_within(limit)?);
-    assert_eq!(log.take(), CALL);
-    let mut context = Context::from_waker(Waker::noop());
-    assert!(pin!(b.acquire()).poll(&mut context).is_ready());
-    assert_eq!(log.take(), CALL);
-
+    let ways: [fn(&Arc<Bulkhead>) -> bool; 6] = [
+        |b| b.call(|| 42) == Ok(42),
+        |b| b.enter().is_ok(),
+        |b| b.enter_within(LIMIT).is_ok(),
+        |b| b.enter_owned().is_ok(),
+        |b| b.enter_owned_within(LIMIT).is_ok(),
+        |b| polled(&mut b.acquire()).is_ready(),
+    ];
+    for is_permitted in ways {
+        assert!(is_permitted(&b));
+        assert_eq!(log.take(), CALL);
+    }
     let permit = b.enter_owned()?;
     assert_eq!(log.take(), ["b permitted"]);
-    assert!(b.enter().is_err() && b.enter_owned().is_err());
-    assert!(b.enter_within(limit).is_err() && b.enter_owned_within(limit).is_err());
-    assert_eq!(b.call(|| 42), Err(Full));
-    assert_eq!(log.take(), ["b refused"; 5]);
+    // A task waits.
+    for is_permitted in &ways[..5] {
+        assert!(!is_permitted(&b));
+        assert_eq!(log.take(), ["b refused"]);
+    }
     permit.forget();
     assert!(log.take().is_empty());
     assert_eq!(b.available(), 0);
@@ -172,18 +165,15 @@ fn a_call_in_a_call_and_one_that_panics_are_told() -> Checked {
 #[test]
 fn a_permit_that_is_handed_on_is_told_once_it_is_awaited() -> Checked {
     let (log, b) = logged(1)?;
-    let mut context = Context::from_waker(Waker::noop());
     let permit = b.enter()?;
-    let mut first = Box::pin(b.acquire());
-    let mut second = Box::pin(b.acquire());
-    assert!(first.as_mut().poll(&mut context).is_pending());
-    assert!(second.as_mut().poll(&mut context).is_pending());
+    let (mut first, mut second) = (b.acquire(), b.acquire());
+    assert!(polled(&mut first).is_pending() && polled(&mut second).is_pending());
     drop(permit);
     assert_eq!(log.take(), CALL);
     // It was given the permit, and is dropped before it has seen that.
     drop(first);
     assert!(log.take().is_empty());
-    let Poll::Ready(permit) = second.as_mut().poll(&mut context) else {
+    let Poll::Ready(permit) = polled(&mut second) else {
         return Err("the second one has no permit".into());
     };
     assert_eq!(log.take(), ["b permitted"]);
@@ -239,10 +229,7 @@ fn a_permit_is_given_back_where_the_observer_panics() -> Checked {
     let b = Arc::new(Bulkhead::new("b", 1)?.observed(panics.clone()));
     let enter = AssertUnwindSafe(|| b.enter().is_ok());
     assert!(catch_unwind(enter).is_err());
-    let acquire = AssertUnwindSafe(|| {
-        let polled = pin!(b.acquire()).poll(&mut Context::from_waker(Waker::noop()));
-        polled.is_ready()
-    });
+    let acquire = AssertUnwindSafe(|| polled(&mut b.acquire()).is_ready());
     assert!(catch_unwind(acquire).is_err());
     assert_eq!((b.available(), panics.0.load(Ordering::Relaxed)), (1, 2));
     Ok(())
@@ -328,20 +315,18 @@ fn nothing_is_locked_while_an_observer_is_told() -> Checked {
     let outcome = b.call(|| b.enter().is_err());
     assert_eq!(outcome, Ok(true));
     // While a task waits: who gives back hands the permit on.
-    let mut context = Context::from_waker(Waker::noop());
     let permit = b.enter()?;
-    let mut waits = Box::pin(b.acquire());
-    assert!(waits.as_mut().poll(&mut context).is_pending());
+    let mut waits = b.acquire();
+    assert!(polled(&mut waits).is_pending());
     drop(permit);
     drop(waits);
-    let (open, gate) = mpsc::channel::<()>();
-    let submitted = pool.submit(move || gate.recv().is_err());
+    // Any of them may find it full.
+    let submitted = gated(&pool);
     for _ in 0..3 {
         let _maybe_full = pool.submit(|| ());
     }
-    drop(open);
-    pool.join();
     drop(submitted);
+    pool.join();
     assert!(asks.count.load(Ordering::SeqCst) > 10);
     pool.close();
     pool.join();
@@ -427,8 +412,7 @@ fn retries_of_futures_and_loops_of_ones_own_are_told() {
         || std::future::ready(Err::<u32, _>("busy")),
         |_wait| std::future::ready(()),
     ));
-    let polled = call.poll(&mut Context::from_waker(Waker::noop()));
-    assert_eq!(polled, Poll::Ready(Err("busy")));
+    assert_eq!(polled(&mut { call }), Poll::Ready(Err("busy")));
     let wanted = ["r 1 failed, 500 ms", "r exhausted after 2"];
     assert_eq!(log.take(), wanted);
     let mut attempts = retry.begin();
@@ -450,13 +434,7 @@ fn what_becomes_of_a_job_is_told() -> Checked {
         .name("p")
         .observed(log.clone())
         .open()?;
-    let (open, gate) = mpsc::channel::<()>();
-    let (begins, begun) = mpsc::channel();
-    let first = pool.submit(move || {
-        let _told = begins.send(());
-        gate.recv().is_err()
-    })?;
-    begun.recv()?;
+    let first = begun(&pool)?;
     let mut told = log.take();
     told.sort();
     assert_eq!(told, ["p accepted Core", "p started"]);
@@ -465,9 +443,9 @@ fn what_becomes_of_a_job_is_told() -> Checked {
     assert_eq!(log.take(), ["p accepted Queued", "p refused Full"]);
     // The very function comes back.
     assert_eq!((refused.function)(), 42);
-    drop(open);
     // The end is told before the answer is there.
-    assert!(first.wait()? && log.has("p finished"));
+    end(first)?;
+    assert!(locked(&log.lines).contains(&"p finished".to_owned()));
     let second: Result<(), _> = second.wait();
     assert_eq!(
         second.unwrap_err().to_string(),
@@ -482,13 +460,7 @@ fn what_becomes_of_a_job_is_told() -> Checked {
 fn a_job_that_is_given_back_and_dropped_neither_begins_nor_ends() -> Checked {
     let log = Arc::new(Log::default());
     let pool = ThreadPool::builder(1, 1).observed(log.clone()).open()?;
-    let (open, gate) = mpsc::channel::<()>();
-    let (begins, begun) = mpsc::channel();
-    let first = pool.submit(move || {
-        let _told = begins.send(());
-        gate.recv().is_err()
-    })?;
-    begun.recv()?;
+    let first = begun(&pool)?;
     let (second, third) = (pool.submit(|| 2)?, pool.submit(|| 3)?);
     log.take();
     let mut waiting = pool.close_now().into_iter();
@@ -500,9 +472,7 @@ fn a_job_that_is_given_back_and_dropped_neither_begins_nor_ends() -> Checked {
     assert_eq!(log.take(), ["pool started", "pool finished"]);
     assert_eq!(pool.submit(|| 42).unwrap_err().reason, Refusal::Closed);
     assert_eq!(log.take(), ["pool refused Closed"]);
-    drop(open);
-    assert!(first.wait()?);
-    Ok(())
+    end(first)
 }
 
 /// Has the log for some names.

@@ -1,42 +1,18 @@
 //! How a pool of threads ends: joins, closes, drops and panics, and who may be the last to have it.
+mod common;
+
+use common::{Checked, PATIENCE, gated, in_time, until, wait_at};
 use resil::{JobError, JobHandle, ThreadPool};
 use std::cell::RefCell;
 use std::error::Error;
 use std::sync::atomic::{AtomicBool, AtomicU32, Ordering};
-use std::sync::mpsc::{self, Receiver, Sender};
+use std::sync::mpsc::{self, Sender};
 use std::sync::{Arc, Barrier};
 use std::thread::{self, JoinHandle};
 use std::time::{Duration, Instant};
 
-type Checked = Result<(), Box<dyn Error>>;
-
-const PATIENCE: Duration = Duration::from_secs(60);
-
-// Waits until it is so, for as long as there is patience.
-fn until(mut is_so: impl FnMut() -> bool) -> bool {
-    let began = Instant::now();
-    while !is_so() {
-        if began.elapsed() > PATIENCE {
-            return false;
-        }
-        thread::sleep(Duration::from_millis(1));
-    }
-    true
-}
-
-// A job that ends once its gate is dropped.
-fn gated(pool: &ThreadPool) -> Result<(Sender<()>, JobHandle<()>), Box<dyn Error>> {
-    let (gate, closed) = mpsc::channel();
-    let handle = pool.submit(move || wait_at(&closed))?;
-    Ok((gate, handle))
-}
-
-fn wait_at(closed: &Receiver<()>) {
-    let _opened = closed.recv();
-}
-
 // The answer of a thread that ends in time.
-fn in_time<T>(thread: JoinHandle<T>) -> Result<thread::Result<T>, Box<dyn Error>> {
+fn joined<T>(thread: JoinHandle<T>) -> Result<thread::Result<T>, Box<dyn Error>> {
     if until(|| thread.is_finished()) {
         Ok(thread.join())
     } else {
@@ -126,7 +102,7 @@ fn thread_locals_of_workers_join_beside_another_owner() -> Checked {
     for _ in 0..6 {
         told.recv_timeout(PATIENCE)?;
     }
-    in_time(joins)?.map_err(|_| "it panicked")?;
+    joined(joins)?.map_err(|_| "it panicked")?;
     assert_eq!(pool.numbers().workers, 0);
     Ok(())
 }
@@ -183,7 +159,7 @@ fn a_join_returns_under_a_steady_load() -> Checked {
     for _ in 0..20 {
         let before = submitted.load(Ordering::SeqCst);
         let joins = Arc::clone(&pool);
-        in_time(thread::spawn(move || joins.join()))?.map_err(|_| "it panicked")?;
+        joined(thread::spawn(move || joins.join()))?.map_err(|_| "it panicked")?;
         assert!(submitted.load(Ordering::SeqCst) > before);
     }
     stop.store(true, Ordering::SeqCst);
@@ -203,6 +179,7 @@ fn a_join_gives_up_in_time() -> Checked {
     drop(gate);
     assert!(pool.join_for(PATIENCE));
     assert!(first.is_finished());
+    assert_eq!(pool.numbers().workers, 1);
     let (gate, _second) = gated(&pool)?;
     pool.close();
     assert!(!pool.join_for(Duration::from_millis(1)));
@@ -225,21 +202,8 @@ fn a_join_leaves_out_what_is_submitted_later() -> Checked {
         inner.join_for(Duration::ZERO)
     })?;
     drop(open);
-    let job = job.wait_for(PATIENCE).map_err(|_| "it waits for itself")?;
-    assert!(!job?, "it doesn't wait for the job at the gate");
+    assert!(!in_time(job)?, "it doesn't wait for the job at the gate");
     drop(gate);
-    Ok(())
-}
-
-#[test]
-fn a_pool_is_closed_when_it_is_closed() -> Checked {
-    let pool = ThreadPool::builder(1, 1).open()?;
-    assert!(!pool.is_closed());
-    pool.close();
-    assert!(pool.is_closed());
-    let pool = ThreadPool::builder(1, 1).open()?;
-    assert!(pool.close_now().is_empty() && pool.is_closed());
-    assert!(pool.close_now().is_empty());
     Ok(())
 }
 
@@ -265,7 +229,7 @@ fn a_panic_beside_a_job_that_waits_for_its_caller_is_told() -> Checked {
         // The pool is dropped before the gate.
         panic!("{} jobs", u32::from(job.is_ok()))
     });
-    let panic = in_time(caller)?.expect_err("it panics");
+    let panic = joined(caller)?.expect_err("it panics");
     assert_eq!(
         panic.downcast_ref::<String>().map(String::as_str),
         Some("1 jobs")
@@ -286,6 +250,7 @@ fn what_has_not_begun_comes_back() -> Checked {
         .collect::<Result<Vec<_>, _>>()
         .map_err(|refused| refused.reason)?;
     let mut back = pool.close_now();
+    assert!(pool.is_closed());
     assert_eq!((back.len(), Arc::strong_count(&token)), (4, 5));
     assert!(pool.close_now().is_empty());
     let numbers = pool.numbers();
@@ -361,8 +326,7 @@ fn a_job_closes_its_own_pool_at_once() -> Checked {
     })?;
     let waits = pool.submit(|| 1)?;
     drop(gate);
-    let count = job.wait_for(PATIENCE).map_err(|_| "it waits for itself")?;
-    assert_eq!(count?, 1);
+    assert_eq!(in_time(job)?, 1);
     assert!(matches!(waits.wait(), Err(JobError::Cancelled)));
     pool.join();
     Ok(())
@@ -398,33 +362,20 @@ fn nothing_is_lost_by_a_close_at_once() -> Checked {
         drop(back);
         let mut counts = (0, 0);
         for submitter in submitters {
-            for job in in_time(submitter)?.map_err(|_| "it panicked")? {
+            for job in joined(submitter)?.map_err(|_| "it panicked")? {
                 match job.wait_for(PATIENCE).map_err(|_| "a job is lost")? {
                     Ok(_) => counts.0 += 1,
                     Err(_) => counts.1 += 1,
                 }
             }
         }
-        in_time(joins)?.map_err(|_| "it panicked")?;
+        joined(joins)?.map_err(|_| "it panicked")?;
         assert_eq!(counts, (ran.load(Ordering::SeqCst), cancelled));
         let numbers = pool.numbers();
         assert_eq!((numbers.workers, numbers.waiting), (0, 0));
         assert_eq!(numbers.finished, numbers.accepted);
         assert_eq!(numbers.accepted, u64::from(counts.0) + cancelled as u64);
     }
-    Ok(())
-}
-
-#[test]
-fn panics_come_one_after_the_other() -> Checked {
-    let pool = ThreadPool::builder(1, 1).open()?;
-    let worker = pool.submit(|| thread::current().id())?.wait()?;
-    for number in 0..50 {
-        let panics = pool.submit(move || -> u32 { panic!("number {number}") })?;
-        let said = panics.wait().map_err(|error| error.to_string());
-        assert_eq!(said, Err(format!("the job panicked: number {number}")));
-    }
-    assert_eq!(pool.submit(|| thread::current().id())?.wait()?, worker);
     Ok(())
 }
 

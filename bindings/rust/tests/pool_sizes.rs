@@ -1,46 +1,13 @@
 //! The sizes of a pool of threads while it works: fewer threads and more, names, stacks, and a load that is shed.
-use resil::{JobHandle, PoolError, Refusal, Reply, ThreadPool};
+mod common;
+
+use common::{Checked, PATIENCE, all_gated, end, gated, in_time, until};
+use resil::{JobHandle, Refusal, Reply, ThreadPool};
 use std::error::Error;
 use std::sync::atomic::{AtomicU32, Ordering};
-use std::sync::mpsc::{self, Sender};
 use std::sync::{Arc, Barrier};
 use std::thread;
-use std::time::{Duration, Instant};
-
-type Checked = Result<(), Box<dyn Error>>;
-
-const PATIENCE: Duration = Duration::from_secs(60);
-
-// Waits until it is so, for as long as there is patience.
-fn until(mut is_so: impl FnMut() -> bool) -> bool {
-    let began = Instant::now();
-    while !is_so() {
-        if began.elapsed() > PATIENCE {
-            return false;
-        }
-        thread::sleep(Duration::from_millis(1));
-    }
-    true
-}
-
-// The answer of a job that ends in time.
-fn in_time<T>(job: JobHandle<T>) -> Result<T, Box<dyn Error>> {
-    Ok(job.wait_for(PATIENCE).map_err(|_| "a job isn't run")??)
-}
-
-/// A job that ends once its gate is dropped.
-type Gated = (Sender<()>, JobHandle<()>);
-
-fn gated(pool: &ThreadPool, count: usize) -> Result<Vec<Gated>, Refusal> {
-    let jobs = (0..count).map(|_| {
-        let (gate, closed) = mpsc::channel();
-        let job = pool.submit(move || {
-            let _opened: Result<(), _> = closed.recv();
-        });
-        Ok((gate, job.map_err(|refused| refused.reason)?))
-    });
-    jobs.collect()
-}
+use std::time::Duration;
 
 /// How many jobs run, and how many ran at a time at most.
 #[derive(Default)]
@@ -76,14 +43,11 @@ fn shrunk(keep_alive: Duration) -> Result<ThreadPool, Box<dyn Error>> {
         .queue(100)
         .keep_alive(keep_alive)
         .open()?;
-    let first = gated(&pool, 8)?;
+    let first = all_gated(&pool, 8)?;
     let seen = Arc::default();
     let later = in_groups(&pool, 2, 40, &seen)?;
     pool.resize(2, 2)?;
-    for (gate, job) in first {
-        drop(gate);
-        in_time(job)?;
-    }
+    first.into_iter().try_for_each(end)?;
     for job in later {
         in_time(job)?;
     }
@@ -110,10 +74,9 @@ fn threads_that_held_back_end_once_nothing_waits() -> Checked {
     for keep_alive in [Duration::ZERO, Duration::from_millis(2)] {
         let pool = shrunk(keep_alive)?;
         assert!(until(|| pool.numbers().workers == 2));
-        let (gate, job) = gated(&pool, 1)?.remove(0);
-        assert_eq!(job.reply(), Reply::Queued);
-        drop(gate);
-        in_time(job)?;
+        let next = gated(&pool)?;
+        assert_eq!(next.1.reply(), Reply::Queued);
+        end(next)?;
     }
     Ok(())
 }
@@ -121,28 +84,22 @@ fn threads_that_held_back_end_once_nothing_waits() -> Checked {
 #[test]
 fn a_greater_size_calls_those_that_held_back() -> Checked {
     let pool = ThreadPool::builder(4, 4).queue(100).open()?;
-    let first = gated(&pool, 4)?;
+    let first = all_gated(&pool, 4)?;
     pool.resize(1, 1)?;
-    let waiting = gated(&pool, 4)?;
-    for (gate, job) in first {
-        drop(gate);
-        in_time(job)?;
-    }
+    let waiting = all_gated(&pool, 4)?;
+    first.into_iter().try_for_each(end)?;
     let numbers = pool.numbers();
     assert_eq!((numbers.running, numbers.waiting), (1, 3));
     pool.resize(4, 4)?;
     assert!(until(|| pool.numbers().running == 4));
-    for (gate, job) in waiting {
-        drop(gate);
-        in_time(job)?;
-    }
+    waiting.into_iter().try_for_each(end)?;
     Ok(())
 }
 
 #[test]
 fn a_shrunk_pool_is_closed() -> Checked {
     let pool = ThreadPool::builder(4, 4).queue(100).open()?;
-    let first = gated(&pool, 4)?;
+    let first = all_gated(&pool, 4)?;
     let seen = Arc::default();
     let later = in_groups(&pool, 1, 20, &seen)?;
     pool.resize(1, 1)?;
@@ -156,8 +113,8 @@ fn a_shrunk_pool_is_closed() -> Checked {
     );
 
     let pool = ThreadPool::builder(4, 4).queue(100).open()?;
-    let first = gated(&pool, 4)?;
-    let later = gated(&pool, 20)?;
+    let first = all_gated(&pool, 4)?;
+    let later = all_gated(&pool, 20)?;
     pool.resize(1, 1)?;
     let mut gates = first.into_iter();
     drop(gates.next());
@@ -179,7 +136,7 @@ fn sizes_change_under_load() -> Checked {
         .keep_alive(Duration::ZERO)
         .open()?;
     thread::scope(|scope| {
-        let callers = [(); 3].map(|()| {
+        let callers = [(); 6].map(|()| {
             scope.spawn(|| {
                 let mut counts = (0, 0);
                 for _ in 0..2_000 {
@@ -208,7 +165,7 @@ fn sizes_change_under_load() -> Checked {
         }
         let numbers = pool.numbers();
         assert_eq!((numbers.finished, numbers.refused), counts);
-        assert_eq!(counts.0 + counts.1, 6_000);
+        assert_eq!(counts.0 + counts.1, 12_000);
     });
     Ok(())
 }
@@ -230,6 +187,7 @@ fn threads_have_numbers() -> Checked {
     }
     names.sort();
     assert_eq!(names, ["letters-1", "letters-2", "letters-3"]);
+    assert_eq!(pool.name(), "letters");
     Ok(())
 }
 
@@ -256,27 +214,6 @@ fn a_stack_that_cannot_be_had_is_a_thread_that_cannot_be_started() -> Checked {
     let job = pool.submit(|| thread::current().id())?;
     assert!(job.is_finished());
     assert_eq!(job.wait()?, thread::current().id());
-    Ok(())
-}
-
-#[test]
-fn a_load_above_the_pool_is_shed() -> Checked {
-    let pool = ThreadPool::builder(1, 2).queue(3).open()?;
-    let accepted = gated(&pool, 5)?;
-    let text = |number: u32| move || number.to_string();
-    let refused: Vec<_> = (0..50)
-        .map(|number| pool.submit(text(number)).expect_err("it is full"))
-        .collect();
-    assert!(refused.iter().all(|one| one.reason == Refusal::Full));
-    let said = refused.into_iter().map(|one| (one.function)());
-    assert!(said.eq((0..50).map(|number| number.to_string())));
-    for (gate, job) in accepted {
-        drop(gate);
-        in_time(job)?;
-    }
-    let numbers = pool.numbers();
-    assert_eq!((numbers.accepted, numbers.refused), (5, 50));
-    assert_eq!(pool.resize(1, 3), Err(PoolError::MaxOutOfRange));
     Ok(())
 }
 

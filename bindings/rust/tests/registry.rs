@@ -1,11 +1,11 @@
 //! Bulkheads by name.
-use resil::{Bulkhead, BulkheadRegistry, RegistryError};
+mod common;
+
+use common::Checked;
+use resil::{Bulkhead, BulkheadError, BulkheadRegistry, RegistryError};
 use std::collections::HashSet;
-use std::error::Error;
 use std::sync::{Arc, Barrier};
 use std::thread;
-
-type Checked = Result<(), Box<dyn Error>>;
 
 const THREADS: usize = 64;
 
@@ -39,11 +39,14 @@ fn a_name_is_1_to_64_bytes_of_some() {
     let registry = BulkheadRegistry::new(1);
     let longest = "n".repeat(64);
     for name in ["a", "0", "-", "_", ".", "A-z_0.9", &longest] {
+        assert!(Bulkhead::new(name, 1).is_ok(), "{name}");
         assert_eq!(registry.add_config(name, 1), Ok(()), "{name}");
         assert!(registry.bulkhead(name).is_ok(), "{name}");
     }
     let too_long = "n".repeat(65);
-    for name in ["", " ", "a b", "a/b", "ä", "a\0", &too_long] {
+    for name in ["", " ", "a b", "two prices\n", "a/b", "ä", "a\0", &too_long] {
+        let refused = Bulkhead::new(name, 65_536).err();
+        assert_eq!(refused, Some(BulkheadError::BadName), "{name}");
         let refused = Some(RegistryError::BadName);
         assert_eq!(registry.add_config(name, 1).err(), refused, "{name}");
         assert_eq!(registry.bulkhead(name).err(), refused, "{name}");
@@ -149,10 +152,11 @@ fn the_errors_say_what_the_library_says() {
     for (error, words) in said {
         assert_eq!(error.to_string(), words);
     }
+    assert_eq!(BulkheadError::BadName.to_string(), said[3].1);
 }
 
 #[test]
-fn a_name_is_removed() -> Result<(), Box<dyn Error>> {
+fn a_name_is_removed() -> Checked {
     let registry = BulkheadRegistry::new(2);
     assert!(registry.remove("prices").is_none());
     let first = registry.bulkhead("prices")?;

@@ -2,6 +2,9 @@
 //! the row alone is tested here.
 #![cfg(target_os = "linux")]
 
+mod common;
+
+use common::{Checked, is_idle};
 use resil::{Acquire, Bulkhead};
 use std::alloc::{GlobalAlloc, Layout, System};
 use std::error::Error;
@@ -10,9 +13,7 @@ use std::panic::{AssertUnwindSafe, catch_unwind};
 use std::pin::Pin;
 use std::sync::atomic::{AtomicU32, AtomicUsize, Ordering};
 use std::sync::{Arc, Mutex, PoisonError};
-use std::task::{Context, Poll, Wake, Waker};
-
-type Checked = Result<(), Box<dyn Error>>;
+use std::task::{Context, Wake, Waker};
 
 /// The system's memory, counted.
 struct Counted(AtomicUsize);
@@ -139,13 +140,8 @@ fn a_waker_that_panics_leaves_nobody_unwoken() -> Checked {
         wakers.map(|waker| waker.woken.load(Ordering::SeqCst)),
         [1; 3]
     );
-    for permit in &mut row {
-        let mut context = Context::from_waker(Waker::noop());
-        assert!(matches!(
-            Pin::new(permit).poll(&mut context),
-            Poll::Ready(_)
-        ));
-    }
-    assert_eq!((backend.available(), backend.numbers().waiting), (3, 0));
+    assert!(row.iter_mut().all(|one| polled(one, Waker::noop())));
+    drop(row);
+    assert!(is_idle(&backend));
     Ok(())
 }

@@ -1,19 +1,16 @@
 //! Fewer permits while calls are under way and others wait: what is free is retired, and the rest is owed.
+mod common;
+
+use common::{Checked, PATIENCE, until};
 use resil::{Acquire, Bulkhead, OwnedPermit};
-use std::error::Error;
-use std::pin::Pin;
 use std::sync::Arc;
 use std::sync::atomic::{AtomicBool, AtomicU32, Ordering};
-use std::task::{Context, Poll, Waker};
+use std::task::Poll;
 use std::thread;
-use std::time::{Duration, Instant};
-
-type Checked = Result<(), Box<dyn Error>>;
-
-const PATIENCE: Duration = Duration::from_secs(60);
+use std::time::Duration;
 
 fn polled(permit: &mut Acquire) -> Option<OwnedPermit> {
-    match Pin::new(permit).poll(&mut Context::from_waker(Waker::noop())) {
+    match common::polled(permit) {
         Poll::Ready(permit) => permit.ok(),
         Poll::Pending => None,
     }
@@ -135,12 +132,8 @@ fn an_operator_shrinks_under_load() -> Checked {
         }
         let mut is_paid = true;
         for _ in 0..50 {
-            let begun = Instant::now();
             backend.shrink(3);
-            while backend.owed() > 0 && begun.elapsed() < PATIENCE {
-                thread::yield_now();
-            }
-            is_paid &= backend.owed() == 0 && backend.retired() == 3;
+            is_paid &= until(|| backend.owed() == 0) && backend.retired() == 3;
             thread::sleep(Duration::from_micros(200));
             is_paid &= backend.raise(2) == 2;
             // Some of it is owed while the rest is raised.

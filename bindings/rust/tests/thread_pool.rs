@@ -1,43 +1,21 @@
 //! A pool of threads: its answers, its numbers, its ends, and what is done to it by mistake.
+mod common;
+
+use common::{Checked, PATIENCE, all_gated, end, gated, in_time, until, wait_at};
 use resil::{JobError, JobHandle, PoolError, PoolNumbers, Refusal, Reply, ThreadPool};
 use std::error::Error;
 use std::panic::{RefUnwindSafe, UnwindSafe};
+use std::sync::Arc;
 use std::sync::atomic::{AtomicU32, Ordering};
 use std::sync::mpsc::{self, Sender};
-use std::sync::{Arc, Mutex};
 use std::thread;
-use std::time::{Duration, Instant};
-
-type Answer = Result<(), Box<dyn Error>>;
-
-const PATIENCE: Duration = Duration::from_secs(60);
+use std::time::Duration;
 
 fn is_send_and_sync<T: Send + Sync>() {}
 fn is_unwind_safe<T: UnwindSafe + RefUnwindSafe>() {}
 
-// Waits until it is so, for as long as there is patience.
-fn until(mut is_so: impl FnMut() -> bool) -> bool {
-    let began = Instant::now();
-    while !is_so() {
-        if began.elapsed() > PATIENCE {
-            return false;
-        }
-        thread::sleep(Duration::from_millis(1));
-    }
-    true
-}
-
-// A job that ends once its gate is dropped.
-fn gated(pool: &ThreadPool) -> Result<(Sender<()>, JobHandle<()>), Box<dyn Error>> {
-    let (gate, closed) = mpsc::channel();
-    let handle = pool.submit(move || {
-        let _opened: Result<(), _> = closed.recv();
-    })?;
-    Ok((gate, handle))
-}
-
 #[test]
-fn answers_come_back() -> Answer {
+fn answers_come_back() -> Checked {
     let pool = ThreadPool::builder(2, 4).queue(100).open()?;
     let jobs = (1..=100).map(|n| pool.submit(move || n * n));
     let jobs = jobs.collect::<Result<Vec<_>, _>>()?;
@@ -48,28 +26,7 @@ fn answers_come_back() -> Answer {
 }
 
 #[test]
-fn replies_are_those_of_the_rule() -> Answer {
-    let pool = ThreadPool::builder(1, 2)
-        .queue(1)
-        .keep_alive(Duration::MAX)
-        .open()?;
-    let (gate, first) = gated(&pool)?;
-    let (_, second) = gated(&pool)?;
-    let (_, third) = gated(&pool)?;
-    assert_eq!(first.reply(), Reply::Core);
-    assert_eq!(second.reply(), Reply::Queued);
-    assert_eq!(third.reply(), Reply::Extra);
-    third.wait()?;
-    second.wait()?;
-    let fourth = pool.submit(|| 4)?;
-    assert_eq!((fourth.reply(), fourth.wait()?), (Reply::Queued, 4));
-    drop(gate);
-    first.wait()?;
-    Ok(())
-}
-
-#[test]
-fn a_full_pool_gives_the_function_back() -> Answer {
+fn a_full_pool_gives_the_function_back() -> Checked {
     let pool = ThreadPool::builder(1, 1).queue(1).open()?;
     let (gate, first) = gated(&pool)?;
     let second = pool.submit(|| 2)?;
@@ -86,18 +43,15 @@ fn a_full_pool_gives_the_function_back() -> Answer {
 }
 
 #[test]
-fn a_closed_pool_refuses_and_runs_what_waits() -> Answer {
+fn a_closed_pool_refuses_and_runs_what_waits() -> Checked {
     let pool = ThreadPool::builder(1, 1).open()?;
     let (gate, first) = gated(&pool)?;
     let second = pool.submit(|| 2)?;
+    assert!(!pool.is_closed());
     pool.close();
     pool.close();
-    assert_eq!(
-        pool.submit(|| 3)
-            .map(drop)
-            .map_err(|refused| refused.reason),
-        Err(Refusal::Closed)
-    );
+    assert!(pool.is_closed());
+    assert_eq!(pool.submit(|| 3).unwrap_err().reason, Refusal::Closed);
     assert!(!second.is_finished());
     pool.resize(1, 1)?;
     drop(gate);
@@ -139,7 +93,7 @@ fn sizes_out_of_range_are_refused() {
 }
 
 #[test]
-fn a_panic_is_handed_back_and_the_worker_lives_on() -> Answer {
+fn a_panic_is_handed_back_and_the_worker_lives_on() -> Checked {
     let pool = ThreadPool::builder(1, 1).open()?;
     let worker = pool.submit(|| thread::current().id())?.wait()?;
     let number = pool.numbers().finished;
@@ -175,7 +129,7 @@ impl Drop for Bomb {
 }
 
 #[test]
-fn an_answer_that_panics_when_dropped_leaves_the_worker() -> Answer {
+fn an_answer_that_panics_when_dropped_leaves_the_worker() -> Checked {
     let pool = ThreadPool::builder(1, 1).open()?;
     let (gate, first) = gated(&pool)?;
     // Their handles are gone before they run.
@@ -188,7 +142,7 @@ fn an_answer_that_panics_when_dropped_leaves_the_worker() -> Answer {
 }
 
 #[test]
-fn functions_and_answers_are_dropped_once() -> Answer {
+fn functions_and_answers_are_dropped_once() -> Checked {
     let pool = ThreadPool::builder(1, 1).queue(4).open()?;
     let token = Arc::new(());
     let job = || {
@@ -228,7 +182,7 @@ impl Drop for Asks {
 }
 
 #[test]
-fn the_drop_of_an_answer_may_use_the_pool() -> Answer {
+fn the_drop_of_an_answer_may_use_the_pool() -> Checked {
     let pool = Arc::new(ThreadPool::builder(2, 2).open()?);
     let (sender, receiver) = mpsc::channel();
     for _ in 0..50 {
@@ -240,7 +194,7 @@ fn the_drop_of_an_answer_may_use_the_pool() -> Answer {
 }
 
 #[test]
-fn waits_end_in_time() -> Answer {
+fn waits_end_in_time() -> Checked {
     let pool = ThreadPool::builder(1, 1).open()?;
     let (gate, job) = gated(&pool)?;
     let job = job
@@ -264,7 +218,7 @@ fn waits_end_in_time() -> Answer {
 }
 
 #[test]
-fn numbers_are_of_one_moment() -> Answer {
+fn numbers_are_of_one_moment() -> Checked {
     let pool = ThreadPool::builder(2, 2).queue(1_000).open()?;
     thread::scope(|scope| {
         for _ in 0..2 {
@@ -287,14 +241,19 @@ fn numbers_are_of_one_moment() -> Answer {
 }
 
 #[test]
-fn numbers_tell_the_sizes_and_the_jobs() -> Answer {
+fn numbers_tell_the_sizes_and_the_jobs() -> Checked {
     let pool = ThreadPool::builder(1, 2)
         .queue(1)
         .keep_alive(Duration::MAX)
         .open()?;
-    let (gate, _first) = gated(&pool)?;
-    let (second_gate, _second) = gated(&pool)?;
-    let (third_gate, _third) = gated(&pool)?;
+    let [first, second, third] = [gated(&pool)?, gated(&pool)?, gated(&pool)?];
+    for (job, reply) in [
+        (&first, Reply::Core),
+        (&second, Reply::Queued),
+        (&third, Reply::Extra),
+    ] {
+        assert_eq!(job.1.reply(), reply);
+    }
     assert!(pool.submit(|| ()).is_err());
     let wanted = PoolNumbers {
         core: 1,
@@ -308,12 +267,17 @@ fn numbers_tell_the_sizes_and_the_jobs() -> Answer {
         finished: 0,
     };
     assert_eq!(pool.numbers(), wanted);
-    drop((gate, second_gate, third_gate));
+    for job in [third, second, first] {
+        end(job)?;
+    }
+    let fourth = pool.submit(|| 4)?;
+    assert_eq!((fourth.reply(), fourth.wait()?), (Reply::Queued, 4));
     pool.join();
     let wanted = PoolNumbers {
         running: 0,
         waiting: 0,
-        finished: 3,
+        accepted: 4,
+        finished: 4,
         ..wanted
     };
     assert_eq!(pool.numbers(), wanted);
@@ -321,35 +285,21 @@ fn numbers_tell_the_sizes_and_the_jobs() -> Answer {
 }
 
 #[test]
-fn threads_bear_the_pools_name() -> Answer {
-    let pool = ThreadPool::builder(1, 1).name("letters").open()?;
-    let name = pool.submit(|| thread::current().name().map(str::to_owned))?;
-    assert_eq!(name.wait()?.as_deref(), Some("letters-1"));
-    assert_eq!(pool.name(), "letters");
-    Ok(())
-}
-
-#[test]
-fn idle_threads_above_the_core_end() -> Answer {
+fn idle_threads_above_the_core_end() -> Checked {
     let pool = ThreadPool::builder(1, 3)
         .queue(1)
         .keep_alive(Duration::from_millis(2))
         .open()?;
-    let jobs = (0..4)
-        .map(|_| gated(&pool))
-        .collect::<Result<Vec<_>, _>>()?;
+    let jobs = all_gated(&pool, 4)?;
     assert_eq!(pool.numbers().workers, 3);
-    for (gate, handle) in jobs {
-        drop(gate);
-        handle.wait()?;
-    }
+    jobs.into_iter().try_for_each(end)?;
     assert!(until(|| pool.numbers().workers == 1));
     assert_eq!(pool.submit(|| 42)?.wait()?, 42);
     Ok(())
 }
 
 #[test]
-fn a_smaller_core_lets_threads_end() -> Answer {
+fn a_smaller_core_lets_threads_end() -> Checked {
     let pool = ThreadPool::builder(3, 3)
         .keep_alive(Duration::from_millis(2))
         .open()?;
@@ -367,7 +317,7 @@ fn a_smaller_core_lets_threads_end() -> Answer {
 }
 
 #[test]
-fn idle_threads_end_at_the_close() -> Answer {
+fn idle_threads_end_at_the_close() -> Checked {
     let pool = ThreadPool::builder(3, 3).keep_alive(Duration::MAX).open()?;
     for _ in 0..3 {
         pool.submit(|| ())?.wait()?;
@@ -379,7 +329,7 @@ fn idle_threads_end_at_the_close() -> Answer {
 }
 
 #[test]
-fn a_dropped_pool_runs_what_waits() -> Answer {
+fn a_dropped_pool_runs_what_waits() -> Checked {
     let ran = Arc::new(AtomicU32::new(0));
     let pool = ThreadPool::builder(2, 2).queue(1_000).open()?;
     let (gate, first) = gated(&pool)?;
@@ -395,7 +345,7 @@ fn a_dropped_pool_runs_what_waits() -> Answer {
 }
 
 #[test]
-fn a_job_submits_to_its_own_pool() -> Answer {
+fn a_job_submits_to_its_own_pool() -> Checked {
     let pool = Arc::new(ThreadPool::builder(1, 1).open()?);
     let inner = Arc::clone(&pool);
     let job = pool.submit(move || inner.submit(|| 42).map(|job| (job.reply(), job)))?;
@@ -405,12 +355,12 @@ fn a_job_submits_to_its_own_pool() -> Answer {
 }
 
 // A pool of so many threads that a job of its own drops, while another one waits in its queue.
-fn dropped_inside(threads: u32) -> Answer {
+fn dropped_inside(threads: u32) -> Checked {
     let pool = Arc::new(ThreadPool::builder(threads, threads).open()?);
     let (gate, closed) = mpsc::channel();
     let inner = Arc::clone(&pool);
     let job = pool.submit(move || {
-        let _opened: Result<(), _> = closed.recv();
+        wait_at(&closed);
         let waits = inner.submit(|| 42).map_err(|refused| refused.reason);
         drop(inner);
         waits
@@ -420,80 +370,29 @@ fn dropped_inside(threads: u32) -> Answer {
     }
     drop(pool);
     drop(gate);
-    let job = job
-        .wait_for(PATIENCE)
-        .map_err(|_| "the drop waits for its own thread")?;
-    let waits = job??
-        .wait_for(PATIENCE)
-        .map_err(|_| "what was accepted isn't run")?;
-    assert_eq!(waits?, 42);
+    assert_eq!(in_time(in_time(job)??)?, 42);
     Ok(())
 }
 
 #[test]
-fn a_job_drops_its_own_pool() -> Answer {
+fn a_job_drops_its_own_pool() -> Checked {
     dropped_inside(1)?;
     dropped_inside(3)
 }
 
 #[test]
-fn jobs_join_their_own_pool() -> Answer {
+fn jobs_join_their_own_pool() -> Checked {
     let pool = Arc::new(ThreadPool::builder(2, 2).open()?);
     let joins = [(); 2].map(|()| {
         let inner = Arc::clone(&pool);
         pool.submit(move || inner.join())
     });
     for job in joins {
-        let joined = job.map_err(|refused| refused.reason)?.wait_for(PATIENCE);
-        joined.map_err(|_| "it waits for itself")??;
+        in_time(job.map_err(|refused| refused.reason)?)?;
     }
     pool.close();
     pool.join();
     assert_eq!(pool.numbers().workers, 0);
-    Ok(())
-}
-
-#[test]
-fn a_join_waits_for_what_was_accepted() -> Answer {
-    let pool = ThreadPool::builder(1, 1).open()?;
-    pool.join();
-    let (gate, first) = gated(&pool)?;
-    let second = pool.submit(|| 2)?;
-    thread::scope(|scope| {
-        let joins = scope.spawn(|| pool.join());
-        assert!(!joins.is_finished());
-        drop(gate);
-    });
-    assert!(first.is_finished() && second.is_finished());
-    assert_eq!(pool.numbers().workers, 1);
-    Ok(())
-}
-
-#[test]
-fn many_callers_and_threads_lose_nothing() -> Answer {
-    let pool = ThreadPool::builder(2, 6)
-        .queue(8)
-        .keep_alive(Duration::ZERO)
-        .open()?;
-    let sum = Mutex::new((0_u64, 0_u64));
-    thread::scope(|scope| {
-        for _ in 0..6 {
-            scope.spawn(|| {
-                for _ in 0..3_000 {
-                    let answer = pool.submit(|| 1).map(JobHandle::wait);
-                    let mut sum = sum.lock().expect("nobody panics");
-                    match answer {
-                        Ok(answer) => sum.0 += answer.expect("it doesn't panic"),
-                        Err(_) => sum.1 += 1,
-                    }
-                }
-            });
-        }
-    });
-    let (answered, refused) = sum.into_inner()?;
-    let numbers = pool.numbers();
-    assert_eq!((numbers.finished, numbers.refused), (answered, refused));
-    assert_eq!(answered + refused, 18_000);
     Ok(())
 }
 

@@ -1,6 +1,6 @@
 //! Random loads of recorded pools: each seed is one, whatever the threads make of it. `RESIL_LOADS='FIRST COUNT FOLDER'` has the ignored
 //! test write the texts of so many into a folder, for `tools/check_bindings`.
-use super::Checked;
+use super::common::Checked;
 use super::text::Text;
 use resil::{PoolNumbers, ThreadPool, Unstarted};
 use std::error::Error;

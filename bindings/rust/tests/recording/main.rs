@@ -1,47 +1,18 @@
 //! The record of a pool: what is noted, where it ends and begins anew, and that nothing is recorded where nobody asks.
+#[path = "../common/mod.rs"]
+mod common;
 mod loads;
 mod text;
 
-use resil::{JobHandle, PoolError, ThreadPool};
+use common::{Checked, all_gated, end, gated, until};
+use resil::{PoolError, ThreadPool};
 use std::error::Error;
 use std::panic;
-use std::sync::mpsc::{self, Sender};
-use std::thread;
-use std::time::{Duration, Instant};
+use std::time::Duration;
 use text::Text;
-
-type Checked = Result<(), Box<dyn Error>>;
-
-const PATIENCE: Duration = Duration::from_secs(60);
-
-// A job that ends once its gate is dropped.
-fn gated(pool: &ThreadPool) -> Result<(Sender<()>, JobHandle<()>), Box<dyn Error>> {
-    let (gate, closed) = mpsc::channel();
-    let handle = pool.submit(move || {
-        let _opened: Result<(), _> = closed.recv();
-    })?;
-    Ok((gate, handle))
-}
-
-fn end((gate, handle): (Sender<()>, JobHandle<()>)) -> Checked {
-    drop(gate);
-    Ok(handle.wait()?)
-}
 
 fn history(pool: &ThreadPool) -> Result<Text, Box<dyn Error>> {
     Text::of(&pool.history().ok_or("the pool isn't recorded")?)
-}
-
-// Waits until there are so many workers.
-fn until_workers(pool: &ThreadPool, count: u32) -> Checked {
-    let began = Instant::now();
-    while pool.numbers().workers != count {
-        if began.elapsed() > PATIENCE {
-            return Err("an idle worker stays".into());
-        }
-        thread::sleep(Duration::from_millis(1));
-    }
-    Ok(())
 }
 
 #[test]
@@ -83,7 +54,7 @@ fn each_event_is_noted() -> Checked {
     assert!(panics.wait().is_err());
     pool.close();
     pool.close();
-    until_workers(&pool, 1)?;
+    assert!(until(|| pool.numbers().workers == 1));
     assert!(pool.submit(|| ()).is_err());
     end(second)?;
     pool.join();
@@ -174,12 +145,9 @@ fn a_record_is_empty_where_more_jobs_wait_than_it_has_room_for() -> Checked {
 fn a_part_begins_with_the_state_of_the_pool() -> Checked {
     let pool = ThreadPool::builder(2, 4).queue(2);
     let pool = pool.keep_alive(Duration::MAX).record(100).open()?;
-    let jobs = (0..6).map(|_| gated(&pool));
-    let jobs: Vec<_> = jobs.collect::<Result<_, _>>()?;
-    let [first, second, third, fourth, fifth, sixth]: [_; 6] =
-        jobs.try_into().map_err(|_| "six jobs")?;
+    let mut jobs = all_gated(&pool, 6)?;
     assert_eq!(history(&pool)?.events.len(), 6);
-    end(second)?;
+    end(jobs.remove(1))?;
     pool.resize(1, 3)?;
     let text = history(&pool)?;
     let wanted = [
@@ -205,8 +173,8 @@ fn a_part_begins_with_the_state_of_the_pool() -> Checked {
         text.events[5..],
         ["submit,1,5,queued,,", "resize,,,,1,3", "close,,,,,"]
     );
-    end(first)?;
-    until_workers(&pool, 3)?;
+    end(jobs.remove(0))?;
+    assert!(until(|| pool.numbers().workers == 3));
     let text = history(&pool)?;
     let wanted = [
         "resize,,,,1,3",
@@ -218,6 +186,5 @@ fn a_part_begins_with_the_state_of_the_pool() -> Checked {
     ];
     assert_eq!(text.events[6..], wanted);
     assert_eq!((text.sizes, text.made), ([1, 4, 2], 8));
-    drop((third, fourth, fifth, sixth));
     Ok(())
 }
