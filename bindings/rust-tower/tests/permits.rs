@@ -1,4 +1,7 @@
 //! Each permit is given back once: by an answer, by a future that is dropped at whichever step, and by a panic.
+mod common;
+
+use common::context;
 use resil::{Bulkhead, BulkheadError};
 use resil_tower::{BulkheadLayer, BulkheadService, CallError};
 use std::cell::Cell;
@@ -6,7 +9,7 @@ use std::future::Future;
 use std::panic::{self, AssertUnwindSafe};
 use std::pin::{Pin, pin};
 use std::sync::Arc;
-use std::task::{Context, Poll, Waker};
+use std::task::{Context, Poll};
 use tower::{Layer, Service};
 
 // Where the inner service panics.
@@ -90,10 +93,6 @@ fn play(panics: Panics, played: impl FnOnce(&Bulkhead, Guarded<'_>)) -> Result<(
     // A call is over before its permit is free.
     assert!(free_at_drop.get().is_none_or(|free| free == 0));
     Ok(())
-}
-
-fn context() -> Context<'static> {
-    Context::from_waker(Waker::noop())
 }
 
 fn has_panicked<T>(function: impl FnOnce() -> T) -> bool {

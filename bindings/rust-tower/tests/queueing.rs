@@ -1,48 +1,16 @@
 //! The layer whose calls wait: nothing is held before a call, and at each step of one its future may be dropped.
+mod common;
+
+use common::{Answers, Checked, all_are_made, context, is_idle, polled};
 use resil::{Bulkhead, Observer};
 use resil_tower::{BulkheadLayer, CallError, QueueingService};
 use std::error::Error;
-use std::future::{self, Future};
 use std::panic::{AssertUnwindSafe, catch_unwind};
-use std::pin::Pin;
 use std::sync::Arc;
 use std::sync::atomic::{AtomicU32, Ordering};
-use std::task::{Context, Poll, Waker};
+use std::task::Poll;
 use std::time::Duration;
-use tower::{BoxError, Layer, Service, ServiceBuilder, ServiceExt, service_fn};
-
-type Checked = Result<(), Box<dyn Error>>;
-type Answer = Pin<Box<dyn Future<Output = Result<u32, &'static str>> + Send>>;
-
-/// Answers with the number that it is asked by; 0 is never answered, and 1 panics in the call. After so many looks it is ready.
-#[derive(Clone, Debug)]
-struct Answers {
-    looks: u32,
-}
-
-impl Service<u32> for Answers {
-    type Response = u32;
-    type Error = &'static str;
-    type Future = Answer;
-
-    fn poll_ready(&mut self, _context: &mut Context<'_>) -> Poll<Result<(), &'static str>> {
-        match self.looks {
-            0 => return Poll::Ready(Ok(())),
-            1 => return Poll::Ready(Err("no route")),
-            _ => self.looks -= 2,
-        }
-        Poll::Pending
-    }
-
-    fn call(&mut self, number: u32) -> Answer {
-        assert_eq!(self.looks, 0);
-        match number {
-            0 => Box::pin(future::pending()),
-            1 => panic!("out of paper"),
-            _ => Box::pin(future::ready(Ok(number))),
-        }
-    }
-}
+use tower::{BoxError, Layer, Service, ServiceBuilder, ServiceExt};
 
 fn queueing(looks: u32) -> Result<(Arc<Bulkhead>, QueueingService<Answers>), Box<dyn Error>> {
     let backend = Arc::new(Bulkhead::new("backend", 1)?);
@@ -50,21 +18,12 @@ fn queueing(looks: u32) -> Result<(Arc<Bulkhead>, QueueingService<Answers>), Box
     Ok((backend, service))
 }
 
-fn polled<F: Future + Unpin>(future: &mut F) -> Poll<F::Output> {
-    Pin::new(future).poll(&mut Context::from_waker(Waker::noop()))
-}
-
-fn is_idle(backend: &Bulkhead) -> bool {
-    (backend.available(), backend.numbers().waiting) == (backend.max(), 0)
-}
-
 #[test]
 fn a_service_that_is_ready_holds_nothing() -> Checked {
     let (backend, service) = queueing(0)?;
     let mut copies = [(); 5].map(|()| service.clone());
-    let mut context = Context::from_waker(Waker::noop());
     for copy in &mut copies {
-        assert!(copy.poll_ready(&mut context).is_ready());
+        assert!(copy.poll_ready(&mut context()).is_ready());
     }
     // Nor does a call that wasn't polled.
     let calls = copies.each_mut().map(|copy| copy.call(7));
@@ -82,12 +41,12 @@ fn calls_are_served_in_order() -> Checked {
     assert_eq!(backend.numbers().waiting, 3);
     drop(permit);
     // The permit is the first one's.
-    let [first, second, third] = &mut calls;
-    assert!(polled(third).is_pending() && polled(second).is_pending());
-    assert_eq!(polled(first), Poll::Ready(Ok(7)));
-    assert!(polled(third).is_pending());
-    assert_eq!(polled(second), Poll::Ready(Ok(8)));
-    assert_eq!(polled(third), Poll::Ready(Ok(9)));
+    let [mut first, mut second, mut third] = calls;
+    assert!(polled(&mut third).is_pending() && polled(&mut second).is_pending());
+    assert_eq!(polled(&mut first), Poll::Ready(Ok(7)));
+    assert!(polled(&mut third).is_pending());
+    assert_eq!(polled(&mut second), Poll::Ready(Ok(8)));
+    assert_eq!(polled(&mut third), Poll::Ready(Ok(9)));
     assert!(is_idle(&backend));
     Ok(())
 }
@@ -234,36 +193,5 @@ async fn a_call_waits_for_so_long() -> Checked {
 
 #[tokio::test(flavor = "multi_thread", worker_threads = 4)]
 async fn all_calls_are_made_and_few_at_a_time() -> Checked {
-    let backend = Arc::new(Bulkhead::new("backend", 3)?);
-    let inside = Arc::new(AtomicU32::new(0));
-    let seen = Arc::clone(&inside);
-    let layer = BulkheadLayer::queueing(Arc::clone(&backend));
-    let service = layer.layer(service_fn(move |number: u32| {
-        let inside = Arc::clone(&seen);
-        async move {
-            assert!(inside.fetch_add(1, Ordering::SeqCst) < 3);
-            tokio::task::yield_now().await;
-            inside.fetch_sub(1, Ordering::SeqCst);
-            Ok::<u32, &str>(number)
-        }
-    }));
-    let tasks: Vec<_> = (0..16)
-        .map(|task| {
-            let service = service.clone();
-            tokio::spawn(async move {
-                let mut sum = 0;
-                for number in 0..100 {
-                    sum += service.clone().oneshot(number + task).await.unwrap_or(0);
-                }
-                sum
-            })
-        })
-        .collect();
-    let mut sum = 0;
-    for task in tasks {
-        sum += task.await?;
-    }
-    assert_eq!(sum, 16 * 4_950 + 100 * 120);
-    assert!(is_idle(&backend));
-    Ok(())
+    all_are_made(|backend, inner| BulkheadLayer::queueing(backend).layer(inner)).await
 }

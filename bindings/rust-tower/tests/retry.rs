@@ -1,18 +1,19 @@
 //! A retry as a policy of tower: what is called again, after which waits, and what is left where it is dropped.
 #![cfg(feature = "retry")]
+mod common;
+
+use common::{Checked, polled};
 use resil::{Bulkhead, CallError, Interval, Observer, Retry};
 use resil_tower::{BulkheadLayer, RetryPolicy};
-use std::error::Error;
 use std::future::{self, Future};
 use std::pin::Pin;
 use std::sync::Arc;
 use std::sync::atomic::{AtomicU32, Ordering};
-use std::task::{Context, Poll, Waker};
+use std::task::{Context, Poll};
 use std::time::Duration;
 use tokio::time::Instant;
 use tower::{Service, ServiceBuilder, ServiceExt};
 
-type Checked = Result<(), Box<dyn Error>>;
 type Answer = Result<u32, &'static str>;
 
 /// What each attempt of a call comes to, first to last; the last one again where there are more.
@@ -178,11 +179,6 @@ async fn a_permit_is_taken_for_each_attempt() -> Checked {
     Ok(())
 }
 
-fn is_pending<F: Future>(future: &mut Pin<Box<F>>) -> bool {
-    let mut context = Context::from_waker(Waker::noop());
-    future.as_mut().poll(&mut context).is_pending()
-}
-
 // Each step of a call of two attempts, the last of which hangs, over either layer.
 #[tokio::test(start_paused = true)]
 async fn a_call_is_dropped_at_each_step() -> Checked {
@@ -213,7 +209,7 @@ async fn a_call_is_dropped_at_each_step() -> Checked {
         // During the first attempt.
         let (backend, mut service) = made(&[Step::Hangs]);
         let mut call = Box::pin(service.ready().await?.call(1));
-        assert!(is_pending(&mut call));
+        assert!(polled(&mut call).is_pending());
         assert_eq!((bulkhead.available(), backend.counts()), (0, (1, 1)));
         drop(call);
         assert!(is_free() && backend.counts() == (1, 0));
@@ -221,7 +217,7 @@ async fn a_call_is_dropped_at_each_step() -> Checked {
         // During the wait, when no permit is held.
         let (backend, mut service) = made(&[BUSY, Step::Hangs]);
         let mut call = Box::pin(service.ready().await?.call(1));
-        assert!(is_pending(&mut call));
+        assert!(polled(&mut call).is_pending());
         assert!(is_free() && backend.counts() == (1, 0));
         drop(call);
         tokio::time::sleep(WAIT * 3).await;
@@ -231,10 +227,10 @@ async fn a_call_is_dropped_at_each_step() -> Checked {
         for is_held in [false, true] {
             let (backend, mut service) = made(&[BUSY, Step::Hangs]);
             let mut call = Box::pin(service.ready().await?.call(1));
-            assert!(is_pending(&mut call));
+            assert!(polled(&mut call).is_pending());
             let permit = is_held.then(|| bulkhead.enter()).transpose()?;
             tokio::time::sleep(WAIT * 3 / 2).await;
-            assert!(is_pending(&mut call));
+            assert!(polled(&mut call).is_pending());
             let attempts = if is_held { 1 } else { 2 };
             assert_eq!((bulkhead.available(), backend.counts().0), (0, attempts));
             drop(call);
@@ -246,10 +242,10 @@ async fn a_call_is_dropped_at_each_step() -> Checked {
         // With a permit that it was given, and hasn't seen.
         let (backend, mut service) = made(&[BUSY, Step::Hangs]);
         let mut call = Box::pin(service.ready().await?.call(1));
-        assert!(is_pending(&mut call));
+        assert!(polled(&mut call).is_pending());
         let permit = bulkhead.enter()?;
         tokio::time::sleep(WAIT * 3 / 2).await;
-        assert!(is_pending(&mut call));
+        assert!(polled(&mut call).is_pending());
         drop(permit);
         drop(call);
         assert!(is_free() && backend.counts() == (1, 0));

@@ -1,12 +1,14 @@
 //! What the service answers, with futures that are polled by hand.
+mod common;
+
+use common::{context, polled};
 use resil::{Bulkhead, BulkheadError};
 use resil_tower::{BulkheadLayer, BulkheadService, CallError};
 use std::cell::Cell;
-use std::future::{self, Future, Ready};
-use std::pin::pin;
+use std::future::{self, Ready};
 use std::rc::Rc;
 use std::sync::Arc;
-use std::task::{Context, Poll, Waker};
+use std::task::{Context, Poll};
 use std::time::Duration;
 use tower::{BoxError, Layer, Service, ServiceBuilder, ServiceExt, service_fn};
 
@@ -45,13 +47,8 @@ fn guarded(max: u32) -> Result<(Arc<Bulkhead>, Backend, BulkheadService<Backend>
     Ok((bulkhead, backend, service))
 }
 
-fn polled_once<T>(future: impl Future<Output = T>) -> Poll<T> {
-    pin!(future).poll(&mut Context::from_waker(Waker::noop()))
-}
-
 #[test]
 fn it_is_ready_as_the_inner_service_is() -> Result<(), BulkheadError> {
-    let mut context = Context::from_waker(Waker::noop());
     for max in [0, 1] {
         let (bulkhead, backend, mut service) = guarded(max)?;
         for ready in [
@@ -61,7 +58,7 @@ fn it_is_ready_as_the_inner_service_is() -> Result<(), BulkheadError> {
         ] {
             backend.ready.set(ready);
             let wanted = ready.map_err(CallError::Failed);
-            assert_eq!(service.poll_ready(&mut context), wanted);
+            assert_eq!(service.poll_ready(&mut context()), wanted);
         }
         assert_eq!(bulkhead.available(), max);
     }
@@ -71,9 +68,9 @@ fn it_is_ready_as_the_inner_service_is() -> Result<(), BulkheadError> {
 #[test]
 fn an_answer_and_a_failure_are_handed_on() -> Result<(), BulkheadError> {
     let (bulkhead, backend, mut service) = guarded(1)?;
-    assert_eq!(polled_once(service.call(Ok(42))), Poll::Ready(Ok(42)));
+    assert_eq!(polled(service.call(Ok(42))), Poll::Ready(Ok(42)));
     let failed = Poll::Ready(Err(CallError::Failed("no route")));
-    assert_eq!(polled_once(service.call(Err("no route"))), failed);
+    assert_eq!(polled(service.call(Err("no route"))), failed);
     assert_eq!((backend.calls.get(), bulkhead.available()), (2, 1));
     Ok(())
 }
@@ -85,9 +82,9 @@ fn a_refused_call_does_not_reach_the_inner_service() -> Result<(), Box<dyn std::
     let refused = service.call(Ok(42));
     // It was refused when it was made: a permit that is given back later doesn't change it.
     drop(permits);
-    assert_eq!(polled_once(refused), Poll::Ready(Err(CallError::Full)));
+    assert_eq!(polled(refused), Poll::Ready(Err(CallError::Full)));
     assert_eq!((backend.calls.get(), bulkhead.available()), (0, 2));
-    assert_eq!(polled_once(service.call(Ok(42))), Poll::Ready(Ok(42)));
+    assert_eq!(polled(service.call(Ok(42))), Poll::Ready(Ok(42)));
     Ok(())
 }
 
@@ -101,8 +98,8 @@ fn all_services_of_a_layer_share_its_permits() -> Result<(), BulkheadError> {
     let mut third = first.clone();
     let calls = [first.call(()), second.call(()), third.call(())];
     let refused = Poll::Ready(Err(CallError::Full));
-    assert_eq!(polled_once(first.call(())), refused);
-    assert_eq!(polled_once(second.call(())), refused);
+    assert_eq!(polled(first.call(())), refused);
+    assert_eq!(polled(second.call(())), refused);
     drop(calls);
     assert_eq!(bulkhead.available(), 3);
     Ok(())

@@ -1,55 +1,26 @@
 //! The layer that waits: when a service is ready, and where its permit goes at each step at which it may be dropped.
+mod common;
+
+use common::{Answer, Answers, Checked, all_are_made, context, is_idle, polled};
 use resil::Bulkhead;
 use resil_tower::{BulkheadLayer, BulkheadService};
 use std::error::Error;
-use std::future::{self, Future};
 use std::panic::{AssertUnwindSafe, catch_unwind};
-use std::pin::{Pin, pin};
 use std::sync::Arc;
-use std::sync::atomic::{AtomicU32, Ordering};
-use std::task::{Context, Poll, Waker};
-use tower::{Layer, Service, ServiceExt, service_fn};
-
-type Checked = Result<(), Box<dyn Error>>;
-type Answer = Pin<Box<dyn Future<Output = Result<u32, &'static str>> + Send>>;
-
-/// Answers with the number that it is asked by; 0 is never answered, and 1 panics in the call.
-#[derive(Clone, Debug)]
-struct Answers;
-
-impl Service<u32> for Answers {
-    type Response = u32;
-    type Error = &'static str;
-    type Future = Answer;
-
-    fn poll_ready(&mut self, _context: &mut Context<'_>) -> Poll<Result<(), &'static str>> {
-        Poll::Ready(Ok(()))
-    }
-
-    fn call(&mut self, number: u32) -> Answer {
-        match number {
-            0 => Box::pin(future::pending()),
-            1 => panic!("out of paper"),
-            _ => Box::pin(future::ready(Ok(number))),
-        }
-    }
-}
+use std::task::{Context, Poll};
+use tower::{Layer, Service, ServiceExt};
 
 fn waiting(max: u32) -> Result<(Arc<Bulkhead>, BulkheadService<Answers>), Box<dyn Error>> {
     let backend = Arc::new(Bulkhead::new("backend", max)?);
-    let service = BulkheadLayer::waiting(Arc::clone(&backend)).layer(Answers);
+    let service = BulkheadLayer::waiting(Arc::clone(&backend)).layer(Answers { looks: 0 });
     Ok((backend, service))
 }
 
 fn is_ready(service: &mut BulkheadService<Answers>) -> bool {
-    match service.poll_ready(&mut Context::from_waker(Waker::noop())) {
+    match service.poll_ready(&mut context()) {
         Poll::Ready(answer) => answer.is_ok(),
         Poll::Pending => false,
     }
-}
-
-fn polled<F: Future>(future: F) -> Poll<F::Output> {
-    pin!(future).poll(&mut Context::from_waker(Waker::noop()))
 }
 
 #[test]
@@ -69,14 +40,14 @@ fn a_service_is_ready_once_it_has_a_permit() -> Checked {
     drop(second);
     assert!(is_ready(&mut first));
     drop(first);
-    assert_eq!((backend.available(), backend.numbers().waiting), (1, 0));
+    assert!(is_idle(&backend));
     Ok(())
 }
 
 #[test]
 fn a_call_is_dropped_at_each_step() -> Checked {
     let (backend, service) = waiting(1)?;
-    let is_free = || (backend.available(), backend.numbers().waiting) == (1, 0);
+    let is_free = || is_idle(&backend);
     drop(service.clone());
     assert!(is_free());
     // With its permit.
@@ -140,19 +111,18 @@ impl Service<u32> for Unready {
 #[test]
 fn a_permit_is_kept_while_the_inner_service_is_not_ready() -> Checked {
     let backend = Arc::new(Bulkhead::new("backend", 1)?);
-    let mut context = Context::from_waker(Waker::noop());
     // Dropped after so many looks: while it isn't ready, once it has failed, and behind a panic.
     for looks in 1..=4 {
         let mut service = BulkheadLayer::waiting(Arc::clone(&backend)).layer(Unready::default());
         for _ in 1..looks {
-            let _unready = service.poll_ready(&mut context);
+            let _unready = service.poll_ready(&mut context());
             assert_eq!(backend.available(), 0);
         }
-        let last = catch_unwind(AssertUnwindSafe(|| service.poll_ready(&mut context)));
+        let last = catch_unwind(AssertUnwindSafe(|| service.poll_ready(&mut context())));
         assert_eq!(last.is_err(), looks == 4);
         assert_eq!(backend.available(), 0);
         drop(service);
-        assert_eq!((backend.available(), backend.numbers().waiting), (1, 0));
+        assert!(is_idle(&backend));
     }
     // A task that awaits it and is given up: `oneshot` has the service.
     let service = BulkheadLayer::waiting(Arc::clone(&backend)).layer(Unready::default());
@@ -188,35 +158,5 @@ fn a_call_before_it_is_ready_panics() -> Checked {
 
 #[tokio::test(flavor = "multi_thread", worker_threads = 4)]
 async fn all_calls_are_made_and_few_at_a_time() -> Checked {
-    let backend = Arc::new(Bulkhead::new("backend", 3)?);
-    let inside = Arc::new(AtomicU32::new(0));
-    let seen = Arc::clone(&inside);
-    let service =
-        BulkheadLayer::waiting(Arc::clone(&backend)).layer(service_fn(move |number: u32| {
-            let inside = Arc::clone(&seen);
-            async move {
-                assert!(inside.fetch_add(1, Ordering::SeqCst) < 3);
-                tokio::task::yield_now().await;
-                inside.fetch_sub(1, Ordering::SeqCst);
-                Ok::<u32, &str>(number)
-            }
-        }));
-    let tasks = (0..64).map(|number| {
-        let service = service.clone();
-        tokio::spawn(async move {
-            let mut sum = 0;
-            for _ in 0..50 {
-                sum += service.clone().oneshot(number).await.unwrap_or(1_000_000);
-            }
-            sum
-        })
-    });
-    let mut sum = 0;
-    for task in tasks.collect::<Vec<_>>() {
-        sum += task.await?;
-    }
-    assert_eq!(sum, 50 * (0..64).sum::<u32>());
-    drop(service);
-    assert_eq!((backend.available(), backend.numbers().waiting), (3, 0));
-    Ok(())
+    all_are_made(|backend, inner| BulkheadLayer::waiting(backend).layer(inner)).await
 }
