@@ -1,9 +1,9 @@
 //! What a dashboard reads: each line of the text, by what was done.
 mod common;
 
-use common::{Checked, begun, end};
+use common::{Checked, begun, end, gated};
 use resil::metrics::Metrics;
-use resil::{Bulkhead, Interval, Observer, Refusal, Reply, Retry, ThreadPool};
+use resil::{Bulkhead, Interval, Observer, Refusal, Retry, ThreadPool};
 use std::sync::{Arc, Barrier};
 use std::thread;
 use std::time::Duration;
@@ -143,37 +143,36 @@ fn retries_are_counted_as_by_resilience4j() {
 #[test]
 fn jobs_are_counted_and_pools_have_their_sizes() -> Checked {
     let metrics = Arc::new(Metrics::new());
-    let pool = ThreadPool::builder(1, 2)
-        .queue(1)
-        .name("p")
-        .observed(metrics.clone())
-        .open()?;
-    let first = begun(&pool)?;
-    let second = pool.submit(|| -> u32 { panic!("no answer") })?;
-    assert_eq!(
-        (first.1.reply(), second.reply()),
-        (Reply::Core, Reply::Queued)
-    );
-    let text = metrics.text(&[], &[&pool]);
-    let sizes = "queue_depth 1, queue_capacity 1, thread_pool_size 1, core_thread_pool_size 1, \
-                 max_thread_pool_size 2, active_thread_count 1, available_thread_count 1";
-    for (name, number) in sizes.split(", ").filter_map(|pair| pair.split_once(' ')) {
-        let line = format!("resilience4j_bulkhead_{name}{{name=\"p\"}} {number}");
-        has(&text, &[&line]);
-    }
-    end(first)?;
-    assert!(second.wait().is_err());
+    let pool = ThreadPool::builder(3, 7).queue(5).name("p");
+    let pool = pool.keep_alive(Duration::MAX).observed(metrics.clone());
+    let pool = pool.open()?;
+    let running = [begun(&pool)?, begun(&pool)?, begun(&pool)?];
+    pool.resize(1, 7)?;
+    let panics = pool.submit(|| -> u32 { panic!("no answer") })?;
+    let last = gated(&pool)?;
+    let has_sizes = |sizes: &str| {
+        let text = metrics.text(&[], &[&pool]);
+        for (name, number) in sizes.split(", ").filter_map(|pair| pair.split_once(' ')) {
+            let line = format!("resilience4j_bulkhead_{name}{{name=\"p\"}} {number}");
+            has(&text, &[&line]);
+        }
+    };
+    has_sizes("queue_depth 2, queue_capacity 5, thread_pool_size 3, core_thread_pool_size 1");
+    has_sizes("max_thread_pool_size 7, active_thread_count 3, available_thread_count 4");
+    running.into_iter().chain([last]).try_for_each(end)?;
+    assert!(panics.wait().is_err());
+    has_sizes("queue_depth 0, thread_pool_size 3, active_thread_count 0, available_thread_count 7");
     pool.close();
     assert_eq!(pool.submit(|| 42).unwrap_err().reason, Refusal::Closed);
     let text = metrics.text(&[], &[]);
     let family = "resil_pool_jobs_total";
-    let counts = "closed 1, core 1, extra 0, full 0, queued 1";
+    let counts = "closed 1, core 3, extra 0, full 0, queued 2";
     let wanted = counted(family, r#"kind="_",name="p""#, counts);
     assert_eq!(lines(&text, family), wanted);
     let told = [
         "resil_pool_panics_total{name=\"p\"} 1",
-        "resil_pool_wait_seconds_count{name=\"p\"} 2",
-        "resil_pool_run_seconds_count{name=\"p\"} 2",
+        "resil_pool_wait_seconds_count{name=\"p\"} 5",
+        "resil_pool_run_seconds_count{name=\"p\"} 5",
     ];
     has(&text, &told);
     Ok(())

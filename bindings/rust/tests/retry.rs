@@ -36,10 +36,9 @@ fn an_answer_is_given_at_once() {
 #[test]
 fn errors_are_retried_while_attempts_are_left() {
     let failing = |_| Err::<(), _>("no");
-    let (answer, calls, waits) = tried(Retry::new(), failing);
-    assert_eq!((answer, calls, waits), (Err("no"), 3, vec![500, 500]));
-    let (answer, calls, waits) = tried(Retry::default().attempts(1), failing);
-    assert_eq!((answer, calls, waits), (Err("no"), 1, vec![]));
+    assert_eq!(tried(Retry::new(), failing), (Err("no"), 3, vec![500; 2]));
+    let once = Retry::default().attempts(1);
+    assert_eq!(tried(once, failing), (Err("no"), 1, vec![]));
     let second = |call| if call == 2 { Ok(call) } else { Err("no") };
     assert_eq!(tried(Retry::new(), second), (Ok(2), 2, vec![500]));
 }
@@ -220,15 +219,12 @@ fn a_wait_beyond_the_limit_is_not_begun() {
     };
     let failing = |call| Err::<(), _>(if call < 3 { "no" } else { "third" });
     // As long as two waits, and a little less; the calls take no time.
-    let (answer, calls, waits) = tried(limited(2_500 * second), failing);
-    assert_eq!(
-        (answer, calls, waits),
-        (Err("third"), 3, vec![1_000_000; 2])
-    );
-    let (answer, calls, waits) = tried(limited(1_999 * second), failing);
-    assert_eq!((answer, calls, waits), (Err("no"), 2, vec![1_000_000]));
-    let (answer, calls, waits) = tried(limited(Duration::ZERO), failing);
-    assert_eq!((answer, calls, waits), (Err("no"), 1, vec![]));
+    let third = (Err("third"), 3, vec![1_000_000; 2]);
+    assert_eq!(tried(limited(2_500 * second), failing), third);
+    let once = (Err("no"), 2, vec![1_000_000]);
+    assert_eq!(tried(limited(1_999 * second), failing), once);
+    let at_once = (Err("no"), 1, vec![]);
+    assert_eq!(tried(limited(Duration::ZERO), failing), at_once);
     let (_, calls, _) = tried(limited(Duration::MAX), failing);
     assert_eq!(calls, 9);
     let at_once = Retry::new().within(Duration::ZERO);

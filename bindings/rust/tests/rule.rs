@@ -178,8 +178,8 @@ fn new_sizes_decide_what_comes_after_them() -> Result<(), PoolError> {
     assert_eq!(rule.last_events(), before);
     assert_eq!(rule.event(3), Some(Event::Resized { core: 1, max: 1 }));
     assert!(rule.close());
-    rule.resize(2, 2)?;
-    assert_eq!(rule.event(13), Some(Event::Resized { core: 2, max: 2 }));
+    rule.resize(1, 2)?;
+    assert_eq!(rule.event(13), Some(Event::Resized { core: 1, max: 2 }));
     assert_eq!(works(&mut rule), [5]);
     Ok(())
 }

@@ -42,7 +42,7 @@ fn what_is_free_is_retired_and_the_rest_is_owed() -> Checked {
     assert_eq!((backend.raise(9), counts(&backend)), (3, (3, 0, 0)));
     let permits = [backend.enter()?, backend.enter()?, backend.enter()?];
     drop(permits);
-    assert_eq!(counts(&backend), (3, 0, 0));
+    assert_eq!((backend.shrink(1), counts(&backend)), (1, (2, 1, 0)));
     Ok(())
 }
 
