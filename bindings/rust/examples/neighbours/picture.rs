@@ -61,25 +61,17 @@ fn x(at: Duration) -> f64 {
 fn outline(columns: &[[u32; 4]], kind: usize, unit: f64, bottom: f64) -> String {
     let step = x(COLUMN) - LEFT;
     let height = |column: &[u32; 4], count: usize| {
-        bottom
-            - unit
-                * column[..count]
-                    .iter()
-                    .map(|&calls| f64::from(calls))
-                    .sum::<f64>()
+        let calls: u32 = column[..count].iter().sum();
+        bottom - unit * f64::from(calls)
     };
-    let places = || {
-        (0..)
-            .map(|index| LEFT + step * f64::from(index))
-            .zip(columns)
-    };
+    let places = (0..).map(|index| LEFT + step * f64::from(index));
+    let places: Vec<_> = places.zip(columns).collect();
     let mut path = format!("M{LEFT} {bottom}");
-    for (from, column) in places() {
+    for (from, column) in &places {
         let y = height(column, kind + 1);
         let _ = write!(path, "L{from:.1} {y:.1}H{:.1}", from + step);
     }
-    let back: Vec<_> = places().collect();
-    for (from, column) in back.into_iter().rev() {
+    for (from, column) in places.iter().rev() {
         let y = height(column, kind);
         let _ = write!(path, "L{:.1} {y:.1}H{from:.1}", from + step);
     }
@@ -88,45 +80,40 @@ fn outline(columns: &[[u32; 4]], kind: usize, unit: f64, bottom: f64) -> String 
 
 // One plot: the band in which the slow neighbour hangs, the four kinds, and the axes.
 fn plot(svg: &mut String, title: &str, all: &[Met], most: u32, top: f64) {
-    let bottom = top + HEIGHT;
+    let (above, bottom) = (top - 12.0, top + HEIGHT);
     let unit = HEIGHT / f64::from(most);
     let [from, to] = HANGS.map(x);
+    let (width, right) = (to - from, LEFT + PLOT);
     let columns = columns(all);
     let _ = writeln!(
         svg,
-        r#"<text x="{LEFT}" y="{}" font-weight="bold">{title}</text>"#,
-        top - 12.0
+        r#"<text x="{LEFT}" y="{above}" font-weight="bold">{title}</text>"#
     );
     let _ = writeln!(
         svg,
-        r#"<rect class="band" x="{from}" y="{top}" width="{}" height="{HEIGHT}"/>"#,
-        to - from
+        r#"<rect class="band" x="{from}" y="{top}" width="{width}" height="{HEIGHT}"/>"#
     );
     for (index, (class, _, _)) in KINDS.iter().enumerate() {
-        let _ = writeln!(
-            svg,
-            r#"<path class="{class}" d="{}"/>"#,
-            outline(&columns, index, unit, bottom)
-        );
+        let outline = outline(&columns, index, unit, bottom);
+        let _ = writeln!(svg, r#"<path class="{class}" d="{outline}"/>"#);
     }
     let _ = writeln!(
         svg,
-        r#"<path class="line" d="M{LEFT} {top}V{bottom}H{}"/>"#,
-        LEFT + PLOT
+        r#"<path class="line" d="M{LEFT} {top}V{bottom}H{right}"/>"#
     );
     for (calls, y) in [(most, top + 10.0), (0, bottom)] {
+        let x = LEFT - 6.0;
         let _ = writeln!(
             svg,
-            r#"<text class="dim" x="{}" y="{y}" text-anchor="end">{calls}</text>"#,
-            LEFT - 6.0
+            r#"<text class="dim" x="{x}" y="{y}" text-anchor="end">{calls}</text>"#
         );
     }
     for second in 0..=LENGTH.as_secs() {
         let (x, y) = (x(Duration::from_secs(second)), bottom + 18.0);
+        let unit = if second == 0 { " s" } else { "" };
         let _ = writeln!(
             svg,
-            r#"<text class="dim" x="{x}" y="{y}" text-anchor="middle">{second}{}</text>"#,
-            if second == 0 { " s" } else { "" }
+            r#"<text class="dim" x="{x}" y="{y}" text-anchor="middle">{second}{unit}</text>"#
         );
     }
 }
@@ -134,45 +121,33 @@ fn plot(svg: &mut String, title: &str, all: &[Met], most: u32, top: f64) {
 /// Both halves, one above the other.
 pub fn svg(without: &[Met], with: &[Met]) -> String {
     let sums = [without, with].into_iter().flat_map(columns);
-    let most = sums
-        .map(|column| column.iter().sum())
-        .max()
-        .unwrap_or(1)
-        .next_multiple_of(20)
-        .max(20);
+    let most = sums.map(|column| column.iter().sum()).max().unwrap_or(1);
+    let most = most.next_multiple_of(20).max(20);
+    let (right, above) = (LEFT + PLOT, TOPS[0] - 12.0);
+    let patience = STEADY_PATIENCE.as_millis();
     let mut svg = format!(
-        "<svg xmlns=\"http://www.w3.org/2000/svg\" viewBox=\"0 0 {WIDTH} 456\" width=\"{WIDTH}\" height=\"456\">\n\
-         <style>\n{STYLE}\n</style>\n<rect class=\"ground\" width=\"{WIDTH}\" height=\"456\"/>\n"
-    );
-    let _ = writeln!(
-        svg,
-        r#"<text x="{LEFT}" y="28" font-size="18" font-weight="bold">A server of {THREADS} threads, and a neighbour that hangs for two seconds</text>"#
+        r#"<svg xmlns="http://www.w3.org/2000/svg" viewBox="0 0 {WIDTH} 456" width="{WIDTH}" height="456">
+<style>
+{STYLE}
+</style>
+<rect class="ground" width="{WIDTH}" height="456"/>
+<text x="{LEFT}" y="28" font-size="18" font-weight="bold">A server of {THREADS} threads, and a neighbour that hangs for two seconds</text>
+"#
     );
     for (class, words, place) in KINDS {
+        let behind = place + 19.0;
         let _ = writeln!(
             svg,
-            r#"<rect class="{class}" x="{place}" y="45" width="13" height="13"/><text x="{}" y="57">{words}</text>"#,
-            place + 19.0
+            r#"<rect class="{class}" x="{place}" y="45" width="13" height="13"/><text x="{behind}" y="57">{words}</text>"#
         );
     }
     plot(&mut svg, "Without a bulkhead", without, most, TOPS[0]);
-    plot(
-        &mut svg,
-        &format!("With a bulkhead of {PERMITS} permits for each neighbour"),
-        with,
-        most,
-        TOPS[1],
-    );
-    let _ = writeln!(
-        svg,
-        r#"<text class="dim" x="{LEFT}" y="80">calls per tenth of a second; a caller gives up after {} ms</text>"#,
-        STEADY_PATIENCE.as_millis()
-    );
-    let _ = writeln!(
-        svg,
-        r#"<text class="dim" x="{}" y="{}" text-anchor="end">the slow neighbour hangs in the grey band</text>"#,
-        LEFT + PLOT,
-        TOPS[0] - 12.0
-    );
-    svg + "</svg>\n"
+    let title = format!("With a bulkhead of {PERMITS} permits for each neighbour");
+    plot(&mut svg, &title, with, most, TOPS[1]);
+    svg + &format!(
+        r#"<text class="dim" x="{LEFT}" y="80">calls per tenth of a second; a caller gives up after {patience} ms</text>
+<text class="dim" x="{right}" y="{above}" text-anchor="end">the slow neighbour hangs in the grey band</text>
+</svg>
+"#
+    )
 }
