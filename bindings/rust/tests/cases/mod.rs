@@ -32,5 +32,8 @@ pub fn cases(command: &str) -> Result<Vec<Case>, Box<dyn Error>> {
             }));
         }
     }
+    if cases.is_empty() {
+        return Err(format!("{command} has no cases").into());
+    }
     Ok(cases)
 }
