@@ -380,10 +380,8 @@ fn numbers_tell_what_is_free_and_who_waits() -> Checked {
         drop(permit);
         assert!(waits.join().unwrap_or(false));
     });
-    assert_eq!(
-        (backend.numbers().available, backend.numbers().waiting),
-        (1, 0)
-    );
+    assert_eq!(backend.numbers().available, 1);
+    assert_eq!(backend.numbers().waiting, 0);
     Ok(())
 }
 
@@ -449,10 +447,8 @@ fn a_million_calls_stay_within_the_limit() -> Checked {
         }
     });
     assert!(seen.most.into_inner() <= 3);
-    assert_eq!(
-        (seen.entered.into_inner(), backend.available()),
-        (1_000_000, 3)
-    );
+    assert_eq!(seen.entered.into_inner(), 1_000_000);
+    assert_eq!(backend.available(), 3);
     Ok(())
 }
 

@@ -33,10 +33,8 @@ fn who_asks_later_is_told() -> Checked {
     assert!(is_closed(&polled(&mut backend.acquire())));
     // A second time.
     backend.close();
-    assert_eq!(
-        (backend.enter().err(), backend.available()),
-        (Some(Closed), 2)
-    );
+    assert_eq!(backend.enter().err(), Some(Closed));
+    assert_eq!(backend.available(), 2);
     Ok(())
 }
 

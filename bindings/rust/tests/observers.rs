@@ -153,10 +153,8 @@ fn a_call_in_a_call_and_one_that_panics_are_told() -> Checked {
         .collect::<Result<_, _>>()?;
     assert_eq!((log.take().len(), b.available()), (200, 0));
     assert!(thread::spawn(move || drop(permits)).join().is_ok());
-    assert_eq!(
-        (log.take(), b.available()),
-        (vec!["b finished".into(); 200], 200)
-    );
+    assert_eq!(log.take(), ["b finished"; 200]);
+    assert_eq!(b.available(), 200);
     assert_eq!((b.retire(3), b.raise(3)), (3, 3));
     assert!(log.take().is_empty());
     Ok(())
@@ -420,10 +418,8 @@ fn retries_of_futures_and_loops_of_ones_own_are_told() {
         .wait_after::<u32, &str>(&mut attempts, Err(&"busy"))
         .is_some()
     {}
-    assert_eq!(
-        (log.take(), attempts.count()),
-        (wanted.map(str::to_owned).into(), 2)
-    );
+    assert_eq!(log.take(), wanted);
+    assert_eq!(attempts.count(), 2);
 }
 
 #[test]
@@ -516,13 +512,8 @@ fn several_observers_are_all_told() -> Checked {
     let b = Bulkhead::new("b", 1)?.observed(both.clone());
     assert!(b.call(|| b.enter().is_err())?);
     let wanted = ["b permitted", "b refused", "b finished"];
-    assert_eq!(
-        (log.take(), other.take()),
-        (
-            wanted.map(str::to_owned).into(),
-            wanted.map(str::to_owned).into()
-        )
-    );
+    assert_eq!(log.take(), wanted);
+    assert_eq!(other.take(), wanted);
     let retry = Retry::new().observed("r", both.clone());
     assert_eq!(retry.call(|| Ok::<_, ()>(1)), Ok(1));
     let pool = ThreadPool::builder(1, 1)

@@ -107,10 +107,8 @@ fn a_shrunk_pool_is_closed() -> Checked {
     drop(first);
     assert!(pool.join_for(PATIENCE));
     assert!(later.iter().all(JobHandle::is_finished));
-    assert_eq!(
-        (seen.most.load(Ordering::SeqCst), pool.numbers().workers),
-        (1, 0)
-    );
+    assert_eq!(seen.most.load(Ordering::SeqCst), 1);
+    assert_eq!(pool.numbers().workers, 0);
 
     let pool = ThreadPool::builder(4, 4).queue(100).open()?;
     let first = all_gated(&pool, 4)?;

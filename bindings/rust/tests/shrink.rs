@@ -35,10 +35,8 @@ fn what_is_free_is_retired_and_the_rest_is_owed() -> Checked {
     thread::scope(|scope| scope.spawn(|| drop(first)).join()).map_err(|_| "it panics")?;
     assert_eq!(counts(&backend), (0, 2, 1));
     drop(second);
-    assert_eq!(
-        (counts(&backend), backend.enter().is_err()),
-        ((0, 3, 0), true)
-    );
+    assert_eq!(counts(&backend), (0, 3, 0));
+    assert!(backend.enter().is_err());
     assert_eq!((backend.raise(9), counts(&backend)), (3, (3, 0, 0)));
     let permits = [backend.enter()?, backend.enter()?, backend.enter()?];
     drop(permits);
@@ -53,10 +51,8 @@ fn a_debt_is_paid_before_the_row() -> Checked {
     let mut row = [backend.acquire(), backend.acquire()];
     assert!(row.iter_mut().all(|one| polled(one).is_none()));
     assert_eq!((backend.retire(1), backend.shrink(1)), (0, 0));
-    assert_eq!(
-        (counts(&backend), backend.numbers().waiting),
-        ((0, 0, 1), 2)
-    );
+    assert_eq!(counts(&backend), (0, 0, 1));
+    assert_eq!(backend.numbers().waiting, 2);
     drop(first);
     assert_eq!(counts(&backend), (0, 1, 0));
     assert!(row.iter_mut().all(|one| polled(one).is_none()));
@@ -148,9 +144,7 @@ fn an_operator_shrinks_under_load() -> Checked {
         is_over.store(true, Ordering::SeqCst);
         assert!(is_paid);
     });
-    assert_eq!(
-        (counts(&backend), backend.numbers().waiting),
-        ((4, 0, 0), 0)
-    );
+    assert_eq!(counts(&backend), (4, 0, 0));
+    assert_eq!(backend.numbers().waiting, 0);
     Ok(())
 }
