@@ -9,17 +9,12 @@ use Rattle.std.proofs.lemmas.List.Folds.{find_at, position_or_len_push}
 use Rattle.std.proofs.lemmas.List.Quantifiers.{position-Some}
 use Rattle.std.proofs.lemmas.List.Recursion.{found_set_other}
 use Rattle.std.proofs.lemmas.List.Sums.{prefix_len-le-length}
-use Rattle.resil_decor.specs.Plan.{PlanView}
-use Rattle.resil_decor.specs.Run.{RunView, IsValue}
+use Rattle.resil_admission.specs.Words.{PlanView, RunView, IsValue, is_among, is_same_id, Id, Accepted, Row}
 use Rattle.resil_rule.proofs.IdLaws.{both, same_id-equal}
 use Rattle.resil_rule.proofs.TimesLaws.{same_id-sym}
-use Rattle.resil_rule.specs.History.{is_among, is_same_id}
 use Rattle.resil_admission.specs.MachineView.{plan_of, ids_of, with_run, AllDone, AreResultsOf}
 use Rattle.resil_admission.specs.JobsInvariant.{HaveOwnRuns, result_row_with, result_row, job_of_row, jobs_of, jobs_kept, unpicked_in, kept_row, all_kept}
 use Rattle.resil_admission.specs.KeptJob.{KeptView}
-use Rattle.resil_rule.specs.declared.event.Id.{Id}
-use Rattle.resil_admission.specs.declared.jobs.Accepted.{Accepted}
-use Rattle.resil_admission.specs.declared.row.Row.{Row}
 
 -- a plan of jobs is that of more jobs
 pub plan_of-grows : (jobs more : List Accepted) (id : Id) (plan : PlanView) → plan_of jobs id ≡ Some plan → plan_of (jobs ++ more) id ≡ Some plan

@@ -2,19 +2,8 @@
 use Rattle.std.specs.Prelude.{IfNone}
 use Rattle.std.proofs.Common.{inl, inr, ◌⊎◌, Bool, cond, ◌≡◌, ◌<◌, ◌≤◌, ◌+◌, ◌-◌, ◌∷◌, [], ◌++◌, ◌∙◌, ℕ, suc, true, false, List, Option, Some, None, length, drop, take, slice_get, refl, sym, ap, subst, arith, append-nil, length-append}
 use Rattle.std.proofs.lemmas.List.{map-append}
-use Rattle.resil_decor.specs.Plan.{PlanView}
-use Rattle.resil_rule.specs.History.{is_among, is_same_id, times, taken, unfinished, started, accepted, waiting, running, workers, started_id, accepted_id}
-use Rattle.resil_rule.specs.Admission.{IsAllowed}
-use Rattle.resil_rule.specs.Record.{AllView}
-use Rattle.resil_rule.specs.Slots.{ids_out}
+use Rattle.resil_admission.specs.Words.{PlanView, is_among, is_same_id, times, taken, unfinished, started, accepted, waiting, running, workers, started_id, accepted_id, IsAllowed, AllView, ids_out, IsStateOf, Slot, Id, Reply, Core, Queued, Extra, Full, Closed, Event, Submit, Take, Accepted}
 use Rattle.resil_rule.specs.RuleView.{RuleView, ids_of as ids_waiting, busy, owed, is_acceptance, with_submission, with_pick, with_take, with_finish}
-use Rattle.resil_rule.specs.RuleState.{IsStateOf}
-use Rattle.resil_rule.specs.declared.slots.Slot.{Slot}
-use Rattle.resil_rule.specs.declared.event.Id.{Id}
-use Rattle.resil_rule.specs.declared.event.Reply.{Reply}
-use Rattle.resil_rule.specs.declared.event.Reply.TheVariants.{Core, Queued, Extra, Full, Closed}
-use Rattle.resil_rule.specs.declared.event.Event.{Event}
-use Rattle.resil_rule.specs.declared.event.Event.TheVariants.{Submit, Take}
 use Rattle.resil_rule.proofs.EventLaws.{front-is}
 use Rattle.resil_rule.proofs.ConservationLaws.{conserved, in_flight-accepted, times-cons}
 use Rattle.resil_rule.proofs.SlotLaws.{there-out}
@@ -27,7 +16,6 @@ use Rattle.resil_admission.specs.MachineView.{MachineView, newly_accepted, with_
 use Rattle.resil_admission.specs.JobsInvariant.{unpicked_in}
 use Rattle.resil_admission.specs.MachineInvariant.{MachineInvariant, times_unpicked}
 use Rattle.resil_admission.specs.JobsView.{JobsView}
-use Rattle.resil_admission.specs.declared.jobs.Accepted.{Accepted}
 
 -- the machine after an event
 pub machine-after : (h : List Event) (e : Event) (rule : RuleView (Unit {0})) (all : AllView) (jobs : JobsView) → IsStateOf (h ++ e ∷ []) rule → all.events ≡ h ++ e ∷ [] → owed rule ≤ all.room

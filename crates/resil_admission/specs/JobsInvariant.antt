@@ -1,13 +1,9 @@
 -- What is true of the accepted jobs of a pool between any two calls.
 use Rattle.std.specs.Prelude.{◌≡◌, ◌≤◌, ◌+◌, ◌++◌, [], ◌∷◌, Bool, false, List, Option, None, Some, length, map, position, vec_len, vec_capacity, if◌then◌else◌}
-use Rattle.resil_decor.specs.Run.{RunView, IsValue}
-use Rattle.resil_rule.specs.History.{is_same_id}
+use Rattle.resil_admission.specs.Words.{RunView, IsValue, is_same_id, Id, Accepted, Row}
 use Rattle.resil_admission.specs.MachineView.{ids_of}
 use Rattle.resil_admission.specs.SubmissionTable.{place_at}
 use Rattle.resil_admission.specs.KeptJob.{KeptView}
-use Rattle.resil_rule.specs.declared.event.Id.{Id}
-use Rattle.resil_admission.specs.declared.jobs.Accepted.{Accepted}
-use Rattle.resil_admission.specs.declared.row.Row.{Row}
 use Rattle.resil_admission.specs.declared.jobs.Jobs.TheInside.{Inside}
 
 -- the runs that jobs have are values of their plans

@@ -1,10 +1,8 @@
 -- What contracts see of the accepted jobs of a pool.
 use Rattle.std.specs.Prelude.{ℕ, ◌≤◌, List, length}
-use Rattle.resil_rule.specs.declared.event.Id.{Id}
+use Rattle.resil_admission.specs.Words.{Id, Accepted, Place}
 use Rattle.resil_admission.specs.KeptJob.{KeptView}
 use Rattle.resil_admission.specs.SubmissionTable.{row_at}
-use Rattle.resil_admission.specs.declared.jobs.Accepted.{Accepted}
-use Rattle.resil_admission.specs.declared.submission_table.Place.{Place}
 
 -- the jobs in order of acceptance, the same with which of them weren't picked yet, the table of their places, and for how many more of
 -- them, and of their results, there is room

@@ -1,11 +1,7 @@
 -- What contracts see of a job that is kept until its row is made.
 use Rattle.std.specs.Prelude.{◌≡◌, Bool, false, None, Some}
 use Rattle.std.specs.Option.{is_some}
-use Rattle.resil_decor.specs.Plan.{PlanView}
-use Rattle.resil_rule.specs.declared.event.Id.{Id}
-use Rattle.resil_admission.specs.declared.jobs.Accepted.{Accepted}
-use Rattle.resil_admission.specs.declared.kept_job.Progress.{Progress}
-use Rattle.resil_admission.specs.declared.kept_job.Progress.TheVariants.{Unfinished, Finished}
+use Rattle.resil_admission.specs.Words.{PlanView, Id, Accepted, Progress, Unfinished, Finished}
 
 -- the accepted job, and whether it wasn't picked yet
 pub record KeptView : Type 0 where

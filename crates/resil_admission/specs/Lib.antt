@@ -4,3 +4,4 @@ pub mod MachineInvariant
 pub mod SubmissionTable
 pub mod JobsView
 pub mod MachineView
+pub mod Words

@@ -1,11 +1,9 @@
 -- What is true of a machine between any two calls.
 use Rattle.std.specs.Prelude.{ℕ, ◌≡◌, ◌≤◌, ◌+◌, true}
-use Rattle.resil_rule.specs.History.{accepted, times}
+use Rattle.resil_admission.specs.Words.{accepted, times, IsStateOf, Id}
 use Rattle.resil_rule.specs.RuleView.{RuleView, owed, ids_of as ids_waiting}
-use Rattle.resil_rule.specs.RuleState.{IsStateOf}
 use Rattle.resil_admission.specs.JobsInvariant.{unpicked_in}
 use Rattle.resil_admission.specs.MachineView.{ids_of}
-use Rattle.resil_rule.specs.declared.event.Id.{Id}
 use Rattle.resil_admission.specs.declared.machine.Machine.TheInside.{Inside}
 
 -- how often an id stands among those that weren't picked yet

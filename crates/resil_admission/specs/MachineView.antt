@@ -1,20 +1,9 @@
 -- What contracts see of a machine.
 use Rattle.std.specs.Prelude.{ℕ, ◌≡◌, ◌≢◌, ◌⊎◌, ◌+◌, List, ◌++◌, ◌∷◌, [], true, false, Option, Some, None, option_map, map, find, take, slice_get, is_some, IsTrue, if◌then◌else◌}
 use Rattle.std.specs.List.{list_all}
-use Rattle.resil_decor.specs.Plan.{PlanView}
-use Rattle.resil_decor.specs.Run.{RunView, IsValue}
-use Rattle.resil_rule.specs.Limits.{Sizes}
-use Rattle.resil_rule.specs.History.{started, taken, unfinished, next_number, is_same_id, is_among}
-use Rattle.resil_rule.specs.Admission.{IsAllowed}
-use Rattle.resil_rule.specs.declared.error.AdmitError.{AdmitError}
+use Rattle.resil_admission.specs.Words.{PlanView, RunView, IsValue, Sizes, started, taken, unfinished, next_number, is_same_id, is_among, IsAllowed, AdmitError, Id, Reply, Core, Queued, Extra, Full, Closed, Event, Accepted, Row}
 use Rattle.resil_rule.specs.declared.error.AdmitError.TheVariants as refused
-use Rattle.resil_rule.specs.declared.event.Id.{Id}
-use Rattle.resil_rule.specs.declared.event.Reply.{Reply}
-use Rattle.resil_rule.specs.declared.event.Reply.TheVariants.{Core, Queued, Extra, Full, Closed}
-use Rattle.resil_rule.specs.declared.event.Event.{Event}
 use Rattle.resil_rule.specs.declared.event.Event.TheVariants as event
-use Rattle.resil_admission.specs.declared.jobs.Accepted.{Accepted}
-use Rattle.resil_admission.specs.declared.row.Row.{Row}
 
 -- the limits, the history, how many of the jobs with a worker of their own were picked (the oldest ones), and each accepted
 -- job with its plan, and with its run where it has one, in order of acceptance

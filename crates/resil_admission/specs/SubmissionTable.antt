@@ -1,7 +1,6 @@
 -- What the table of submissions says of a job: a row for each caller, and in it the submission of number n at n - 1.
 use Rattle.std.specs.Prelude.{ℕ, zero, suc, ◌∷◌, [], List, Option, None, Some, slice_index_or}
-use Rattle.resil_rule.specs.declared.event.Id.{Id}
-use Rattle.resil_admission.specs.declared.submission_table.Place.{Place}
+use Rattle.resil_admission.specs.Words.{Id, Place}
 
 -- the index that a place has, which stands before its number; none before 0
 abbrev pub index_before : ℕ → Option ℕ

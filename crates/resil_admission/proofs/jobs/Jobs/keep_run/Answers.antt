@@ -2,12 +2,10 @@ use Rattle.std.proofs.Common.{◌≡◌, ◌∙◌, ◌<◌, ◌-◌, Some, List
 use Rattle.std.proofs.Math.Seq.{map-set_same}
 use Rattle.std.proofs.lemmas.List.{map-set, get_or-map}
 use Rattle.std.specs.List.{position}
-use Rattle.resil_rule.specs.History.{is_same_id, is_among}
+use Rattle.resil_admission.specs.Words.{is_same_id, is_among, Accepted, Row}
 use Rattle.resil_admission.specs.MachineView.{plan_of, ids_of, with_run}
 use Rattle.resil_admission.specs.JobsInvariant.{jobs_of, jobs_kept, unpicked_in}
 use Rattle.resil_admission.specs.KeptJob.{KeptView}
-use Rattle.resil_admission.specs.declared.jobs.Accepted.{Accepted}
-use Rattle.resil_admission.specs.declared.row.Row.{Row}
 use Rattle.resil_admission.proofs.JobLaws.{kept-row, kept-later, runs-with_run, ids-with_run, position-named, unpicked-rows, later-within, later-others}
 use Rattle.resil_admission.proofs.jobs.Jobs.keep_run.Goals as goal
 

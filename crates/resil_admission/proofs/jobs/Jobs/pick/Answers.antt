@@ -3,11 +3,10 @@ use Rattle.std.proofs.Math.Seq.{map-set_same}
 use Rattle.std.proofs.lemmas.Bool.{cases_Bool}
 use Rattle.std.proofs.lemmas.Grind.{common_steps}
 use Rattle.std.specs.List.{position}
-use Rattle.resil_rule.specs.History.{is_same_id}
+use Rattle.resil_admission.specs.Words.{is_same_id, Row}
 use Rattle.resil_admission.specs.MachineView.{ids_of}
 use Rattle.resil_admission.specs.KeptJob.{KeptView}
 use Rattle.resil_admission.specs.JobsInvariant.{jobs_of, jobs_kept, all_kept}
-use Rattle.resil_admission.specs.declared.row.Row.{Row}
 use Rattle.resil_admission.proofs.JobLaws.{jobs-kept, nowhere, row-picked, unpicked-nowhere, later-unpicked, later-plan, later-others}
 use Rattle.resil_admission.proofs.jobs.Jobs.pick.Goals as goal
 

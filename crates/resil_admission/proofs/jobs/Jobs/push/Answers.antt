@@ -1,15 +1,13 @@
 use Rattle.std.proofs.Common.{◌≡◌, ◌+◌, ◌∷◌, [], ◌++◌, ◌∙◌, inl, inr, ℕ, List, Option, Some, None, true, false, cond, length, map, sym, ap, refl, arith, length-append}
 use Rattle.std.specs.List.{position}
 use Rattle.std.proofs.lemmas.List.{append_assoc, map-append, length-map}
-use Rattle.resil_rule.specs.History.{is_same_id, is_among}
+use Rattle.resil_admission.specs.Words.{is_same_id, is_among, Accepted, Row}
 use Rattle.resil_rule.proofs.IdLaws.{same_id-equal}
 use Rattle.resil_admission.specs.MachineView.{ids_of}
 use Rattle.resil_admission.specs.SubmissionTable.{place_at}
 use Rattle.resil_admission.specs.KeptJob.{KeptView}
 use Rattle.resil_admission.specs.JobsInvariant.{jobs_of, jobs_kept, job_of_row, kept_row, all_kept, unpicked_in}
 use Rattle.resil_admission.proofs.JobLaws.{jobs-kept, kept-push, runs-push, position-last, unpicked-push, unpicked-new}
-use Rattle.resil_admission.specs.declared.jobs.Accepted.{Accepted}
-use Rattle.resil_admission.specs.declared.row.Row.{Row}
 use Rattle.resil_admission.proofs.jobs.Jobs.push.Goals as goal
 
 -- the jobs that have no row yet, and the new one behind them

@@ -1,6 +1,5 @@
 use Rattle.std.proofs.Common.{◌∙◌, sym, refl, arith}
-use Rattle.resil_rule.specs.RuleView.{owed, with_close}
-use Rattle.resil_rule.specs.declared.event.Event.TheVariants.{Close}
+use Rattle.resil_admission.specs.Words.{owed, with_close, Close}
 use Rattle.resil_rule.proofs.UnpickedLaws.{accepted-same}
 use Rattle.resil_rule.proofs.OwedLaws.{close-owes}
 use Rattle.resil_admission.proofs.MachineLaws.{machine-after}

@@ -1,10 +1,6 @@
 -- A job that is out is ended, and its run is kept.
 use Rattle.std.proofs.Common.{◌≡◌, ◌≤◌, ◌∙◌, true, false, sym, ap, subst, refl, arith}
-use Rattle.resil_rule.specs.History.{is_same_id}
-use Rattle.resil_rule.specs.RuleView.{owed, with_finish}
-use Rattle.resil_rule.specs.RuleState.{Follows}
-use Rattle.resil_rule.specs.declared.event.Id.{Id}
-use Rattle.resil_rule.specs.declared.event.Event.TheVariants.{Finish}
+use Rattle.resil_admission.specs.Words.{is_same_id, owed, with_finish, Follows, Id, Finish}
 use Rattle.resil_rule.proofs.OwedLaws.{finish-owes}
 use Rattle.resil_rule.proofs.RefusalLaws.{out-are}
 use Rattle.resil_rule.proofs.UnpickedLaws.{accepted-same}

@@ -1,6 +1,5 @@
 use Rattle.std.proofs.Common.{◌∙◌, sym, refl, arith}
-use Rattle.resil_rule.specs.RuleView.{owed, with_idle_end}
-use Rattle.resil_rule.specs.declared.event.Event.TheVariants.{IdleEnd}
+use Rattle.resil_admission.specs.Words.{owed, with_idle_end, IdleEnd}
 use Rattle.resil_rule.proofs.UnpickedLaws.{accepted-same}
 use Rattle.resil_rule.proofs.OwedLaws.{idle-owes}
 use Rattle.resil_admission.proofs.MachineLaws.{machine-after}

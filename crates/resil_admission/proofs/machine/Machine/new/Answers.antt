@@ -1,9 +1,6 @@
 use Rattle.std.proofs.Common.{◌≡◌, [], List, length, sym, ap, subst, refl, arith}
-use Rattle.resil_rule.specs.Slots.{ids_out}
-use Rattle.resil_rule.specs.RuleView.{owed, opened}
-use Rattle.resil_rule.specs.RuleState.{IsStateOf}
+use Rattle.resil_admission.specs.Words.{ids_out, owed, opened, IsStateOf, Event}
 use Rattle.resil_rule.proofs.SlotLaws.{none-out}
-use Rattle.resil_rule.specs.declared.event.Event.{Event}
 use Rattle.resil_admission.proofs.machine.Machine.new.Goals as goal
 
 pub invariant_of-result : goal.invariant_of-result

@@ -1,7 +1,5 @@
 use Rattle.std.proofs.Common.{ap, ◌≡◌, ◌≤◌, inl, inr, ◌∙◌, true, sym, refl, arith, rules}
-use Rattle.resil_rule.specs.RuleView.{owed, with_pick, with_take}
-use Rattle.resil_rule.specs.declared.event.Id.{Id}
-use Rattle.resil_rule.specs.declared.event.Event.TheVariants.{Take}
+use Rattle.resil_admission.specs.Words.{owed, with_pick, with_take, Id, Take}
 use Rattle.resil_rule.proofs.UnpickedLaws.{accepted-same}
 use Rattle.resil_rule.proofs.OwedLaws.{pick-owes, take-owes}
 use Rattle.resil_admission.specs.JobsInvariant.{unpicked_in}

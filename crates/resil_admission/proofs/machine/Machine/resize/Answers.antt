@@ -1,6 +1,5 @@
 use Rattle.std.proofs.Common.{◌∙◌, sym, refl, arith, rules}
-use Rattle.resil_rule.specs.RuleView.{owed, with_sizes}
-use Rattle.resil_rule.specs.declared.event.Event.TheVariants.{Resized}
+use Rattle.resil_admission.specs.Words.{owed, with_sizes, Resized}
 use Rattle.resil_rule.proofs.UnpickedLaws.{accepted-same}
 use Rattle.resil_admission.proofs.MachineLaws.{machine-after, quiet-view}
 use Rattle.resil_admission.proofs.machine.Machine.resize.Goals as goal

@@ -1,11 +1,5 @@
 use Rattle.std.proofs.Common.{inl, inr, ◌≡◌, ◌≤◌, ◌+◌, ◌++◌, ◌∷◌, [], ◌∙◌, suc, List, None, true, false, sym, ap, refl, arith}
-use Rattle.resil_rule.specs.History.{is_among}
-use Rattle.resil_rule.specs.RuleView.{RuleView, made_by, next_reply, is_acceptance, counted, with_submission, owed}
-use Rattle.resil_rule.specs.RuleState.{IsStateOf, Follows}
-use Rattle.resil_rule.specs.declared.event.Id.{Id}
-use Rattle.resil_rule.specs.declared.event.Event.{Event}
-use Rattle.resil_rule.specs.declared.event.Event.TheVariants.{Submit}
-use Rattle.resil_rule.specs.declared.event.Reply.{Reply}
+use Rattle.resil_admission.specs.Words.{is_among, RuleView, made_by, next_reply, is_acceptance, counted, with_submission, owed, IsStateOf, Follows, Id, Event, Submit, Reply, Accepted}
 use Rattle.resil_rule.proofs.FreshLaws.{next-fresh}
 use Rattle.resil_rule.proofs.OwedLaws.{submission-owes}
 use Rattle.resil_rule.proofs.RuleLaws.{next-is}
@@ -13,7 +7,6 @@ use Rattle.resil_rule.proofs.RefusalLaws.{submission-follows, submission-accepte
 use Rattle.resil_admission.specs.MachineView.{MachineView, ids_of, with_submission as machine_submission}
 use Rattle.resil_admission.specs.JobsInvariant.{unpicked_in}
 use Rattle.resil_admission.specs.MachineInvariant.{times_unpicked}
-use Rattle.resil_admission.specs.declared.jobs.Accepted.{Accepted}
 use Rattle.resil_admission.proofs.MachineLaws.{machine-after, seen, unpicked-submitted, accepted-after, refused-after, refused-view, accepted-view}
 use Rattle.resil_admission.proofs.machine.Machine.submit.Goals.{After-next_reply-reply}
 use Rattle.resil_admission.proofs.machine.Machine.submit.Goals as goal

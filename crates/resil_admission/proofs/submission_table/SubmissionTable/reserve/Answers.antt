@@ -3,9 +3,8 @@ use Rattle.std.proofs.lemmas.Grind.{common_steps}
 use Rattle.std.specs.declared.alloc.AllocError.{AllocError}
 use Rattle.std.specs.Prelude.{vec_len}
 use Rattle.std.proofs.lemmas.List.{get_or-map, get_or-set_same, map-set, length-map}
-use Rattle.resil_rule.specs.declared.event.Id.{Id}
+use Rattle.resil_admission.specs.Words.{Id, Place}
 use Rattle.resil_admission.specs.SubmissionTable.{index_before, no_place, row_at, place_at}
-use Rattle.resil_admission.specs.declared.submission_table.Place.{Place}
 use Rattle.resil_admission.proofs.submission_table.SubmissionTable.reserve.Goals as goal
 
 -- a row that is filled up says what it said

@@ -1,9 +1,7 @@
 use Rattle.std.proofs.Common.{◌≡◌, ◌-◌, ◌<◌, ◌≤◌, ◌+◌, ◌∙◌, ℕ, Some, List, [], cond, map, set, length, sym, ap, arith}
 use Rattle.std.proofs.lemmas.Grind.{common_steps}
 use Rattle.std.proofs.lemmas.List.{get_or-map, map-set}
-use Rattle.resil_rule.specs.declared.event.Id.{Id}
-use Rattle.resil_admission.specs.declared.submission_table.Place.{Place}
-use Rattle.resil_rule.specs.History.{is_same_id}
+use Rattle.resil_admission.specs.Words.{Id, Place, is_same_id}
 use Rattle.resil_admission.specs.SubmissionTable.{row_at, place_at}
 use Rattle.resil_admission.proofs.submission_table.SubmissionTable.set.Goals as goal
 
