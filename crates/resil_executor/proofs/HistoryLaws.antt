@@ -3,13 +3,8 @@ use Rattle.std.proofs.Common.{◌≡◌, ◌≤◌, ◌+◌, ◌∷◌, [], ◌+
 use Rattle.std.specs.List.{list_any}
 use Rattle.std.proofs.lemmas.Grind.{common_steps}
 use Rattle.std.proofs.lemmas.List.Folds.{list_any-append}
-use Rattle.resil_rule.specs.Limits.{Sizes}
-use Rattle.resil_rule.specs.Admission.{IsLegal, reply_after}
-use Rattle.resil_rule.specs.History.{is_among, times, is_close, is_closed, accepted, finished, running, waiting, started_id, queued_id, taken_id, finished_id, accepted_id}
-use Rattle.resil_rule.specs.declared.event.Id.{Id}
-use Rattle.resil_rule.specs.declared.event.Reply.{Reply}
+use Rattle.resil_executor.specs.Words.{Sizes, IsLegal, reply_after, is_among, times, is_close, is_closed, accepted, finished, running, waiting, started_id, queued_id, taken_id, finished_id, accepted_id, Id, Reply, Event}
 use Rattle.resil_rule.specs.declared.event.Reply.TheVariants as reply
-use Rattle.resil_rule.specs.declared.event.Event.{Event}
 use Rattle.resil_rule.specs.declared.event.Event.TheVariants as event
 use Rattle.resil_rule.proofs.TimesLaws.{somewhere, among-some}
 use Rattle.resil_rule.proofs.ConservationLaws.{conserved}

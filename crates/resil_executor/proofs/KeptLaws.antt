@@ -1,23 +1,14 @@
 -- What a turn does beside the rule keeps up with the log.
 use Rattle.std.proofs.Common.{◌≡◌, ◌+◌, ◌==◌, inl, inr, ℕ, suc, true, cond, List, [], ◌∷◌, ◌++◌, ◌∙◌, Option, Some, None, length, slice_get, sym, refl, ap, subst, arith, append-nil, length-append}
-use Rattle.resil_rule.specs.History.{accepted, accepted_id, finished, finished_id, submissions, is_submit_of}
-use Rattle.resil_rule.specs.RuleView.{RuleView, owed, is_acceptance, with_submission, with_pick, with_take, with_finish}
-use Rattle.resil_rule.specs.RuleState.{IsPicked}
-use Rattle.resil_rule.specs.declared.event.Id.{Id}
-use Rattle.resil_rule.specs.declared.event.Reply.{Reply}
+use Rattle.resil_executor.specs.Words.{accepted, accepted_id, finished, finished_id, submissions, is_submit_of, RuleView, owed, is_acceptance, with_submission, with_pick, with_take, with_finish, IsPicked, Id, Reply, Event, Picked, Slot}
 use Rattle.resil_rule.specs.declared.event.Reply.TheVariants as reply
-use Rattle.resil_rule.specs.declared.event.Event.{Event}
 use Rattle.resil_rule.specs.declared.event.Event.TheVariants as event
-use Rattle.resil_rule.specs.declared.rule.Picked.{Picked}
 use Rattle.resil_rule.specs.declared.rule.Origin.TheVariants as origin
-use Rattle.resil_rule.specs.declared.slots.Slot.{Slot}
 use Rattle.resil_rule.proofs.EventLaws.{submissions-more}
 use Rattle.resil_rule.proofs.OwedLaws.{dropped, pick-owes, take-owes}
 use Rattle.resil_rule.proofs.SlotLaws.{put-length, clear-length}
-use Rattle.resil_executor.specs.declared.log.Entry.{Entry}
-use Rattle.resil_executor.specs.declared.log.Note.{Note}
-use Rattle.resil_executor.specs.declared.log.Note.TheVariants as note
-use Rattle.resil_executor.specs.Log.{entries_of, events_in}
+use Rattle.resil_lock.specs.declared.log.Note.TheVariants as note
+use Rattle.resil_executor.specs.Log.{Entry, Note, entries_of, events_in}
 use Rattle.resil_executor.proofs.LogLaws.{length-more, events-more}
 use Rattle.resil_executor.specs.Kept.{refused, refused_id, events_of, IsOwn, unfinished, KeepsUp, Keeps}
 

@@ -1,19 +1,12 @@
 -- Logs that grow by an entry.
-use Rattle.std.proofs.Common.{◌≡◌, ◌⊎◌, inl, inr, ◌+◌, ℕ, zero, suc, List, [], ◌∷◌, ◌++◌, ◌∙◌, Option, Some, None, drop, length, slice_get, sym, refl, ap, subst, arith, append-nil, append_assoc, length-append}
+use Rattle.std.proofs.Common.{◌≡◌, ◌⊎◌, inl, inr, ◌+◌, zero, suc, List, [], ◌∷◌, ◌++◌, ◌∙◌, Option, Some, None, drop, length, slice_get, sym, refl, ap, subst, arith, append-nil, append_assoc, length-append}
 use Rattle.std.specs.Prelude.{Contains, filter_map}
 use Rattle.std.proofs.lemmas.List.Elements.{filter_map-append, Contains-append_left}
-use mathlib.Core.List.{IsPrefix}
-use Rattle.resil_rule.specs.RuleView.{RuleView}
-use Rattle.resil_rule.specs.declared.event.Id.{Id}
-use Rattle.resil_rule.specs.declared.event.Event.{Event}
-use Rattle.resil_rule.specs.History.{times}
-use Rattle.resil_rule.proofs.TimesLaws.{times-append}
-use Rattle.resil_lock.specs.Lock.{weigh}
-use Rattle.resil_executor.specs.declared.log.Entry.{Entry}
-use Rattle.resil_executor.specs.declared.log.Note.{Note}
-use Rattle.resil_executor.specs.declared.log.Note.TheVariants as note
+use Rattle.resil_executor.specs.Words.{IsPrefix, RuleView, Id, Event}
+use Rattle.resil_lock.proofs.LogLaws.{events_in-append}
+use Rattle.resil_lock.specs.declared.log.Note.TheVariants as note
 use Rattle.resil_executor.specs.Kept.{events_of}
-use Rattle.resil_executor.specs.Log.{last_work, event_of, entries_of, events_in}
+use Rattle.resil_executor.specs.Log.{Entry, Note, last_work, entries_of, events_in}
 
 module _ {A B : Type 0} (f : A → Option B) where
   pub one-some : (x : A) (y : B) → f x ≡ Some y → filter_map f (x ∷ []) ≡ y ∷ []
@@ -77,24 +70,9 @@ module _ {W : Type 0} where
 
   -- the history grows by what was noted
   pub events-more : (log : List (Entry W)) (after : RuleView W) (last : Option Note) → events_in (log ++ entries_of after last) ≡ events_in log ++ events_of last
-  events-more log after last = filter_map-append (λ (e : Entry W). event_of e.note) log (entries_of after last) ∙ ap (λ (h : List Event). events_in log ++ h) (same last)
+  events-more log after last = events_in-append log (entries_of after last) ∙ ap (λ (h : List Event). events_in log ++ h) (same last)
     where
       same : (l : Option Note) → events_in (entries_of after l) ≡ events_of l
       same None = refl
       same (Some (note.Started id)) = refl
       same (Some (note.Event e)) = refl
-
-  pub times-more : (f : Entry W → Option Id) (id : Id) (log more : List (Entry W)) → times id (filter_map f (log ++ more)) ≡ times id (filter_map f log) + times id (filter_map f more)
-  times-more f id log more = ap (times id) (filter_map-append f log more) ∙ times-append id (filter_map f log) (filter_map f more)
-
-  -- an entry, by how many ids of a job it has
-  abbrev pub count : (Entry W → Option Id) → Id → Entry W → ℕ
-  count f id entry = times id (filter_map f (entry ∷ []))
-
-  pub weigh-count : (f : Entry W → Option Id) (id : Id) (log : List (Entry W)) → weigh (count f id) log ≡ times id (filter_map f log)
-  weigh-count f id [] = refl
-  weigh-count f id (entry ∷ log) = let rest = weigh-count f id log in let both = times-more f id (entry ∷ []) log in omega (arith, rest, both)
-
-  pub weigh-none : (log : List (Entry W)) → weigh (λ (entry : Entry W). 0) log ≡ 0
-  weigh-none [] = refl
-  weigh-none (entry ∷ log) = let rest = weigh-none log in omega (arith, rest)

@@ -2,25 +2,14 @@
 use Rattle.std.proofs.Common.{◌≡◌, ◌≤◌, ◌⊎◌, ◌+◌, inl, inr, ℕ, zero, suc, Bool, true, false, List, [], ◌∷◌, Option, refl, sym, ap, subst, ⊎_elim, arith}
 use Rattle.std.specs.Prelude.{filter_map}
 use mathlib.Core.Option as m
-use Rattle.resil_rule.specs.Limits.{Sizes}
-use Rattle.resil_rule.specs.Admission.{IsLegal}
-use Rattle.resil_rule.specs.RuleView.{RuleView}
-use Rattle.resil_rule.specs.History.{times, is_among, running, finished}
-use Rattle.resil_rule.specs.declared.event.Id.{Id}
-use Rattle.resil_rule.specs.declared.event.Event.TheVariants as event
+use Rattle.resil_executor.specs.Words.{Sizes, IsLegal, RuleView, times, is_among, running, finished, Id, View, weigh, total, is_there, IsSeatAt, HoldsBetweenSteps}
 use Rattle.resil_rule.proofs.TimesLaws.{somewhere, among-some}
 use Rattle.resil_rule.proofs.RunningLaws.{running-within_workers}
 use Rattle.resil_rule.proofs.WorkerLaws.{workers-within_opening}
 use Rattle.resil_lock.specs.declared.protocol.Rank.TheVariants as rank
-use Rattle.resil_lock.specs.declared.protocol.View.{View}
-use Rattle.resil_lock.specs.Lock.{weigh, total, is_there}
-use Rattle.resil_lock.specs.BetweenSteps.{IsSeatAt, HoldsBetweenSteps}
-use Rattle.resil_executor.specs.declared.log.Entry.{Entry}
-use Rattle.resil_executor.specs.declared.log.Note.{Note}
-use Rattle.resil_executor.specs.declared.log.Note.TheVariants as note
-use Rattle.resil_executor.specs.Log.{StandsFor, MayHaveWritten, picked_id, ended_id, events_in, picked_in, ended_in}
+use Rattle.resil_executor.specs.Log.{Entry, StandsFor, MayHaveWritten, picked_id, ended_id, events_in, picked_in, ended_in}
 use Rattle.resil_executor.specs.Laws.{HoldsOfTheLog, IsRunBySeat}
-use Rattle.resil_executor.proofs.LogLaws.{count, weigh-count}
+use Rattle.resil_lock.proofs.LogLaws.{count, weigh-count, ended-is}
 use Rattle.resil_executor.proofs.HistoryLaws.{once-done}
 
 -- a number of seats, added up
@@ -56,15 +45,6 @@ either-some zero b some = inr (omega (arith, some))
 either-some (suc a) b some = inl (omega arith)
 
 module _ {W : Type 0} where
-  -- the ends in the log are the finishes of its history
-  pub ended-is : (log : List (Entry W)) → ended_in log ≡ finished (events_in log)
-  ended-is [] = refl
-  ended-is (entry ∷ log) = here entry.note entry.work (ended-is log)
-    where
-      here : (noted : Note) (work : Option W) → ended_in log ≡ finished (events_in log) → ended_in (record { note = noted; work = work } ∷ log) ≡ finished (events_in (record { note = noted; work = work } ∷ log))
-      here (note.Event (event.Finish x)) work rest = ap (λ (ids : List Id). x ∷ ids) rest
-      here noted work rest = rest
-
   -- how often the log has a job is how often the seats wrote it
   times-total : {K : Type 0} (f : Entry W → Option Id) (id : Id) (log : List (Entry W)) (views gone : List (View K (Entry W)))
       → total (λ v. weigh (count f id) v.own) views + total (λ v. weigh (count f id) v.own) gone ≡ weigh (count f id) log
@@ -75,6 +55,15 @@ module _ {W : Type 0} where
       let away = ap (λ (g : View K (Entry W) → ℕ). total g gone) same in
       let all = weigh-count f id log in
       omega (arith, there, away, all, wrote)
+
+  -- no job is picked twice
+  pub picked-once : (limits : Sizes) (log : List (Entry W)) (v : RuleView W) → StandsFor limits log v → (id : Id) → times id (picked_in log) ≤ 1
+  picked-once limits log v s id =
+      let outs = s.outs id in
+      let runs = s.state.runs id in
+      let same = ap (times id) (ended-is log) in
+      let one = once-done _ (events_in log) s.state.legal id in
+      omega (arith, outs, runs, same, one)
 
   -- who ended a job is a worker, and picked it
   worker-ended : {K : Type 0} (v : View K (Entry W)) (id : Id) → MayHaveWritten v.rank v.own → 1 ≤ times id (ended_in v.own) → (v.rank ≡ rank.Worker) × (is_among id (picked_in v.own) ≡ true) × (is_among id (ended_in v.own) ≡ true)
@@ -100,12 +89,7 @@ module _ {W : Type 0} where
     ends id = times-total (λ (e : Entry W). ended_id e.note) id k.log views k.gone (k.wrote (count (λ (e : Entry W). ended_id e.note) id))
 
     once : (id : Id) → times id (picked_in k.log) ≤ 1
-    once id =
-        let outs = stood.outs id in
-        let runs = stood.state.runs id in
-        let same = ap (times id) (ended-is k.log) in
-        let one = once-done _ (events_in k.log) stood.state.legal id in
-        omega (arith, outs, runs, same, one)
+    once = picked-once (limits_of key) k.log (rule_of k.stood.0) stood
 
     fits-ended : (index : ℕ) (v : View K (Entry W)) (id : Id) → IsSeatAt views index v → 1 ≤ times id (ended_in v.own) → MayHaveWritten v.rank v.own
     fits-ended index v id at ended = go (is_there v.phase) refl

@@ -4,43 +4,24 @@ use Rattle.std.proofs.lemmas.Bool.{OnTrue_at, OnTrue_from, OnFalse_at, OnFalse_f
 use Rattle.std.proofs.lemmas.List.{nil_from_length}
 use Rattle.std.specs.Prelude.{IfErr, IfOk, OnOk, OnErr, Result, Ok, Err, Contains}
 use Rattle.std.specs.Bool.{OnTrue, OnFalse}
-use mathlib.Core.List.{IsPrefix}
-use Rattle.resil_rule.specs.Limits.{Sizes}
-use Rattle.resil_rule.specs.Admission.{IsLegal}
-use Rattle.resil_rule.specs.History.{times, is_among, is_same_id, running, submissions, is_closed}
-use Rattle.resil_rule.specs.Slots.{ids_out}
-use Rattle.resil_rule.specs.RuleView.{RuleView, ids_of, busy, made_by}
-use Rattle.resil_rule.specs.declared.event.Id.{Id}
-use Rattle.resil_rule.specs.declared.event.Event.{Event}
+use Rattle.resil_executor.specs.Words.{IsPrefix, Sizes, IsLegal, times, is_among, is_same_id, running, submissions, is_closed, ids_out, RuleView, ids_of, busy, made_by, Id, Event, Reply, Rank, View, Look, Found, Nothing, Over, OnFound, OnNothing, OnOver, IsCovered, left_view, Opening, State, PickedJob, Numbers}
 use Rattle.resil_rule.specs.declared.event.Event.TheVariants as event
-use Rattle.resil_rule.specs.declared.event.Reply.{Reply}
 use Rattle.resil_rule.specs.declared.event.Reply.TheVariants as reply
 use Rattle.resil_rule.proofs.IdLaws.{same_id-self, same_id-equal}
 use Rattle.resil_rule.proofs.TimesLaws.{among-some, times-last}
 use Rattle.resil_rule.proofs.RuleLaws.{length-ids}
-use Rattle.resil_lock.specs.declared.protocol.Rank.{Rank}
 use Rattle.resil_lock.specs.declared.protocol.Rank.TheVariants as rank
-use Rattle.resil_lock.specs.declared.protocol.View.{View}
-use Rattle.resil_lock.specs.declared.work.Look.{Look}
-use Rattle.resil_lock.specs.declared.work.Look.TheVariants.{Found, Nothing, Over}
-use Rattle.resil_lock.specs.Work.{OnFound, OnNothing, OnOver}
-use Rattle.resil_lock.specs.Lock.{IsCovered, weigh, left_view}
-use Rattle.resil_executor.specs.declared.log.Entry.{Entry}
-use Rattle.resil_executor.specs.declared.log.Note.{Note}
-use Rattle.resil_executor.specs.declared.log.Note.TheVariants as note
-use Rattle.resil_executor.specs.declared.opening.Opening.{Opening}
-use Rattle.resil_executor.specs.declared.state.State.{State}
+use Rattle.resil_lock.proofs.LogLaws.{covered-ends, covered-picks}
+use Rattle.resil_lock.specs.declared.log.Note.TheVariants as note
 use Rattle.resil_executor.specs.declared.state.Refused.{Refused}
 use Rattle.resil_executor.specs.declared.state.Refused.TheVariants as refused
-use Rattle.resil_executor.specs.declared.job.PickedJob.{PickedJob}
-use Rattle.resil_executor.specs.declared.state.Numbers.{Numbers}
 use Rattle.resil_executor.specs.Kept.{KeepsUp, Keeps, unfinished}
-use Rattle.resil_executor.specs.Log.{StandsFor, MayHaveWritten, picked_id, ended_id, job_of, beyond_submission, entry_of, entries_of, events_in, accepted_in, picked_in, ended_in, beyond_submissions_in, IsOver}
+use Rattle.resil_executor.specs.Log.{Entry, Note, StandsFor, MayHaveWritten, picked_id, ended_id, job_of, beyond_submission, entry_of, entries_of, events_in, accepted_in, picked_in, ended_in, beyond_submissions_in, IsOver}
 use Rattle.resil_executor.specs.Turn.{Steps, IsPlain, IsVisit, Writes, WritesNone, Accepts, Refuses, Picks, IsOverNow, SeesLast, SeesMore, HasSeen, SeesAccepted, SeesRefusal, IsDue, HasPicked, HasRested, SeesOver, AreNumbersAfter}
 use Rattle.resil_executor.proofs.KeptLaws.{keeps-up}
-use Rattle.resil_executor.proofs.LogLaws.{more-some, more-none, more-empty, still-there, prefix-more, count, weigh-count, weigh-none}
-use Rattle.resil_executor.proofs.OneLogLaws.{ended-is}
-use Rattle.resil_executor.proofs.HistoryLaws.{once-done, full-is-real, closed-is-real, nothing_left_is_over}
+use Rattle.resil_executor.proofs.LogLaws.{more-some, more-none, more-empty, still-there, prefix-more}
+use Rattle.resil_executor.proofs.OneLogLaws.{picked-once}
+use Rattle.resil_executor.proofs.HistoryLaws.{full-is-real, closed-is-real, nothing_left_is_over}
 
 -- A turn of a seat: the rule that it found under the lock stands for the log that it saw there, which begins with what it had seen, and what the turn noted is what it wrote.
 pub record HasTurned {W K : Type 0} (limits : Sizes) (old locked new : View K (Entry W)) (v after : RuleView W) (last : Option Note) : Type 0 where
@@ -107,7 +88,7 @@ module _ {W K : Type 0} {limits : Sizes} {old locked new : View K (Entry W)} {v 
   pub last-sees : (event : Event) → Writes v event after last → SeesLast limits old event new
   last-sees event w = record {
     log = locked.seen;
-    work = (entry_of after (note.Event event)).work;
+    work = (entry_of after (note.Event event)).payload;
     begins = t.begins;
     ends = t.saw ∙ ap (λ (l : Option Note). locked.seen ++ entries_of after l) w.wrote;
     wrote = wrote-new ∙ ap (λ (l : Option Note). old.own ++ entries_of after l) w.wrote;
@@ -158,14 +139,14 @@ module _ {W K : Type 0} {limits : Sizes} {old locked new : View K (Entry W)} {v 
 
 -- what a seat that began so has seen
 module _ {W K : Type 0} (limits : Sizes) (start before after : View K (Entry W)) (Holds : List Event → Type 0) (same : start ≡ before) (sees : SeesMore limits start after) where
-  pub has-seen : Holds (events_in after.seen) → HasSeen limits before Holds
-  has-seen holds = record { after = after; sees = rw same at sees; holds = holds }
+  pub has_seen : Holds (events_in after.seen) → HasSeen limits before Holds
+  has_seen holds = record { after = after; sees = rw same at sees; holds = holds }
 
-  pub true-seen : (b : Bool) → OnTrue b (Holds (events_in after.seen)) → OnTrue b (HasSeen limits before Holds)
-  true-seen b told = OnTrue_from _ _ (λ is. has-seen (OnTrue_at is told))
+  pub true_seen : (b : Bool) → OnTrue b (Holds (events_in after.seen)) → OnTrue b (HasSeen limits before Holds)
+  true_seen b told = OnTrue_from _ _ (λ is. has_seen (OnTrue_at is told))
 
-  pub false-seen : (b : Bool) → OnFalse b (Holds (events_in after.seen)) → OnFalse b (HasSeen limits before Holds)
-  false-seen b told = OnFalse_from _ _ (λ is. has-seen (OnFalse_at is told))
+  pub false_seen : (b : Bool) → OnFalse b (Holds (events_in after.seen)) → OnFalse b (HasSeen limits before Holds)
+  false_seen b told = OnFalse_from _ _ (λ is. has_seen (OnFalse_at is told))
 
 -- no more works were accepted than there were submissions
 pub few-accepted : {W H : Type 0} (IsRecordOf : List Event → H → Type 0) (HasRoom : ℕ → H → Type 0) (limits : Sizes) (log : List (Entry W)) (v : RuleView W) (count : ℕ) (r : H) → StandsFor limits log v → KeepsUp IsRecordOf HasRoom log v count r
@@ -243,31 +224,10 @@ module _ {W : Type 0} where
   -- a job that a seat picked and didn't end is out, whatever the others did
   pub due-out : (limits : Sizes) (log own : List (Entry W)) (v : RuleView W) (id : Id) → StandsFor limits log v → IsCovered MayHaveWritten log own → IsDue id own → is_among id (ids_out v.out) ≡ true
   due-out limits log own v id s covered due =
-      let all = covered (count (λ (e : Entry W). ended_id e.note) id) (count (λ (e : Entry W). picked_id e.note) id) fewer in
-      let a = weigh-count (λ (e : Entry W). ended_id e.note) id log in
-      let b = weigh-count (λ (e : Entry W). picked_id e.note) id own in
-      let c = weigh-count (λ (e : Entry W). picked_id e.note) id log in
-      let d = weigh-count (λ (e : Entry W). ended_id e.note) id own in
+      let others = covered-ends MayHaveWritten log own covered (λ who entries fits. fits.balanced) id in
       let outs = s.outs id in
-      let some : 1 ≤ times id (ids_out v.out) = omega (arith, all, a, b, c, d, outs, due) in
+      let some : 1 ≤ times id (ids_out v.out) = omega (arith, others, outs, due) in
       among-some id (ids_out v.out) some
-    where
-      fewer : (who : Rank) (xs : List (Entry W)) → MayHaveWritten who xs → weigh (count (λ (e : Entry W). ended_id e.note) id) xs ≤ weigh (count (λ (e : Entry W). picked_id e.note) id) xs
-      fewer who xs fits = let b = fits.balanced id in let l = weigh-count (λ (e : Entry W). ended_id e.note) id xs in let r = weigh-count (λ (e : Entry W). picked_id e.note) id xs in omega (arith, b, l, r)
-
-  -- a seat picks no job twice
-  pub picked-once : (limits : Sizes) (log own : List (Entry W)) (v : RuleView W) → StandsFor limits log v → IsCovered MayHaveWritten log own → (id : Id) → times id (picked_in own) ≤ 1
-  picked-once limits log own v s covered id =
-      let all = covered (λ (e : Entry W). 0) (count (λ (e : Entry W). picked_id e.note) id) (λ who xs fits. let z = weigh-none xs in omega (arith, z)) in
-      let a = weigh-none log in
-      let b = weigh-count (λ (e : Entry W). picked_id e.note) id own in
-      let c = weigh-count (λ (e : Entry W). picked_id e.note) id log in
-      let d = weigh-none own in
-      let outs = s.outs id in
-      let runs = s.state.runs id in
-      let few = ap (times id) (ended-is log) in
-      let once = once-done v.limits (events_in log) s.state.legal id in
-      omega (arith, all, a, b, c, d, outs, runs, few, once)
 
   -- a rule that is closed and has nothing to do
   over-is : (limits : Sizes) (log : List (Entry W)) (v : RuleView W) → StandsFor limits log v → IsOverNow v → IsOver (events_in log)
@@ -287,7 +247,7 @@ module _ {W K : Type 0} {limits : Sizes} {old locked new : View K (Entry W)} {v 
     wrote = wrote-new t ∙ ap (λ (l : Option Note). old.own ++ entries_of after l) p.wrote;
     picked = p.picked;
     ended = p.ended;
-    known = subst (λ (xs : List (Entry W)). Contains (accepted_in xs) (picked.slot.id, picked.work)) (sym t.saw) (still-there (λ (e : Entry W). job_of e.note e.work) locked.seen (entries_of after last) (picked.slot.id, picked.work) (p.known limits locked.seen t.found));
+    known = subst (λ (xs : List (Entry W)). Contains (accepted_in xs) (picked.slot.id, picked.work)) (sym t.saw) (still-there (λ (e : Entry W). job_of e.note e.payload) locked.seen (entries_of after last) (picked.slot.id, picked.work) (p.known limits locked.seen t.found));
     due = subst (λ (xs : List (Entry W)). IsDue picked.slot.id xs) (sym t.wrote) (due-pick locked.rank locked.own v after last picked.slot.id picked.work may p);
   }
 
@@ -314,8 +274,9 @@ module _ {W K : Type 0} {limits : Sizes} {old locked new : View K (Entry W)} {v 
     over = subst (λ (xs : List (Entry W)). IsOver (events_in xs)) (sym t.saw) (over-is limits (locked.seen ++ entries_of after last) after (stands t p.0) now);
     once = λ id.
         let same = ap (times id) (ap picked_in t.wrote ∙ more-empty (λ (e : Entry W). picked_id e.note) locked.own (entries_of after last) p.1.0) in
-        let few = picked-once limits locked.seen locked.own v t.found covered id in
-        omega (arith, few, same);
+        let few = covered-picks MayHaveWritten locked.seen locked.own covered id in
+        let once = picked-once limits locked.seen v t.found id in
+        omega (arith, few, once, same);
   }
 
 -- each way that a turn may go keeps what the rule stands for

@@ -2,29 +2,18 @@
 use Rattle.std.proofs.Common.{◌≡◌, ◌⊎◌, inl, inr, ℕ, zero, suc, ◌+◌, true, List, [], ◌∷◌, ◌++◌, ◌∙◌, Option, Some, length, slice_get, slice_set, sym, refl, ap, subst, arith, append-nil}
 use Rattle.std.specs.Prelude.{Contains}
 use Rattle.std.proofs.lemmas.List.Elements.{Contains-push, Contains-push_cases}
-use Rattle.resil_rule.specs.Limits.{Sizes}
-use Rattle.resil_rule.specs.Admission.{IsAllowed}
-use Rattle.resil_rule.specs.History.{times}
-use Rattle.resil_rule.specs.Slots.{ids_out}
-use Rattle.resil_rule.specs.RuleView.{RuleView, is_acceptance, with_submission, with_pick, with_take, with_finish}
-use Rattle.resil_rule.specs.RuleState.{IsStateOf, Follows, IsPicked}
-use Rattle.resil_rule.specs.declared.event.Id.{Id}
-use Rattle.resil_rule.specs.declared.event.Reply.{Reply}
+use Rattle.resil_executor.specs.Words.{Sizes, IsAllowed, times, ids_out, RuleView, is_acceptance, with_submission, with_pick, with_take, with_finish, IsStateOf, Follows, IsPicked, Id, Reply, Event, Picked, Slot}
 use Rattle.resil_rule.specs.declared.event.Reply.TheVariants as reply
-use Rattle.resil_rule.specs.declared.event.Event.{Event}
 use Rattle.resil_rule.specs.declared.event.Event.TheVariants as event
-use Rattle.resil_rule.specs.declared.rule.Picked.{Picked}
 use Rattle.resil_rule.specs.declared.rule.Origin.TheVariants as origin
-use Rattle.resil_rule.specs.declared.slots.Slot.{Slot}
 use Rattle.resil_rule.proofs.TimesLaws.{times-last}
 use Rattle.resil_rule.proofs.SlotLaws.{put-times, clear-times}
-use Rattle.resil_executor.specs.declared.log.Entry.{Entry}
-use Rattle.resil_executor.specs.declared.log.Note.{Note}
-use Rattle.resil_executor.specs.declared.log.Note.TheVariants as note
+use Rattle.resil_lock.specs.declared.log.Note.TheVariants as note
+use Rattle.resil_lock.proofs.LogLaws.{times-more}
 use Rattle.resil_executor.specs.Kept.{events_of}
-use Rattle.resil_executor.specs.Log.{picked_id, ended_id, job_of, work_of, entry_of, events_in, accepted_in, picked_in, ended_in, AreAcceptedIn}
+use Rattle.resil_executor.specs.Log.{Entry, Note, picked_id, ended_id, job_of, work_of, entry_of, events_in, accepted_in, picked_in, ended_in, AreAcceptedIn}
 use Rattle.resil_executor.specs.Turn.{Steps, Writes, Accepts, Picks}
-use Rattle.resil_executor.proofs.LogLaws.{more-some, times-more, events-more, still-there, contains-later, contains-first, last-more}
+use Rattle.resil_executor.proofs.LogLaws.{more-some, events-more, still-there, contains-later, contains-first, last-more}
 
 made-length : (xs : List ℕ) (i n : ℕ) → length (slice_set xs i n) ≡ length xs
 made-length [] i n = refl
@@ -39,12 +28,12 @@ module _ {W : Type 0} where
   one-job-more : (new : Option (Id × W)) (jobs : List (Id × W)) (one : Id × W) → new ≡ Some one → IsGrown new jobs (jobs ++ one ∷ [])
   one-job-more new jobs one is job there = elim (Contains-push_cases jobs one job there) [ inl old ↦ inl old | inr same ↦ inr (is ∙ ap Some same) ]
 
-  known-more : (log : List (Entry W)) (entry : Entry W) (before after : List (Id × W)) → IsGrown (job_of entry.note entry.work) before after → AreAcceptedIn log before → AreAcceptedIn (log ++ entry ∷ []) after
+  known-more : (log : List (Entry W)) (entry : Entry W) (before after : List (Id × W)) → IsGrown (job_of entry.note entry.payload) before after → AreAcceptedIn log before → AreAcceptedIn (log ++ entry ∷ []) after
   known-more log entry before after grown known job there = split (grown job there)
     where
-      split : Contains before job ⊎ (job_of entry.note entry.work ≡ Some job) → Contains (accepted_in (log ++ entry ∷ [])) job
-      split (inl old) = still-there (λ (e : Entry W). job_of e.note e.work) log (entry ∷ []) job (known job old)
-      split (inr new) = subst (λ (l : List (Id × W)). Contains l job) (sym (more-some (λ (e : Entry W). job_of e.note e.work) log entry job new)) (Contains-push (accepted_in log) job)
+      split : Contains before job ⊎ (job_of entry.note entry.payload ≡ Some job) → Contains (accepted_in (log ++ entry ∷ [])) job
+      split (inl old) = still-there (λ (e : Entry W). job_of e.note e.payload) log (entry ∷ []) job (known job old)
+      split (inr new) = subst (λ (l : List (Id × W)). Contains l job) (sym (more-some (λ (e : Entry W). job_of e.note e.payload) log entry job new)) (Contains-push (accepted_in log) job)
 
   -- A turn that wrote this note: the rule is left in the state that the history says then. What is out changes by what was picked and ended, and which jobs it has by what was accepted.
   steps-by : (v after : RuleView W) (noted : Note) → ((h : List Event) → IsStateOf h v → IsStateOf (h ++ events_of (Some noted)) after) → after.limits ≡ v.limits → length after.made ≡ length v.made

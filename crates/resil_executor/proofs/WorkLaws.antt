@@ -3,30 +3,20 @@ use Rattle.std.proofs.Common.{ℕ, ◌≡◌, ◌≤◌, ◌⊎◌, inl, inr, Li
 use Rattle.std.specs.Prelude.{Contains}
 use Rattle.std.proofs.lemmas.List.{append_cancel_left}
 use Rattle.std.proofs.lemmas.List.Elements.{filter_map-append, Contains-append_cases}
-use mathlib.Core.List.{IsPrefix}
-use Rattle.resil_rule.specs.Limits.{Sizes}
-use Rattle.resil_rule.specs.RuleView.{RuleView}
-use Rattle.resil_rule.specs.declared.event.Id.{Id}
-use Rattle.resil_rule.specs.declared.event.Event.{Event}
+use Rattle.resil_executor.specs.Words.{IsPrefix, Sizes, RuleView, Id, Event, Ghosts, Rank, View, AfterRounds}
 use Rattle.resil_rule.specs.declared.event.Event.TheVariants as event
-use Rattle.resil_rule.specs.declared.record.Record.{Ghosts}
-use Rattle.resil_lock.specs.declared.protocol.Rank.{Rank}
 use Rattle.resil_lock.specs.declared.protocol.Rank.TheVariants as rank
-use Rattle.resil_lock.specs.declared.protocol.View.{View}
-use Rattle.resil_lock.specs.Work.{AfterRounds}
 use Rattle.resil_lock.proofs.RoundLaws.{after-rounds}
-use Rattle.resil_executor.specs.declared.log.Entry.{Entry}
-use Rattle.resil_executor.specs.declared.log.Note.{Note}
-use Rattle.resil_executor.specs.declared.log.Note.TheVariants as note
+use Rattle.resil_lock.specs.declared.log.Note.TheVariants as note
 use Rattle.resil_executor.specs.declared.worker.AtWork.{AtWork}
-use Rattle.resil_executor.specs.Log.{MayHaveWritten, picked_id, ended_id, job_of, entry_of, entries_of, accepted_in, picked_in, ended_in}
+use Rattle.resil_executor.specs.Log.{Entry, Note, MayHaveWritten, picked_id, ended_id, job_of, entry_of, entries_of, accepted_in, picked_in, ended_in}
 use Rattle.resil_executor.specs.Turn.{Picks, HasPicked, HasRested, HasOneInHand, HasWorked, WasRun, SeesLast}
 use Rattle.resil_executor.specs.Laws.{PickedIsEnded, EndedWasPicked, OnlyWorkersPick}
 use Rattle.resil_executor.proofs.LogLaws.{one-some, one-none, more-some, more-none, still-there, contains-one, nothing-there, length-more, prefix-trans, prefix-more, begins-either}
 
 module _ {W : Type 0} where
   still-accepted : (xs ys : List (Entry W)) (job : Id × W) → IsPrefix xs ys → Contains (accepted_in xs) job → Contains (accepted_in ys) job
-  still-accepted xs ys job p there = subst (λ (l : List (Entry W)). Contains (accepted_in l) job) p.1 (still-there (λ (e : Entry W). job_of e.note e.work) xs p.0 job there)
+  still-accepted xs ys job p there = subst (λ (l : List (Entry W)). Contains (accepted_in l) job) p.1 (still-there (λ (e : Entry W). job_of e.note e.payload) xs p.0 job there)
 
   -- where one job was picked at most there was one in hand at most
   one-in_hand : (part : List (Entry W)) → length (picked_in part) ≤ 1 → HasOneInHand part
@@ -79,7 +69,7 @@ module _ {W C O K : Type 0} (limits : Sizes) (HasRun : C → W → O → C → T
   }
     where
       end : Entry W
-      end = record { note = note.Event (event.Finish ran_id); work = f.work }
+      end = record { note = note.Event (event.Finish ran_id); payload = f.work }
 
       ended : ended_in (p.entry ∷ end ∷ []) ≡ id ∷ []
       ended = more-some (λ (e : Entry W). ended_id e.note) (p.entry ∷ []) end id (ap Some same_id) ∙ ap (λ (l : List Id). l ++ id ∷ []) (more-none (λ (e : Entry W). ended_id e.note) [] p.entry p.ended)
@@ -126,17 +116,17 @@ module _ {W H C O : Type 0} {keeps : Ghosts H} (HasRun : C → W → O → C →
   gone-in_all = after-rounds HasGone HasGone (λ x. (refl, refl, refl, works-none _ HasRun _)) gone-both
 
 module _ {W C O : Type 0} (K : Type 0) (HasRun : C → W → O → C → Type 0) where
-  pub picked-ended : PickedIsEnded K HasRun
-  picked-ended limits before after id work p w =
+  pub picked_ended : PickedIsEnded K HasRun
+  picked_ended limits before after id work p w =
       let part : p.entry ∷ [] ≡ w.part = append_cancel_left before.own (p.entry ∷ []) w.part (sym p.wrote ∙ w.wrote) in
       let none : ended_in w.part ≡ [] = ap ended_in (sym part) ∙ one-none (λ (e : Entry W). ended_id e.note) p.entry p.ended in
       let some : picked_in w.part ≡ id ∷ [] = ap picked_in (sym part) ∙ one-some (λ (e : Entry W). picked_id e.note) p.entry id p.picked in
       let both : ◌≡◌ {A = List Id} [] (id ∷ []) = sym none ∙ (w.same ∙ some) in
       absurd (cc both)
 
-  pub ended-picked : EndedWasPicked K HasRun
-  ended-picked limits before between after id other work p f w =
-      let end : Entry W = record { note = note.Event (event.Finish other); work = f.work } in
+  pub ended_picked : EndedWasPicked K HasRun
+  ended_picked limits before between after id other work p f w =
+      let end : Entry W = record { note = note.Event (event.Finish other); payload = f.work } in
       let own = f.wrote ∙ (ap (λ (l : List (Entry W)). l ++ end ∷ []) p.wrote ∙ append_assoc before.own (p.entry ∷ []) (end ∷ [])) in
       let part : p.entry ∷ end ∷ [] ≡ w.part = append_cancel_left before.own (p.entry ∷ end ∷ []) w.part (sym own ∙ w.wrote) in
       let ended : ended_in (p.entry ∷ end ∷ []) ≡ other ∷ [] = more-some (λ (e : Entry W). ended_id e.note) (p.entry ∷ []) end other refl ∙ ap (λ (l : List Id). l ++ other ∷ []) (one-none (λ (e : Entry W). ended_id e.note) p.entry p.ended) in
@@ -154,5 +144,5 @@ module _ {W : Type 0} where
         | inr none ↦ (let zero = ap length (sym more ∙ none) in absurd (omega (arith, zero, long)))
       ]
 
-pub only-workers : (W : Type 0) → OnlyWorkersPick W
-only-workers W own v after last id work p = (no-pick rank.Visitor own v after last id work (λ e. absurd (cc e)) p, no-pick rank.Opener own v after last id work (λ e. absurd (cc e)) p)
+pub only_workers : (W : Type 0) → OnlyWorkersPick W
+only_workers W own v after last id work p = (no-pick rank.Visitor own v after last id work (λ e. absurd (cc e)) p, no-pick rank.Opener own v after last id work (λ e. absurd (cc e)) p)

@@ -1,12 +1,8 @@
 -- What came of a work that was submitted and waited for.
 use Rattle.std.specs.Prelude.{Bool, true, false}
-use Rattle.resil_rule.specs.Limits.{Sizes}
-use Rattle.resil_rule.specs.declared.event.Id.{Id}
-use Rattle.resil_rule.specs.declared.event.Reply.{Reply}
-use Rattle.resil_lock.specs.declared.protocol.View.{View}
-use Rattle.resil_executor.specs.declared.log.Entry.{Entry}
+use Rattle.resil_executor.specs.Words.{Sizes, Id, Reply, View, NoAnswer}
+use Rattle.resil_executor.specs.Log.{Entry}
 use Rattle.resil_executor.specs.Turn.{SeesAccepted, SeesRefusal}
-use Rattle.resil_executor.specs.declared.no_answer.NoAnswer.{NoAnswer}
 use Rattle.resil_executor.specs.declared.no_answer.NoAnswer.TheVariants.{Refused, OutOfTime, Unrun}
 
 -- a work that the pool refused was refused, and one whose answer didn't come wasn't

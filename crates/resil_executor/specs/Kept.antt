@@ -1,15 +1,8 @@
 -- What lies beside the rule: the record of the history, the room that it has, and how many works were accepted.
 use Rattle.std.specs.Prelude.{ℕ, ◌≡◌, ◌+◌, ◌++◌, ◌∷◌, [], List, Option, Some, None, filter_map, length}
-use Rattle.resil_rule.specs.History.{accepted, finished, submissions}
-use Rattle.resil_rule.specs.RuleView.{RuleView, busy, owed}
-use Rattle.resil_rule.specs.declared.event.Id.{Id}
-use Rattle.resil_rule.specs.declared.event.Reply.TheVariants.{Full, Closed}
-use Rattle.resil_rule.specs.declared.event.Event.{Event}
-use Rattle.resil_rule.specs.declared.event.Event.TheVariants.{Submit}
-use Rattle.resil_executor.specs.declared.log.Entry.{Entry}
-use Rattle.resil_executor.specs.declared.log.Note.{Note}
-use Rattle.resil_executor.specs.declared.log.Note.TheVariants as note
-use Rattle.resil_executor.specs.Log.{events_in}
+use Rattle.resil_executor.specs.Words.{accepted, finished, submissions, RuleView, busy, owed, Id, Full, Closed, Event, Submit}
+use Rattle.resil_lock.specs.declared.log.Note.TheVariants as note
+use Rattle.resil_executor.specs.Log.{Entry, Note, events_in}
 
 -- the job of a submission that is refused
 abbrev pub refused_id : Event → Option Id

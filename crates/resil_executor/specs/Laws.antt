@@ -1,20 +1,8 @@
 -- Laws of what clauses say, whatever the bodies.
 use Rattle.std.specs.Prelude.{◌≡◌, ◌⊎◌, ◌≤◌, ◌<◌, ◌+◌, ℕ, ◌++◌, ◌∷◌, [], true, List, Option, length}
-use mathlib.Core.List.{IsPrefix}
-use Rattle.resil_rule.specs.Limits.{Sizes, AreLimits}
-use Rattle.resil_rule.specs.Admission.{IsAllowed, IsLegal}
-use Rattle.resil_rule.specs.History.{is_closed, is_among, times, waiting, running, finished}
-use Rattle.resil_rule.specs.RuleView.{RuleView}
-use Rattle.resil_rule.specs.declared.event.Id.{Id}
-use Rattle.resil_rule.specs.declared.event.Event.{Event}
-use Rattle.resil_rule.specs.declared.event.Event.TheVariants.{Finish}
-use Rattle.resil_lock.specs.declared.protocol.View.{View}
+use Rattle.resil_executor.specs.Words.{IsPrefix, Sizes, AreLimits, IsAllowed, IsLegal, is_closed, is_among, times, waiting, running, finished, RuleView, Id, Event, Finish, View, is_there, total, IsSeatAt}
 use Rattle.resil_lock.specs.declared.protocol.Rank.TheVariants as rank
-use Rattle.resil_lock.specs.Lock.{is_there, total}
-use Rattle.resil_lock.specs.BetweenSteps.{IsSeatAt}
-use Rattle.resil_executor.specs.declared.log.Entry.{Entry}
-use Rattle.resil_executor.specs.declared.log.Note.{Note}
-use Rattle.resil_executor.specs.Log.{MayHaveWritten, entries_of, events_in, picked_in, ended_in, IsOver}
+use Rattle.resil_executor.specs.Log.{Entry, Note, MayHaveWritten, entries_of, events_in, picked_in, ended_in, IsOver}
 use Rattle.resil_executor.specs.Turn.{Picks, HasPicked, HasWorked, SeesLast}
 
 -- K is the key of the lock.

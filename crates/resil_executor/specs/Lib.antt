@@ -4,3 +4,4 @@ pub mod Log
 pub mod Turn
 pub mod Seats
 pub mod Dispatch
+pub mod Words

@@ -1,35 +1,14 @@
--- The log of a pool: its events, the works that were accepted, and which jobs were picked and ended; which logs a rule stands for.
-use Rattle.std.specs.Prelude.{◌≡◌, ◌+◌, ◌≤◌, ◌<◌, ◌⊎◌, [], ◌∷◌, true, List, Option, Some, None, Contains, filter_map, length}
-use Rattle.resil_rule.specs.Limits.{Sizes}
-use Rattle.resil_rule.specs.History.{times, is_among, is_closed, waiting, running, accepted, finished}
-use Rattle.resil_rule.specs.Slots.{ids_out}
-use Rattle.resil_rule.specs.RuleView.{RuleView}
-use Rattle.resil_rule.specs.RuleState.{IsStateOf}
-use Rattle.resil_rule.specs.declared.event.Id.{Id}
-use Rattle.resil_rule.specs.declared.event.Reply.TheVariants.{Core, Queued, Extra}
-use Rattle.resil_rule.specs.declared.event.Event.{Event}
-use Rattle.resil_rule.specs.declared.event.Event.TheVariants.{Submit, Take, Finish}
-use Rattle.resil_lock.specs.declared.protocol.Rank.{Rank}
+-- The log of a pool, with the works that were accepted; which logs a rule stands for.
+use Rattle.std.specs.Prelude.{◌≡◌, ◌+◌, ◌<◌, ◌⊎◌, [], ◌∷◌, true, List, Option, Some, None, Contains, filter_map, length}
+use Rattle.resil_executor.specs.Words.{Sizes, times, is_among, is_closed, waiting, running, accepted, finished, ids_out, RuleView, IsStateOf, Id, Core, Queued, Extra, Event, Submit, Rank, Logged}
 use Rattle.resil_lock.specs.declared.protocol.Rank.TheVariants as rank
-use Rattle.resil_executor.specs.declared.log.Entry.{Entry}
-use Rattle.resil_executor.specs.declared.log.Note.{Note}
-use Rattle.resil_executor.specs.declared.log.Note.TheVariants as note
+use Rattle.resil_lock.specs.declared.log.Note.TheVariants as note
+pub use Rattle.resil_lock.specs.declared.log.Note.{Note}
+pub use Rattle.resil_lock.specs.Log.{event_of, picked_id, ended_id, events_in, picked_in, ended_in, IsBalanced}
 
--- the event that a turn noted
-abbrev pub event_of : Note → Option Event
-event_of (note.Event event) = Some event
-event_of (note.Started id) = None
-
--- the job that was picked: taken from the queue, or with a worker of its own
-abbrev pub picked_id : Note → Option Id
-picked_id (note.Started id) = Some id
-picked_id (note.Event (Take id)) = Some id
-picked_id _ = None
-
--- the job that was ended
-abbrev pub ended_id : Note → Option Id
-ended_id (note.Event (Finish id)) = Some id
-ended_id _ = None
+-- an entry, with the work of an accepted submission
+abbrev pub Entry : Type 0 → Type 0
+Entry W = Logged (Option W)
 
 -- what was noted, where it is no submission
 abbrev pub beyond_submission : Note → Option Note
@@ -42,18 +21,9 @@ module _ {W : Type 0} where
   job_of (note.Event (Submit id reply)) (Some work) = Some (id, work)
   job_of _ _ = None
 
-  -- the history; the jobs that were accepted, with their works; those that were picked, and those that were ended: each in order
-  abbrev pub events_in : List (Entry W) → List Event
-  events_in log = filter_map (λ entry. event_of entry.note) log
-
+  -- the jobs that were accepted, with their works, in order
   abbrev pub accepted_in : List (Entry W) → List (Id × W)
-  accepted_in log = filter_map (λ entry. job_of entry.note entry.work) log
-
-  abbrev pub picked_in : List (Entry W) → List Id
-  picked_in log = filter_map (λ entry. picked_id entry.note) log
-
-  abbrev pub ended_in : List (Entry W) → List Id
-  ended_in log = filter_map (λ entry. ended_id entry.note) log
+  accepted_in log = filter_map (λ entry. job_of entry.note entry.payload) log
 
   abbrev pub beyond_submissions_in : List (Entry W) → List Note
   beyond_submissions_in log = filter_map (λ entry. beyond_submission entry.note) log
@@ -72,7 +42,7 @@ module _ {W : Type 0} where
   work_of v _ = None
 
   abbrev pub entry_of : RuleView W → Note → Entry W
-  entry_of v noted = record { note = noted; work = work_of v noted }
+  entry_of v noted = record { note = noted; payload = work_of v noted }
 
   -- what a turn wrote, by the rule after it and what it noted
   abbrev pub entries_of : RuleView W → Option Note → List (Entry W)
@@ -95,7 +65,7 @@ module _ {W : Type 0} where
 
   -- A seat ends only jobs that it picked. Only workers pick. A visitor only submits.
   pub record MayHaveWritten (who : Rank) (own : List (Entry W)) : Type 0 where
-    pub balanced : (id : Id) → times id (ended_in own) ≤ times id (picked_in own)
+    pub balanced : IsBalanced own
     pub workers : (who ≡ rank.Worker) ⊎ (picked_in own ≡ [])
     pub visitors : who ≡ rank.Visitor → beyond_submissions_in own ≡ []
 

@@ -1,11 +1,7 @@
 -- Whose a seat is, and what it knows: the words in which contracts speak of a pool, and of what submits, works and closes there.
 use Rattle.std.specs.Prelude.{◌≡◌}
-use Rattle.atomic_table.specs.declared.shared.Seat.{Seat}
-use Rattle.resil_rule.specs.Limits.{Sizes}
-use Rattle.resil_lock.specs.declared.protocol.View.{View}
-use Rattle.resil_lock.specs.Lock.{first_view, visitor_view}
-use Rattle.resil_executor.specs.declared.log.Entry.{Entry}
-use Rattle.resil_executor.specs.declared.opening.Opening.{Opening}
+use Rattle.resil_executor.specs.Words.{Seat, Sizes, View, first_view, visitor_view, Opening}
+use Rattle.resil_executor.specs.Log.{Entry}
 use Rattle.resil_executor.specs.declared.executor.Executor.{Executor}
 use Rattle.resil_executor.specs.Turn.{HasWorkedSinceHiredBy, SeesOver}
 

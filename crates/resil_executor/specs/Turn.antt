@@ -1,25 +1,12 @@
 -- What a turn writes into the log of a pool, what its seat sees of it, and what a worker has done.
 use Rattle.std.specs.Prelude.{◌≡◌, ◌<◌, ◌≤◌, ◌⊎◌, ◌+◌, true, false, List, ◌++◌, ◌∷◌, [], Option, Some, None, length, Contains}
-use mathlib.Core.List.{IsPrefix}
-use Rattle.resil_rule.specs.Limits.{Sizes}
-use Rattle.resil_rule.specs.History.{times, running, waiting, workers, is_closed, core_size, max_size, submissions, accepted, finished}
-use Rattle.resil_rule.specs.Admission.{IsAllowed, IsLegal}
-use Rattle.resil_rule.specs.RuleView.{RuleView, busy, made_by, HasOneToPick}
-use Rattle.resil_rule.specs.RuleState.{HasNoneToPick}
-use Rattle.resil_rule.specs.declared.event.Id.{Id}
-use Rattle.resil_rule.specs.declared.event.Event.{Event}
-use Rattle.resil_rule.specs.declared.event.Event.TheVariants.{Submit}
-use Rattle.resil_rule.specs.declared.event.Reply.{Reply}
+use Rattle.resil_executor.specs.Words.{IsPrefix, Sizes, times, running, waiting, workers, is_closed, core_size, max_size, submissions, accepted, finished, IsAllowed, IsLegal, RuleView, busy, made_by, HasOneToPick, HasNoneToPick, Id, Event, Submit, Reply, View, Numbers}
 use Rattle.resil_rule.specs.declared.event.Reply.TheVariants as reply
-use Rattle.resil_lock.specs.declared.protocol.View.{View}
-use Rattle.resil_executor.specs.declared.log.Entry.{Entry}
-use Rattle.resil_executor.specs.declared.log.Note.{Note}
-use Rattle.resil_executor.specs.declared.log.Note.TheVariants as note
+use Rattle.resil_lock.specs.declared.log.Note.TheVariants as note
 use Rattle.resil_executor.specs.declared.state.Refused.{Refused}
 use Rattle.resil_executor.specs.declared.state.Refused.TheVariants as refused
-use Rattle.resil_executor.specs.declared.state.Numbers.{Numbers}
 use Rattle.resil_executor.specs.Kept.{refused}
-use Rattle.resil_executor.specs.Log.{StandsFor, picked_id, ended_id, work_of, entries_of, events_in, accepted_in, picked_in, ended_in, beyond_submissions_in, IsOver}
+use Rattle.resil_executor.specs.Log.{Entry, Note, StandsFor, picked_id, ended_id, work_of, entries_of, events_in, accepted_in, picked_in, ended_in, beyond_submissions_in, IsOver}
 
 module _ {W : Type 0} where
   -- Whatever log the rule stood for, it stands for that log with what was written.
@@ -116,8 +103,8 @@ module _ {W K : Type 0} where
     pub log : List (Entry W)
     pub work : Option W
     pub begins : IsPrefix before.seen log
-    pub ends : after.seen ≡ log ++ record { note = note.Event event; work = work } ∷ []
-    pub wrote : after.own ≡ before.own ++ record { note = note.Event event; work = work } ∷ []
+    pub ends : after.seen ≡ log ++ record { note = note.Event event; payload = work } ∷ []
+    pub wrote : after.own ≡ before.own ++ record { note = note.Event event; payload = work } ∷ []
     pub allowed : IsAllowed limits (events_in log) event
     pub legal : IsLegal limits (events_in after.seen)
 

@@ -2,8 +2,8 @@
 
 pub use crate::executor::{ExecutorWorker, Visitor};
 pub use crate::job::{PickedJob, RanJob};
-pub use crate::log::{Entry, Note};
+pub use crate::log::Entry;
 pub use crate::opening::Opening;
 pub use crate::state::{BoxedState, State};
 pub use crate::threads::ThreadWork;
-pub use resil_lock::{Look, Looks, Round};
+pub use resil_lock::{Logged, Look, Looks, Note, Round};

@@ -14,17 +14,16 @@ ghost use Rattle.resil_rule.specs.declared.event.Event.{Event as AnEvent};
 ghost use Rattle.resil_executor.specs.Turn.{Steps, Writes, WritesNone, Accepts, Refuses, Picks, IsPlain, IsVisit, HasNoneToRun, HasWork, IsOverNow, MayBegin};
 ghost use Rattle.resil_lock.specs.Work.{OnFound, OnNothing, OnOver};
 ghost use Rattle.resil_executor.specs.Kept.{unfinished, events_of, Keeps, LacksRoom};
-ghost use Rattle.resil_executor.specs.declared.log.Note.TheVariants as note;
+ghost use Rattle.resil_lock.specs.declared.log.Note.TheVariants as note;
 ghost use Rattle.resil_rule.specs.declared.rule.Origin.TheVariants as origin;
 
 use crate::job::PickedJob;
-use crate::log::{Entry, Note};
+use crate::log::Entry;
 use crate::opening::Opening;
-use resil_lock::{Guarded, Look};
+use resil_lock::{Guarded, Look, Note};
 use resil_rule::{AdmitError, Event, Id, Limits, Origin, Record, Refusal, Reply, Rule, Slot};
 use resil_task::by_hand::Run;
 use std::alloc::{AllocError, Global};
-use std::marker::Model;
 
 // Whose submissions those of a pool are. A text of events names callers from 1 on.
 const CALLER: u16 = 1;
@@ -89,21 +88,10 @@ pub struct State<W: Drop, H: Record> {
     kept: H,
 }
 
-/// The state in a block of its own, so that a turn moves a pointer and not the state. Contracts see the state.
-#[derive(Drop)]
-pub struct BoxedState<W: Drop, H: Record> {
-    pub(crate) inner: Box<State<W, H>>,
-}
+/// The state in a block of its own. Contracts see the state.
+pub type BoxedState<W, H> = resil_lock::BoxedState<State<W, H>>;
 
-impl<W: Drop, H: Record> Model for BoxedState<W, H> {
-    ghost use Rattle.resil_executor.specs.declared.state.State.{State};
-
-    ghost Value = { State W H };
-
-    ghost view = { λ b. b.inner.value };
-}
-
-impl<W: Drop, H: Record> Guarded for BoxedState<W, H> {
+impl<W: Drop, H: Record> Guarded for State<W, H> {
     ghost use Rattle.resil_executor.specs.Log.{StandsFor, MayHaveWritten, entries_of};
     ghost use Rattle.resil_executor.specs.Kept.{KeepsUp};
     ghost use Rattle.resil_executor.specs.Turn.{HasWork};
@@ -120,8 +108,12 @@ impl<W: Drop, H: Record> Guarded for BoxedState<W, H> {
 
     ghost HasWork = { λ state. HasWork state.rule };
 
+    /// Whether there is a job to pick that may begin, or the pool is over. While the last jobs of a closed pool run, those
+    /// without a job sleep.
     fn has_work(&self) -> bool {
-        self.inner.has_work()
+        self.is_over()
+            || self.rule.unpicked() > 0
+            || (self.rule.waiting() > 0 && self.rule.has_idle_worker() && !self.holds_back())
     }
 }
 
@@ -179,16 +171,6 @@ impl<W: Drop, H: Record> State<W, H> {
             accepted: 0,
             kept,
         })
-    }
-
-    // Whether a worker has something to do: there is a job to pick that may begin, or the pool is over. While the last jobs of a
-    // closed pool run, those without a job sleep.
-    fn has_work(&self) -> bool
-        ensures { IsTrue result ↔ HasWork self.now.rule }
-    {
-        self.is_over()
-            || self.rule.unpicked() > 0
-            || (self.rule.waiting() > 0 && self.rule.has_idle_worker() && !self.holds_back())
     }
 
     // Whether no job is taken from the queue, since as many run as the greatest size says now. A job with a worker of its own was let

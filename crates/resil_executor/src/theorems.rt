@@ -4,7 +4,7 @@ ghost use Rattle.std.specs.Prelude.{Option};
 ghost use Rattle.atomic_table.specs.Table.{State as TableState};
 ghost use Rattle.resil_lock.specs.declared.protocol.View.{View as ViewOf};
 ghost use Rattle.resil_executor.specs.declared.opening.Opening.{Opening as OpeningOf};
-ghost use Rattle.resil_executor.specs.declared.log.Entry.{Entry as EntryOf};
+ghost use Rattle.resil_executor.specs.Log.{Entry as EntryOf};
 ghost use Rattle.resil_executor.specs.declared.state.State.{State as StateOf};
 ghost use Rattle.resil_executor.specs.Laws.{PickedIsEnded, EndedWasPicked, OnlyWorkersPick, EndStays, NothingLeftIsOver, HoldsOfTheLog};
 

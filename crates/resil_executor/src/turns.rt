@@ -216,6 +216,7 @@ impl<W: Drop, H: Record> Executor<W, H> {
     ///     println!(rt; "some works aren't finished")?;
     /// }
     /// ```
+    #[tactic(auto, using(crate::proofs::SeatLaws::true_seen, crate::proofs::SeatLaws::false_seen))]
     pub fn join_for<R: Clock + Wait>(&self, rt: &R, duration: Duration) -> bool
         ensures joined { OnTrue result (HasSeen (limits_of self.now) (new_visitor self.now) AllFinished) }
         ensures not_joined { OnFalse result (HasSeen (limits_of self.now) (new_visitor self.now) (λ history. ¬ AllFinished history)) }

@@ -1,4 +1,5 @@
 pub mod BetweenSteps
+pub mod LogLaws
 pub mod WeightLaws
 pub mod LockSteps
 pub mod RoundLaws

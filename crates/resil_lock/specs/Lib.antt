@@ -1,3 +1,4 @@
 pub mod BetweenSteps
 pub mod Lock
+pub mod Log
 pub mod Work

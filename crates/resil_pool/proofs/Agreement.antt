@@ -7,7 +7,7 @@ use Rattle.std.proofs.lemmas.List.{length-map}
 use Rattle.std.proofs.lemmas.Option.{same_Some}
 use Rattle.resil_rule.specs.declared.event.Reply.TheVariants.{Core, Queued, Extra}
 use Rattle.resil_pool.specs.Words.{PlanView, Sizes, submissions, IsAllowed, AreAllowedAfter, IsLegal, Id, Reply, Event, Submit, MachineView, AreResultsOf, Accepted, Row, LoggedEvent, Note, Receipt}
-use Rattle.resil_pool.specs.declared.lock.logged_event.Note.TheVariants as note
+use Rattle.resil_lock.specs.declared.log.Note.TheVariants as note
 use Rattle.resil_pool.specs.Lock.{NamesCaller, AllNameCallers, events_in, is_own_note, event_of, accepted_of, own_in, plans_in, plan_entry, MatchesLog}
 use Rattle.resil_pool.specs.Parts.{CallerView, submit_of, submission_of}
 use Rattle.resil_pool.specs.Draining.{receipts_at, AreLogged, IsGathered, HasNumberedReceipt, HasReceipt, AgreeWithReceipts, with_runs}
@@ -51,7 +51,7 @@ number_of _ = 0
 
 module _ (limits : Sizes) (callers : ℕ) (log : List LoggedEvent) (lists : List (List Receipt)) (many : length lists ≡ callers) (logged : AreLogged log lists) (legal : IsLegal limits (events_in log)) (names : AllNameCallers callers (events_in log)) where
   -- a submission in the log stands on a receipt of the caller that it names, at its number
-  one_entry : (before after : List LoggedEvent) (n : LoggedEvent) (id : Id) (reply : Reply) → log ≡ before ++ n ∷ after → n.note ≡ note.Event (Submit id reply) → EntryHasReceipt lists (id, n.plan)
+  one_entry : (before after : List LoggedEvent) (n : LoggedEvent) (id : Id) (reply : Reply) → log ≡ before ++ n ∷ after → n.note ≡ note.Event (Submit id reply) → EntryHasReceipt lists (id, n.payload.plan)
   one_entry before after n id reply is event =
       let events : events_in log ≡ events_in before ++ Submit id reply ∷ events_in after =
       ap events_in is ∙ (events_in-append before (n ∷ after) ∙ ap (λ (x : Note). events_in before ++ cons_option (event_of x) (events_in after)) event) in
@@ -76,17 +76,17 @@ module _ (limits : Sizes) (callers : ℕ) (log : List LoggedEvent) (lists : List
           there = ap (slice_get (receipts_at lists id.caller)) place ∙ at.there;
           number = ap (λ (x : LoggedEvent). number_of x.note) at.is ∙ ap number_of event;
         };
-        plan = sym (ap (λ (x : LoggedEvent). x.plan) at.is);
+        plan = sym (ap (λ (x : LoggedEvent). x.payload.plan) at.is);
       }
 
   entries : (before rest : List LoggedEvent) → log ≡ before ++ rest → All (EntryHasReceipt lists) (plans_in rest)
   entries before [] is = All-nil (EntryHasReceipt lists)
   entries before (n ∷ rest) is = by n.note refl (entries (before ++ n ∷ []) rest (is ∙ sym (append_assoc before (n ∷ []) rest)))
     where
-      by : (written : Note) → n.note ≡ written → All (EntryHasReceipt lists) (plans_in rest) → All (EntryHasReceipt lists) (cons_option (option_map (λ (id : Id). (id, n.plan)) (accepted_of written)) (plans_in rest))
-      by (note.Event (Submit id Core)) at later = All-cons (EntryHasReceipt lists) (id, n.plan) (plans_in rest) (one_entry before rest n id Core is at) later
-      by (note.Event (Submit id Queued)) at later = All-cons (EntryHasReceipt lists) (id, n.plan) (plans_in rest) (one_entry before rest n id Queued is at) later
-      by (note.Event (Submit id Extra)) at later = All-cons (EntryHasReceipt lists) (id, n.plan) (plans_in rest) (one_entry before rest n id Extra is at) later
+      by : (written : Note) → n.note ≡ written → All (EntryHasReceipt lists) (plans_in rest) → All (EntryHasReceipt lists) (cons_option (option_map (λ (id : Id). (id, n.payload.plan)) (accepted_of written)) (plans_in rest))
+      by (note.Event (Submit id Core)) at later = All-cons (EntryHasReceipt lists) (id, n.payload.plan) (plans_in rest) (one_entry before rest n id Core is at) later
+      by (note.Event (Submit id Queued)) at later = All-cons (EntryHasReceipt lists) (id, n.payload.plan) (plans_in rest) (one_entry before rest n id Queued is at) later
+      by (note.Event (Submit id Extra)) at later = All-cons (EntryHasReceipt lists) (id, n.payload.plan) (plans_in rest) (one_entry before rest n id Extra is at) later
       by _ at later = later
 
 -- so each result is of the plan on its receipt

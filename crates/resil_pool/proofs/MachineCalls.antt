@@ -9,7 +9,7 @@ use Rattle.resil_rule.specs.declared.event.Reply.TheVariants.{Core}
 use Rattle.resil_rule.proofs.IdLaws.{in_flight-running}
 use Rattle.resil_rule.proofs.UnpickedLaws.{waiting-same}
 use Rattle.resil_pool.specs.Words.{PlanView, RunView, Sizes, is_close, is_closed, is_same_id, is_among, waiting, IsAllowed, MachineView, jobs_in_flight, newly_accepted, with_event, with_submission, with_run, with_finish, Accepted, Id, Reply, Event, Submit, Take, Finish, IdleEnd, LoggedEvent, Note, Written}
-use Rattle.resil_pool.specs.declared.lock.logged_event.Note.TheVariants as note
+use Rattle.resil_lock.specs.declared.log.Note.TheVariants as note
 use Rattle.resil_pool.specs.Lock.{log_event, finish_of, plans_in, plan_entry, run_of, plain, entries_of, IsStep, IsMoved, WritesAtMost}
 use Rattle.resil_pool.specs.Worker.{EndsIdle, HasNoTake}
 
@@ -63,7 +63,7 @@ pub finish-step : (old new : MachineView) (id : Id) (run : RunView) → is_among
 finish-step old new id run out is = appends None old new (Finish id) (with_run old.jobs id run) (out_runs old id out) (filed-with_run old.jobs id run ∙ sym (append-nil (map plan_entry old.jobs))) is
 
 abbrev finish_with : Id → Option RunView → List LoggedEvent
-finish_with id kept = record { note = note.Event (Finish id); plan = None; ended = option_map (λ run. record { id = id; run = run }) kept } ∷ []
+finish_with id kept = record { note = note.Event (Finish id); payload = record { plan = None; ended = option_map (λ run. record { id = id; run = run }) kept } } ∷ []
 
 pub finish-told : (jobs : List Accepted) (id : Id) (run : RunView) (last : Option Written) → last ≡ Some (plain (note.Event (Finish id))) → run_of jobs id ≡ Some run → entries_of jobs last ≡ finish_of id run ∷ []
 finish-told jobs id run last is kept = ap (entries_of jobs) is ∙ ap (finish_with id) kept

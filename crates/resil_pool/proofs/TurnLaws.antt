@@ -4,14 +4,17 @@ use Rattle.std.proofs.lemmas.Option.{slice_get_within}
 use Rattle.std.proofs.lemmas.List.{take-append-le}
 use Rattle.std.proofs.lemmas.List.Elements.{filter_map-append, All-push}
 use Rattle.resil_rule.proofs.LegalLaws.{legal-push}
+use Rattle.resil_rule.proofs.TimesLaws.{times-append}
 use Rattle.resil_lock.specs.declared.protocol.Phase.TheVariants.{Holding}
 use Rattle.resil_lock.specs.Lock.{IsNumbering, IsCovered, holder_view, left_view}
-use Rattle.resil_pool.specs.Words.{IsPrefix, PlanView, Sizes, IsAllowed, IsLegal, is_among, started, started_id, times, Id, Event, Submit, Close, MachineView, jobs_in_flight, Row, LoggedEvent, Note, Opening, State, TableId}
-use Rattle.resil_pool.specs.declared.lock.logged_event.Note.TheVariants as note
-use Rattle.resil_pool.specs.Lock.{NamesCaller, AllNameCallers, log_event, events_in, starts_in, picked_in, ended_in, closer_number, is_own_note, is_own, own_in, plans_in, plan_entry, runs_in, SeesMore, SeesOwn, View, LockSeatState, IsMachineOf, MayHaveWritten, starts_of, told, IsDue, Tallies, EndsOnlyPicked, IsResting, MayWrite, IsStep, IsMoved, WritesAtMost, SeesClosing, WroteCloseAtMost, TookATurn}
+use Rattle.resil_lock.proofs.LogLaws.{pick_of, end_of, times-more}
+use Rattle.resil_pool.specs.Words.{IsPrefix, PlanView, Sizes, IsAllowed, IsLegal, is_among, started, started_id, taken, taken_id, times, Id, Event, Submit, Take, Close, MachineView, jobs_in_flight, Row, LoggedEvent, Note, Opening, State, TableId}
+use Rattle.resil_lock.specs.declared.log.Note.TheVariants as note
+use Rattle.resil_pool.specs.declared.lock.logged_event.Carried.{Carried}
+use Rattle.resil_pool.specs.Lock.{NamesCaller, AllNameCallers, log_event, events_in, picked_in, ended_in, closer_number, is_own_note, is_own, own_in, plans_in, plan_entry, runs_in, SeesMore, SeesOwn, View, LockSeatState, IsMachineOf, MayHaveWritten, starts_of, told, IsDue, Tallies, EndsOnlyPicked, IsResting, MayWrite, IsStep, IsMoved, WritesAtMost, SeesClosing, WroteCloseAtMost, TookATurn}
 use Rattle.resil_pool.specs.Parts.{IsCloser, source_of}
 use Rattle.resil_pool.specs.Worker.{takes_in}
-use Rattle.resil_pool.proofs.Logs.{own_in-append, events_in-append, starts_in-append, plans_in-append, takes_in-append, picked-more, ended-more, numbering, few-job, due-job, take-next}
+use Rattle.resil_pool.proofs.Logs.{own_in-append, events_in-append, plans_in-append, takes_in-append, numbering, few-job, due-job, take-next}
 use Rattle.resil_pool.proofs.NamedCallers.{written_names}
 
 -- the seat of this number may write these
@@ -93,11 +96,16 @@ acted old new same t moved may = let took = has-turn old same t in record { took
 pub legal_there : {old me : LockSeatState} {machine : MachineView} → HasTurn old machine me → IsLegal machine.limits machine.history
 legal_there h = subst (λ (y : Sizes × List Event). IsLegal y.0 y.1) (λ i. (sym h.home.home.sized i, sym h.home.home.history i)) h.home.legal
 
+-- the job that an event picked is the one that it took
+event-picked : (payload : Carried) (e : Event) → picked_in (record { note = note.Event e; payload = payload } ∷ []) ≡ taken (e ∷ [])
+event-picked payload (Take id) = refl
+event-picked payload _ = refl
+
 -- the log with what a turn wrote is that of the machine that it left
 step-stands : (opening : Opening) (log : List LoggedEvent) (m m' : MachineView) (number : ℕ) (plan : Option PlanView) (ended : Option Row) (written : Note) → IsMachineOf opening log m → IsStep plan m written m' → MayWriteNote opening.callers number written
-    → IsMachineOf opening (log ++ record { note = written; plan = plan; ended = ended } ∷ []) m'
+    → IsMachineOf opening (log ++ record { note = written; payload = record { plan = plan; ended = ended } } ∷ []) m'
 step-stands opening log m m' number plan ended (note.Event e) is step own =
-    let entry : LoggedEvent = record { note = note.Event e; plan = plan; ended = ended } in
+    let entry : LoggedEvent = record { note = note.Event e; payload = record { plan = plan; ended = ended } } in
     let events : events_in (log ++ entry ∷ []) ≡ events_in log ++ e ∷ [] = events_in-append log (entry ∷ []) in
     let grown : started m'.history ≡ started m.history ++ started (e ∷ []) = ap started step.0.history ∙ filter_map-append started_id m.history (e ∷ []) in
     let same = step.1 in
@@ -111,11 +119,17 @@ step-stands opening log m m' number plan ended (note.Event e) is step own =
       };
       legal = subst (IsLegal opening.limits) (sym events) (legal-push opening.limits (events_in log) e is.legal (subst (λ (y : Sizes × List Event). IsAllowed y.0 y.1 e) (λ i. (is.home.sized i, is.home.history i)) step.0.allowed));
       names = subst (AllNameCallers opening.callers) (sym events) (All-push (NamesCaller opening.callers) (events_in log) e is.names (written_names opening.callers number e own));
-      starts = starts_in-append log (entry ∷ []) ∙ (append-nil (starts_in log) ∙ (is.starts ∙ sym starts));
+      picks = λ id.
+          let old = is.picks id in
+          let more = times-more pick_of id log (entry ∷ []) in
+          let one = ap (times id) (event-picked entry.payload e) in
+          let now = ap (λ (h : List Event). times id (taken h)) step.0.history ∙ (ap (times id) (filter_map-append taken_id m.history (e ∷ [])) ∙ times-append id (taken m.history) (taken (e ∷ []))) in
+          let early = ap (times id) starts in
+          omega (arith, old, more, one, now, early);
       within = omega (arith, same, few, longer);
     }
 step-stands opening log m m' number plan ended (note.Started id) is step own =
-    let entry : LoggedEvent = record { note = note.Started id; plan = plan; ended = ended } in
+    let entry : LoggedEvent = record { note = note.Started id; payload = record { plan = plan; ended = ended } } in
     let events : events_in (log ++ entry ∷ []) ≡ events_in log = events_in-append log (entry ∷ []) ∙ append-nil (events_in log) in
     let suc_is : suc m.picked ≡ m.picked + 1 = omega arith in
     let starts : starts_of m' ≡ starts_of m ++ id ∷ [] = ap starts_of step.1 ∙ (ap (λ (n : ℕ). take n (started m.history)) (sym suc_is) ∙ take-next m.picked (started m.history) id step.0) in
@@ -129,13 +143,18 @@ step-stands opening log m m' number plan ended (note.Started id) is step own =
       };
       legal = subst (IsLegal opening.limits) (sym events) is.legal;
       names = subst (AllNameCallers opening.callers) (sym events) is.names;
-      starts = starts_in-append log (entry ∷ []) ∙ (ap (λ (ids : List Id). ids ++ id ∷ []) is.starts ∙ sym starts);
+      picks = λ x.
+          let old = is.picks x in
+          let more : times x (picked_in (log ++ entry ∷ [])) ≡ times x (picked_in log) + times x (id ∷ []) = times-more pick_of x log (entry ∷ []) in
+          let now = ap (times x) starts ∙ times-append x (starts_of m) (id ∷ []) in
+          let takes = ap (λ (y : MachineView). times x (taken y.history)) step.1 in
+          omega (arith, old, more, now, takes);
       within = omega (arith, inside, picked, same);
     }
 
 stands : (opening : Opening) (log : List LoggedEvent) (m m' : MachineView) (number : ℕ) (entries : List LoggedEvent) → IsMachineOf opening log m → IsMoved m entries m' → MayWriteEach opening.callers number entries → IsMachineOf opening (log ++ entries) m'
 stands opening log m m' number [] is moved own = subst (λ (x : List LoggedEvent × MachineView). IsMachineOf opening x.0 x.1) (λ i. (sym (append-nil log) i, sym moved i)) is
-stands opening log m m' number (entry ∷ []) is moved own = step-stands opening log m m' number entry.plan entry.ended entry.note is moved own.0
+stands opening log m m' number (entry ∷ []) is moved own = step-stands opening log m m' number entry.payload.plan entry.payload.ended entry.note is moved own.0
 stands opening log m m' number (entry ∷ next ∷ entries) is moved own = absurd moved
 
 -- what a seat may write is no other seat's own
@@ -165,7 +184,7 @@ gives {old} {me} {m} {m'} {entries} source a =
       home = subst (λ (v : View). IsMachineOf v.key (v.seen ++ entries) m') same (stands old.0.key me.0.seen m m' old.0.number entries a.took.home a.moved a.wrote.may);
       fits = subst (λ (v : View). MayHaveWritten v.rank (v.own ++ entries)) same (record {
         numbered = a.took.fits.numbered;
-        balanced = λ id. let p = picked-more id old.0.own entries in let e = ended-more id old.0.own entries in let d = a.wrote.due id in omega (arith, p, e, d);
+        balanced = λ id. let p = times-more pick_of id old.0.own entries in let e = times-more end_of id old.0.own entries in let d = a.wrote.due id in omega (arith, p, e, d);
       });
       own = subst (λ (v : View). IsNumbering MayHaveWritten → (j : ℕ) → j ≢ v.number → filter (is_own j) entries ≡ []) same (λ _ j apart. others-own old.0.key.callers old.0.number j apart entries a.wrote.may);
     }
@@ -246,15 +265,15 @@ module _ {old : LockSeatState} {m : MachineView} {entries : List LoggedEvent} {m
 
   -- the runs with which the seat has ended jobs, and the jobs that it took from the queue
   pub runs-now : runs_in new.0.own ≡ runs_in old.0.own ++ runs_in entries
-  runs-now = ap runs_in own-now ∙ filter_map-append (λ (n : LoggedEvent). n.ended) old.0.own entries
+  runs-now = ap runs_in own-now ∙ filter_map-append (λ (n : LoggedEvent). n.payload.ended) old.0.own entries
 
   pub takes-now : takes_in new.0.own ≡ takes_in old.0.own ++ takes_in entries
   takes-now = ap takes_in own-now ∙ takes_in-append old.0.own entries
 
   pub tallies-now : (exact : List LoggedEvent) → entries ≡ exact → Tallies old.0.own (picked_in exact) (ended_in exact) new.0.own
   tallies-now exact is = subst (λ (xs : List LoggedEvent). Tallies old.0.own (picked_in xs) (ended_in xs) new.0.own) is (record {
-    picked = λ id. ap (λ (xs : List LoggedEvent). times id (picked_in xs)) own-now ∙ picked-more id old.0.own entries;
-    ended = λ id. ap (λ (xs : List LoggedEvent). times id (ended_in xs)) own-now ∙ ended-more id old.0.own entries;
+    picked = λ id. ap (λ (xs : List LoggedEvent). times id (picked_in xs)) own-now ∙ times-more pick_of id old.0.own entries;
+    ended = λ id. ap (λ (xs : List LoggedEvent). times id (ended_in xs)) own-now ∙ times-more end_of id old.0.own entries;
   })
 
   -- a closing

@@ -2,7 +2,7 @@
 use Rattle.std.specs.Prelude.{◌≡◌, ◌≢◌, ◌⊎◌, ◌↔◌, ℕ, ◌≤◌, ◌<◌, true, List, [], length, slice_index, Contains, Option}
 use mathlib.Core.Option as math
 use Rattle.resil_pool.specs.Words.{Sizes, AreLimits, times, is_among, running, Id, Reply, Submit, LoggedEvent, State}
-use Rattle.resil_pool.specs.declared.lock.logged_event.Note.TheVariants as note
+use Rattle.resil_lock.specs.declared.log.Note.TheVariants as note
 use Rattle.resil_lock.specs.Lock.{holds_lock, is_there}
 use Rattle.resil_lock.specs.BetweenSteps.{IsSeatAt, HasOneHolder, HasNoHolder, IsSlotOut, IsLongest, IsInSlot}
 use Rattle.resil_pool.specs.Lock.{View, closer_number, events_in, picked_in, ended_in, own_in, IsLegalLog, MatchesLog}

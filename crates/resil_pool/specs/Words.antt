@@ -1,4 +1,6 @@
 -- The words of other crates and the types of this one that the definitions and laws here speak of, from one place.
+use Rattle.resil_lock.specs.declared.log.Logged.{Logged}
+use Rattle.resil_pool.specs.declared.lock.logged_event.Carried.{Carried}
 pub use mathlib.Core.List.{IsPrefix}
 pub use Rattle.atomic_table.specs.Seated.{TableId}
 pub use Rattle.resil_decor.specs.Plan.{PlanView}
@@ -15,11 +17,14 @@ pub use Rattle.resil_rule.specs.Admission.{IsAllowed, AreAllowedAfter, IsLegal}
 pub use Rattle.resil_admission.specs.MachineView.{MachineView, AreResultsOf, jobs_in_flight, newly_accepted, with_event, with_submission, with_run, with_finish, IsPicked, ids_of, plan_of, IsSubmitRefusal, HasNoneToPick, AllDone, IsFinishRefusal, next_started}
 pub use Rattle.resil_admission.specs.declared.jobs.Accepted.{Accepted}
 pub use Rattle.resil_admission.specs.declared.row.Row.{Row}
-pub use Rattle.resil_pool.specs.declared.lock.logged_event.LoggedEvent.{LoggedEvent}
-pub use Rattle.resil_pool.specs.declared.lock.logged_event.Note.{Note}
+pub use Rattle.resil_lock.specs.declared.log.Note.{Note}
 pub use Rattle.resil_pool.specs.declared.lock.opening.Opening.{Opening}
 pub use Rattle.resil_pool.specs.declared.lock.state.State.{State}
 pub use Rattle.resil_pool.specs.declared.lock.state.Written.{Written}
 pub use Rattle.resil_pool.specs.declared.receipt.Receipt.{Receipt}
 pub use Rattle.resil_pool.specs.declared.receipt.Ticket.{Ticket}
 pub use Rattle.resil_pool.specs.declared.hold.JobRow.{JobRow}
+
+-- what a turn wrote, with the plan or the run that came with it
+abbrev pub LoggedEvent : Type 0
+LoggedEvent = Logged Carried

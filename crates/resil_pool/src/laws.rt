@@ -7,17 +7,17 @@ ghost use Rattle.resil_lock.specs.declared.protocol.View.{View};
 ghost use Rattle.resil_pool.specs.BetweenTurns.{HoldsBetweenTurns};
 ghost use Rattle.resil_pool.specs.NamedCallers.{IsCallersNumber, KeepsNames, LeavesNames};
 
-use crate::lock::{BoxedState, LoggedEvent, Opening};
+use crate::lock::{LoggedEvent, Opening, State};
 use atomic_table::TableRule;
 use resil_admission::Event;
-use resil_lock::{LockRule, View};
+use resil_lock::{BoxedState, LockRule, View};
 
 /// Between any two steps, whichever threads make them, the word is 1 exactly while one seat holds the turn, and the
 /// machine is in its slot exactly while the word is 0. There is one legal history, the machine's, of which every seat
 /// has seen a prefix with all events of its own. All seats have different numbers. Never more jobs run than the greatest
 /// size of the opening says, and a job that was picked and not ended is one of them.
 pub fn holds_between_turns()
-    ensures { (opening : Opening) (s : table.State (Option Lot) (View Opening LoggedEvent)) → ⟦<LockRule<BoxedState> as TableRule<Option<BoxedState>, View<Opening, LoggedEvent>, Opening>>⟧.holds opening s → HoldsBetweenTurns opening.limits s.words s.homes s.views }
+    ensures { (opening : Opening) (s : table.State (Option Lot) (View Opening LoggedEvent)) → ⟦<LockRule<BoxedState<State>> as TableRule<Option<BoxedState<State>>, View<Opening, LoggedEvent>, Opening>>⟧.holds opening s → HoldsBetweenTurns opening.limits s.words s.homes s.views }
 {}
 
 /// In a pool with this many callers, each submission in the history names one of them, from 1 to their number. It is so

@@ -13,13 +13,14 @@ mod opening;
 mod plan_seen;
 mod state;
 
-pub(crate) use logged_event::{LoggedEvent, Note};
+pub(crate) use logged_event::LoggedEvent;
 pub(crate) use opening::Opening;
 pub(crate) use plan_seen::PlanSeen;
-pub(crate) use state::{BoxedState, State, Written, note_if};
+use resil_lock::BoxedState;
+pub(crate) use state::{State, Written, note_if};
 
 /// The lock over the machine, which threads share.
-pub(crate) type Lock = resil_lock::Lock<BoxedState>;
+pub(crate) type Lock = resil_lock::Lock<BoxedState<State>>;
 
 /// What one thread takes the lock with. Contracts alone see what it has seen of the history, and what its own turns wrote.
-pub(crate) type LockSeat = resil_lock::LockSeat<BoxedState, Opening, LoggedEvent>;
+pub(crate) type LockSeat = resil_lock::LockSeat<BoxedState<State>, Opening, LoggedEvent>;

@@ -10,10 +10,11 @@ ghost use Rattle.resil_pool.specs.declared.pool.OpenError.TheVariants.{Memory};
 ghost use Rattle.resil_pool.specs.Lock.{events_in, closer_view, pool_id, told, IsMoved, WritesAtMost, SeesClosing, WroteCloseAtMost};
 ghost use Rattle.resil_pool.specs.Parts.{new_callers, new_worker};
 
-use crate::lock::{BoxedState, Lock, LockSeat, Note, Opening, State, note_if};
+use crate::lock::{Lock, LockSeat, Opening, State, note_if};
 use crate::parts::{Caller, Closer, Worker};
 use crate::receipt::Receipt;
 use resil_admission::{Event, Limits, Machine};
+use resil_lock::{BoxedState, Note};
 use std::alloc::{AllocError, Global};
 use std::marker::Model;
 use std::sync::Wait;

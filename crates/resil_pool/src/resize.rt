@@ -9,10 +9,11 @@ ghost use Rattle.resil_pool.specs.Lock.{log_event, own_in, SeesMore, told, IsMov
 ghost use Rattle.resil_pool.specs.Parts.{IsSameCaller, submission_of};
 ghost use Rattle.resil_pool.specs.Resize.{SeesResize};
 
-use crate::lock::{Note, State, note_if};
+use crate::lock::{State, note_if};
 use crate::parts::Caller;
 use crate::pool::Pool;
 use resil_admission::{AdmitError, Event, Limits};
+use resil_lock::Note;
 use std::sync::Wait;
 use thiserror::Error;
 

@@ -10,12 +10,13 @@ ghost use Rattle.resil_pool.specs.Lock.{own_in, SeesMore, SeesOwn, told};
 ghost use Rattle.resil_pool.specs.Submit.{AnswersSubmission};
 ghost use Rattle.resil_pool.specs.Parts.{IsSameCaller, receipt_of, submission_of};
 
-use crate::lock::{Note, PlanSeen, State, Written};
+use crate::lock::{PlanSeen, State, Written};
 use crate::parts::Caller;
 use crate::pool::Pool;
 use crate::receipt::{Receipt, Ticket};
 use resil_admission::{AdmitError, Event, Id, Reply};
 use resil_decor::{Job, Plan};
+use resil_lock::Note;
 use std::alloc::Global;
 use std::sync::Wait;
 use thiserror::Error;

@@ -9,18 +9,18 @@
 ghost use Rattle.std.specs.Prelude.{◌≡◌, ◌<◌, ◌++◌, ◌∷◌, [], ℕ, IfSome, Some, None, true, false};
 ghost use Rattle.resil_pool.specs.Words.{IsPrefix, is_among, is_closed, IsAllowed, IsLegal, IsPicked, HasNoneToPick, jobs_in_flight, plan_of, with_event, with_finish};
 ghost use Rattle.resil_lock.specs.Work.{OnFound, OnNothing, OnOver};
-ghost use Rattle.resil_pool.specs.declared.lock.logged_event.Note.TheVariants as note;
+ghost use Rattle.resil_lock.specs.declared.log.Note.TheVariants as note;
 ghost use Rattle.resil_pool.specs.Lock.{events_in, runs_in, finish_of, IsDue, IsSettled, Tallies, told, IsResting, IsMoved, Takes, TookATurn, WritesAtMost};
 ghost use Rattle.resil_pool.specs.Parts.{IsWitness};
 ghost use Rattle.resil_pool.specs.Worker.{EndsIdle, EndsWith, HasNoTake, HasFirstRefusal, HasRunJob, HasRunJobs, HasWorked, IsAtEnd, OnNoJob, HasRunTakes, KeepsPlan, TakesAtMost, WasRefused, takes_in};
 
 use crate::hook::Hook;
-use crate::lock::{LockSeat, Note, State, note_if};
+use crate::lock::{LockSeat, State, note_if};
 use crate::parts::{Worker, WorkerEnd};
 use crate::pool::Pool;
 use resil_admission::{Event, Id};
 use resil_decor::{Job, Permitter, Run};
-use resil_lock::{Look, Looks, Round, Rounds};
+use resil_lock::{Look, Looks, Note, Round, Rounds};
 use std::sync::Wait;
 
 // What was written of a pick: a take where the history has grown, and else the start of a job with a worker of its own.

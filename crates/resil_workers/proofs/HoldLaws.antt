@@ -4,7 +4,7 @@ use mathlib.Core.List.{IsPrefix}
 use Rattle.resil_rule.specs.declared.event.Event.{Event}
 use Rattle.resil_rule.specs.declared.event.Event.TheVariants.{Close}
 use Rattle.resil_pool.specs.declared.hold.JobRow.{JobRow}
-use Rattle.resil_pool.specs.declared.lock.logged_event.LoggedEvent.{LoggedEvent}
+use Rattle.resil_pool.specs.Words.{LoggedEvent}
 use Rattle.resil_pool.specs.Lock.LoggedEvent.{events_in}
 use Rattle.resil_pool.specs.Hold.{BeginsWithRows}
 use Rattle.resil_pool.proofs.Logs.{events_in-append}

@@ -1,35 +1,13 @@
 -- What a seat has seen, the log: what each turn wrote, with the plan beside each submission and the run beside each finish; and how what is seen grows by a call.
-use Rattle.std.specs.Prelude.{ℕ, ◌≡◌, ◌≤◌, ◌==◌, ◌++◌, ◌∷◌, [], Bool, false, List, All, Option, Some, None, map, option_map, filter, if◌then◌else◌}
+use Rattle.std.specs.Prelude.{ℕ, ◌≡◌, ◌≤◌, ◌==◌, ◌∷◌, [], Bool, false, List, All, Option, Some, None, map, option_map, filter, if◌then◌else◌}
 use Rattle.std.specs.List.{filter_map}
-use Rattle.resil_pool.specs.Words.{PlanView, RunView, Sizes, accepted_id, is_same_id, taken, finished, IsLegal, MachineView, Accepted, Row, Id, Event, Submit, Finish, Close, LoggedEvent, Note}
-use Rattle.resil_pool.specs.declared.lock.logged_event.Note.TheVariants as note
+use Rattle.resil_pool.specs.Words.{PlanView, RunView, Sizes, accepted_id, is_same_id, IsLegal, MachineView, Accepted, Row, Id, Event, Submit, Finish, Close, LoggedEvent, Note}
+use Rattle.resil_lock.specs.declared.log.Note.TheVariants as note
 use Rattle.resil_permit.specs.Log.Seen as shared
+pub use Rattle.resil_lock.specs.Log.{event_of, events_in, picked_in, ended_in, IsBalanced}
 
 abbrev pub log_event : Option PlanView → Event → LoggedEvent
-log_event plan event = record { note = note.Event event; plan = plan; ended = None }
-
--- the event that was written, and the job that was picked without one
-abbrev pub event_of : Note → Option Event
-event_of (note.Event event) = Some event
-event_of (note.Started id) = None
-
-abbrev pub started_of : Note → Option Id
-started_of (note.Event event) = None
-started_of (note.Started id) = Some id
-
--- the events alone
-abbrev pub events_in : List LoggedEvent → List Event
-events_in log = filter_map (λ n. event_of n.note) log
-
--- the jobs with a worker of their own that were picked; all that were picked, these first; and those that were ended
-abbrev pub starts_in : List LoggedEvent → List Id
-starts_in log = filter_map (λ n. started_of n.note) log
-
-abbrev pub picked_in : List LoggedEvent → List Id
-picked_in log = starts_in log ++ taken (events_in log)
-
-abbrev pub ended_in : List LoggedEvent → List Id
-ended_in log = finished (events_in log)
+log_event plan event = record { note = note.Event event; payload = record { plan = plan; ended = None } }
 
 -- a submission names a caller from 1 to this many
 abbrev pub NamesCaller : ℕ → Event → Type 0
@@ -70,7 +48,7 @@ accepted_of (note.Event event) = accepted_id event
 accepted_of (note.Started id) = None
 
 abbrev pub logged_plan : LoggedEvent → Option (Id × Option PlanView)
-logged_plan n = option_map (λ id. (id, n.plan)) (accepted_of n.note)
+logged_plan n = option_map (λ id. (id, n.payload.plan)) (accepted_of n.note)
 
 -- the accepted jobs with their plans, in order of acceptance
 abbrev pub plans_in : List LoggedEvent → List (Id × Option PlanView)
@@ -97,18 +75,18 @@ run_ended_by jobs _ = None
 
 -- what a turn wrote, with this plan, that left the machine with these jobs
 abbrev pub logged : Option PlanView → List Accepted → Note → LoggedEvent
-logged plan jobs written = record { note = written; plan = plan; ended = run_ended_by jobs written }
+logged plan jobs written = record { note = written; payload = record { plan = plan; ended = run_ended_by jobs written } }
 
 -- the pick of a job with a worker of its own, and the end of a job with its run
 abbrev pub start_of : Id → LoggedEvent
-start_of id = record { note = note.Started id; plan = None; ended = None }
+start_of id = record { note = note.Started id; payload = record { plan = None; ended = None } }
 
 abbrev pub finish_of : Id → RunView → LoggedEvent
-finish_of id run = record { note = note.Event (Finish id); plan = None; ended = Some (record { id = id; run = run }) }
+finish_of id run = record { note = note.Event (Finish id); payload = record { plan = None; ended = Some (record { id = id; run = run }) } }
 
 -- the runs with which some entries end jobs
 abbrev pub runs_in : List LoggedEvent → List Row
-runs_in log = filter_map (λ n. n.ended) log
+runs_in log = filter_map (λ n. n.payload.ended) log
 
 -- more is seen, a legal history, with no more events of the seat's own
 abbrev pub SeesMore : Sizes → ℕ → List LoggedEvent → List LoggedEvent → Type 0

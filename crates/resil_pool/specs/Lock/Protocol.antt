@@ -9,7 +9,7 @@ use Rattle.resil_lock.specs.Lock.{view_of}
 use Rattle.resil_rule.specs.History.{is_closed}
 use Rattle.resil_admission.specs.MachineView.{HasOneToPick}
 use Rattle.resil_pool.specs.Words.{started, taken, finished, times, Id, MachineView, Accepted, LoggedEvent, Note, Opening, State, Written}
-use Rattle.resil_pool.specs.Lock.LoggedEvent.{AllNameCallers, IsLegalLog, MatchesLog, events_in, starts_in, picked_in, ended_in, logged}
+use Rattle.resil_pool.specs.Lock.LoggedEvent.{AllNameCallers, IsLegalLog, MatchesLog, events_in, picked_in, ended_in, IsBalanced, logged}
 
 -- what a seat knows of the history
 abbrev pub View : Type 0
@@ -27,12 +27,12 @@ LockSeatState = Me (Option State) View
 abbrev pub starts_of : MachineView → List Id
 starts_of machine = take machine.picked (started machine.history)
 
--- The machine stands for its legal history, with the plans of its jobs; each submission there names a caller of the pool; and the jobs with a worker of their own that were picked are those of the log.
+-- The machine stands for its legal history, with the plans of its jobs; each submission there names a caller of the pool; and the jobs that were picked are those of the log.
 pub record IsMachineOf (opening : Opening) (log : List LoggedEvent) (machine : MachineView) : Type 0 where
   pub home : MatchesLog opening.limits log machine
   pub legal : IsLegalLog opening.limits log
   pub names : AllNameCallers opening.callers (events_in log)
-  pub starts : starts_in log ≡ starts_of machine
+  pub picks : (id : Id) → times id (picked_in log) ≡ times id (starts_of machine) + times id (taken machine.history)
   pub within : machine.picked ≤ length (started machine.history)
 
 abbrev pub StandsFor : Opening → List LoggedEvent → State → Type 0
@@ -45,7 +45,7 @@ HasNumber who = (who ≡ rank.Opener) ⊎ (who ≡ rank.Member)
 -- whose seat it is has a number, and it has ended no job that it hadn't picked
 pub record MayHaveWritten (who : Rank) (own : List LoggedEvent) : Type 0 where
   pub numbered : HasNumber who
-  pub balanced : (id : Id) → times id (ended_in own) ≤ times id (picked_in own)
+  pub balanced : IsBalanced own
 
 -- what is noted of a turn that was no submission
 abbrev pub plain : Note → Written

@@ -2,7 +2,7 @@
 use Rattle.std.specs.Prelude.{◌≡◌, ◌≢◌, ◌≤◌, ◌⊎◌, ◌+◌, ℕ, ◌++◌, ◌∷◌, List, [], Option, Some, None, map}
 use Rattle.resil_lock.specs.declared.protocol.Phase.TheVariants.{Idle}
 use Rattle.resil_pool.specs.Words.{TableId, PlanView, Sizes, IsAllowed, Id, MachineView, next_started, Event, Submit, Take, Close, Resized, LoggedEvent, Opening, Note}
-use Rattle.resil_pool.specs.declared.lock.logged_event.Note.TheVariants as note
+use Rattle.resil_lock.specs.declared.log.Note.TheVariants as note
 use Rattle.resil_pool.specs.Lock.LoggedEvent.{log_event, events_in, start_of, closer_number, MatchesLog, plans_in, plan_entry, SeesMore, SeesOwn}
 use Rattle.resil_pool.specs.Lock.Protocol.{LockSeatState}
 
@@ -60,7 +60,7 @@ IsStep plan old (note.Started id) new = (next_started old ≡ Some id) × (new �
 -- the same of a turn, which wrote one entry or none
 abbrev pub IsMoved : MachineView → List LoggedEvent → MachineView → Type 0
 IsMoved old [] new = new ≡ old
-IsMoved old (entry ∷ []) new = IsStep entry.plan old entry.note new
+IsMoved old (entry ∷ []) new = IsStep entry.payload.plan old entry.note new
 IsMoved old (entry ∷ next ∷ entries) new = ⊥
 
 -- a turn wrote the pick of this job, and nothing else

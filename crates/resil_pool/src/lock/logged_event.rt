@@ -1,24 +1,17 @@
 //! What the history that seats see is made of: what each turn wrote, beside a submission the plan of its job, and beside a
 //! finish the run of its job. With the plans in it, the history alone says what each accepted job was to run.
 
-use resil_admission::{Event, Id, Row};
+use resil_admission::Row;
 use resil_decor::Plan;
+use resil_lock::Logged;
 
-/// What a turn wrote.
-#[derive(Clone, Copy)]
-pub enum Note {
-    /// An event.
-    Event(Event),
-    /// The pick of a job that has a worker of its own, which is no event.
-    Started(Id),
-}
-
-/// What a turn wrote, with the plan or the run that came with it. No value of it is made.
-pub struct LoggedEvent {
-    /// What was written.
-    pub note: Note,
+/// The plan or the run that came with what a turn wrote. No value of it is made.
+pub struct Carried {
     /// Of a submission the plan of its job.
     pub plan: Option<Plan>,
     /// Of a finish its job and the run that is kept.
     pub ended: Option<Row>,
 }
+
+/// What a turn wrote, with the plan or the run that came with it.
+pub type LoggedEvent = Logged<Carried>;

@@ -2,12 +2,11 @@
 ghost use Rattle.std.specs.Prelude.{◌≡◌, Some, None, if◌then◌else◌};
 ghost use Rattle.resil_pool.specs.Lock.{plain};
 
-use crate::lock::logged_event::{LoggedEvent, Note};
+use crate::lock::logged_event::LoggedEvent;
 use crate::lock::opening::Opening;
 use crate::lock::plan_seen::PlanSeen;
 use resil_admission::Machine;
-use resil_lock::{Guarded, WithJoins};
-use std::marker::Model;
+use resil_lock::{Guarded, Note, WithJoins};
 
 /// What the last turn wrote, and of a submission the plan.
 #[derive(Drop)]
@@ -23,20 +22,6 @@ pub struct State {
     pub(crate) last: Option<Written>,
 }
 
-/// The state in a block of its own, so that a turn moves a pointer and not the state. Contracts see the state.
-#[derive(Drop)]
-pub struct BoxedState {
-    pub(crate) inner: Box<State>,
-}
-
-impl Model for BoxedState {
-    ghost use Rattle.resil_pool.specs.declared.lock.state.State.{State};
-
-    ghost Value = { State };
-
-    ghost view = { λ b. b.inner.value };
-}
-
 /// What is noted of an act that wrote this, or nothing.
 pub(crate) fn note_if(written: bool, note: Note) -> Option<Written>
     ensures { result ≡ if written then Some (plain note) else None }
@@ -48,7 +33,7 @@ pub(crate) fn note_if(written: bool, note: Note) -> Option<Written>
     }
 }
 
-impl Guarded for BoxedState {
+impl Guarded for State {
     ghost use Rattle.resil_pool.specs.Lock.{is_own, StandsFor, MayHaveWritten, told, HasWork};
 
     type Key = Opening;
@@ -67,10 +52,10 @@ impl Guarded for BoxedState {
 
     /// Whether there is a job to pick, or the pool is closed.
     fn has_work(&self) -> bool {
-        self.inner.machine.closed() || self.inner.machine.can_pick()
+        self.machine.closed() || self.machine.can_pick()
     }
 }
 
-impl WithJoins for BoxedState {
+impl WithJoins for State {
     ghost spent_key = { record { limits = record { core = 1; max = 1; queue = 0 }; callers = 0 } };
 }

@@ -1,6 +1,6 @@
 -- The law.
-use Rattle.resil_executor.proofs.WorkLaws.{only-workers}
+use Rattle.resil_executor.proofs.WorkLaws.{only_workers}
 use Rattle.resil_executor.proofs.theorems.only_workers_pick.Goals as goal
 
 pub returns : goal.returns
-returns g c = only-workers _
+returns g c = only_workers _

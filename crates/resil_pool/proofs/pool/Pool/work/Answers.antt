@@ -1,6 +1,6 @@
 -- What the rounds took was run, and none of it refused.
 use Rattle.std.proofs.Common.{rules, ◌≡◌, List, None, subst, sym}
-use Rattle.resil_pool.specs.declared.lock.logged_event.LoggedEvent.{LoggedEvent}
+use Rattle.resil_pool.specs.Words.{LoggedEvent}
 use Rattle.resil_pool.specs.Parts.{SeatView}
 use Rattle.resil_pool.specs.Worker.{HasRunTakes, takes_in}
 use Rattle.resil_pool.specs.Lock.{runs_in}

@@ -1,7 +1,7 @@
 -- A job that is out is ended: its finish is written, and its run kept.
 use Rattle.std.proofs.Common.{ap, ◌∙◌}
 use Rattle.resil_pool.specs.Words.{Finish, MachineView}
-use Rattle.resil_pool.specs.declared.lock.logged_event.Note.TheVariants as note
+use Rattle.resil_lock.specs.declared.log.Note.TheVariants as note
 use Rattle.resil_pool.specs.Lock.{run_of}
 use Rattle.resil_pool.proofs.RemainingLaws.{run_of-with_run}
 use Rattle.resil_pool.proofs.MachineCalls.{moved-one, finish-step, finish-told}
