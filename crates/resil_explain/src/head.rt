@@ -152,7 +152,7 @@ fn refused_part(told: Told<'_>, table: &Table) -> Option<Part> {
         Subject::Chain => chain_in(told.alloc, table).map(drop),
         Subject::Run(_) => check_run(told.alloc, table),
         // These have one part.
-        Subject::Replay | Subject::Audit | Subject::History | Subject::Weave => {
+        Subject::Replay | Subject::Audit | Subject::History(_) | Subject::Weave => {
             return Some(Part::Head);
         }
     };

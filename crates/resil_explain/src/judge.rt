@@ -2,6 +2,7 @@
 
 use crate::body::read_record;
 use resil_heads::history::read_head;
+use resil_heads::run::RUN_KEYS;
 use resil_input::csv_rows::has_fields;
 use resil_input::framing::split_input;
 use resil_replay::timed;
@@ -17,7 +18,7 @@ fn taken_by_judge(alloc: Global, line: &[u8], input: &[u8]) -> Option<&'static s
     let text = str::from_utf8(line).ok()?.strip_suffix('\n')?;
     let (place, name) = text.strip_prefix("refused ")?.split_once(' ')?;
     if place == "head" {
-        let is_of_run = name == "UnknownKey" && read_head(alloc, head).is_ok();
+        let is_of_run = name == "UnknownKey" && read_head(alloc, RUN_KEYS, head).is_ok();
         return is_of_run.then_some("the head of a `run`");
     }
     if place == "body" {

@@ -44,7 +44,7 @@ fn event_of(row: ReplayRow) -> Event {
 // The limits that the head of a pool gives.
 fn limits_of(told: Told<'_>, head: &[u8]) -> Option<Limits> {
     match told.subject {
-        Subject::History => history::read_head(told.alloc, head).ok(),
+        Subject::History(keys) => Some(history::read_head(told.alloc, keys, head).ok()?.limits),
         _ => read_head(told.alloc, head).ok(),
     }
 }

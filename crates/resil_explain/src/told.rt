@@ -25,8 +25,8 @@ pub(crate) enum Subject {
     Replay,
     /// `audit`.
     Audit,
-    /// A history under the head of its pool or of a `run`, behind which results may stand: `judge`, `stats` and `timeline`.
-    History,
+    /// A history under a head of its pool or of a `run`, of these keys, behind which results may stand: `judge`, `stats` and `timeline`.
+    History(&'static [Key]),
     /// `chain`.
     Chain,
     /// `weave`.
@@ -42,7 +42,8 @@ impl Subject {
             Subject::Replay | Subject::Audit => POOL_KEYS,
             Subject::Chain => CHAIN_KEYS,
             Subject::Weave => WEAVE_KEYS,
-            Subject::History | Subject::Run(_) => RUN_KEYS,
+            Subject::History(keys) => keys,
+            Subject::Run(_) => RUN_KEYS,
         }
     }
 
@@ -50,7 +51,7 @@ impl Subject {
     fn body(self) -> Body {
         match self {
             Subject::Replay => rows::BODY,
-            Subject::Audit | Subject::History => events::BODY,
+            Subject::Audit | Subject::History(_) => events::BODY,
             Subject::Chain => resil_chain::rows::BODY,
             Subject::Weave => resil_weave::rows::BODY,
             Subject::Run(_) => RUN_BODY,
@@ -59,7 +60,7 @@ impl Subject {
 
     // What its bodies of this header may have.
     fn body_under(self, header: &ByteRecord) -> Body {
-        if matches!(self, Subject::History) && has_fields(header, timed::BODY.header) {
+        if matches!(self, Subject::History(_)) && has_fields(header, timed::BODY.header) {
             timed::BODY
         } else {
             self.body()
@@ -68,7 +69,7 @@ impl Subject {
 
     // Whether its rows are events of a pool, to which the rule has an answer.
     fn is_of_pool(self) -> bool {
-        matches!(self, Subject::Replay | Subject::Audit | Subject::History)
+        matches!(self, Subject::Replay | Subject::Audit | Subject::History(_))
     }
 
     // The number of callers that a row may name.
@@ -187,7 +188,7 @@ fn explain_header<R: Eprint>(rt: &R, told: Told<'_>) -> Option<()> {
     if body.has_resizes {
         let header = Listed(body.header, ",");
         eprint!(rt; "resil: or, where the pool is resized, with `{header}`").ok()?;
-        if matches!(told.subject, Subject::History) {
+        if matches!(told.subject, Subject::History(_)) {
             let header = Listed(timed::BODY.header, ",");
             eprint!(rt; ", or, with times, `{header}`").ok()?;
         }

@@ -3,6 +3,7 @@
 use crate::judge::name_judge;
 use crate::place::Shown;
 use crate::told::{Subject, explain};
+use resil_heads::run::{NAMED_KEYS, RUN_KEYS};
 use resil_input::output::Output;
 use resil_words::{Request, Single, UsageError, parse_args};
 use std::alloc::{AllocError, Global};
@@ -127,6 +128,8 @@ pub fn explain_look<R: Eprint + AllocGlobal>(
     if code == 2 {
         explain_look_words(rt, words);
     } else if code == 1 || line.starts_with(b"illegal ") {
-        let _said = explain(rt, Subject::History, line, input.unwrap_or(&[]));
+        let is_judge = words.get(1).is_some_and(|word| *word == "judge");
+        let keys = if is_judge { RUN_KEYS } else { NAMED_KEYS };
+        let _said = explain(rt, Subject::History(keys), line, input.unwrap_or(&[]));
     }
 }

@@ -26,6 +26,8 @@ pub enum Form {
     Wait,
     Flag,
     Text,
+    /// A text of so many characters at most.
+    ShortText(usize),
     /// The kind of a layer.
     Layer,
     Backoff,
@@ -65,6 +67,7 @@ impl fmt::Display for Form {
                     "a number from {least} to {greatest}, without a sign or leading zeros"
                 );
             }
+            Form::ShortText(most) => return write!(f, "a text of at most {most} characters"),
             Form::Tables(name) => return write!(f, "an array of tables, each `[[{name}]]`"),
             Form::AnyInteger => "an integer of 64 bits",
             Form::Wait => "an integer from 0 to 31536000000",
@@ -105,6 +108,7 @@ impl Form {
             (Form::Wait, Value::Integer(integer)) => *integer >= 0,
             (Form::Flag, Value::Boolean(_)) => true,
             (Form::Text, Value::String(_)) => true,
+            (Form::ShortText(most), Value::String(text)) => text.as_str().chars().count() <= most,
             (Form::Layer, Value::String(text)) => {
                 matches!(text.as_str(), "retry" | "bulkhead" | "fallback")
             }

@@ -1,31 +1,65 @@
-//! The head of a history: that of its pool, or that of the `run` which wrote it, whose other keys are read past.
+//! The head of a history: that of its pool, or that of the `run` which wrote it, whose other keys are read past. It may have a name
+//! where the history is counted or drawn.
 //!
 //! It stands below the commands, so that who judges a history depends on no thread.
 
-ghost use Rattle.std.specs.Prelude.{IfOk};
+ghost use Rattle.std.specs.Prelude.{◌≡◌, IfOk, chars, length, nat_lt, string_bytes};
+ghost use Rattle.toml.specs.View.{table_view};
 ghost use Rattle.resil_rule.specs.Limits.{AreLimits};
-ghost use Rattle.resil_heads.specs.Checks.{Gives};
-ghost use Rattle.resil_heads.specs.History.{history_head_of};
+ghost use Rattle.resil_heads.specs.Checks.{GivesBy};
+ghost use Rattle.resil_heads.specs.Document.{keys_of};
+ghost use Rattle.resil_heads.specs.History.{history_head_of, parse_name};
 
 use crate::document::{check_keys, read_document};
 use crate::error::HeadError;
-use crate::run::RUN_KEYS;
+use crate::forms::Key;
+use crate::keys::text_at;
 use crate::sizes::parse_limits;
 use resil_rule::Limits;
 use std::alloc::Global;
+use toml::Table;
 
-/// The limits that the head of a history gives: its keys are those of a `run`, of which only `core`, `max` (workers, both
-/// required) and `queue` (jobs, 100 where it is absent) are looked at.
+/// What the head of a history says.
+#[derive(Drop)]
+pub struct HistoryHead {
+    /// The sizes of its pool.
+    pub limits: Limits,
+    /// Its name, empty where it has none.
+    pub name: String,
+}
+
+// Whether a text has more than 64 characters.
+fn is_long(text: &str) -> bool
+    ensures { result ≡ nat_lt 64 (length (chars text.now)) }
+{
+    text.chars().count() > 64
+}
+
+// The name in a table, empty where it has none. Errors: `BadValue` where it is no text, or one of more than 64 characters.
+fn parse_name(alloc: Global, table: &Table) -> Result<String, HeadError>
+    ensures { GivesBy string_bytes result (parse_name (table_view table.now)) }
+{
+    let name = text_at("name", "", table)?.as_str();
+    if is_long(name) {
+        return Err(HeadError::BadValue);
+    }
+    Ok(name.to_string(alloc)?)
+}
+
+/// What a head of these keys says: the limits that `core`, `max` (workers, both required) and `queue` (jobs, 100 where it is absent)
+/// give, and the text at `name`, of at most 64 characters. The values of other keys aren't looked at.
 ///
 /// # Errors
 ///
-/// The first in this order: `BadToml`; `UnknownKey`; `MissingKey`; `BadValue` of one of the three; `Limits` where the pool refuses
+/// The first in this order: `BadToml`; `UnknownKey`; `MissingKey`; `BadValue` of one of the four; `Limits` where the pool refuses
 /// the sizes. `Memory` may come at any stage.
-pub fn read_head(alloc: Global, bytes: &[u8]) -> Result<Limits, HeadError>
-    ensures answer { Gives result (history_head_of bytes.now) }
-    ensures in_range { IfOk result AreLimits }
+pub fn read_head(alloc: Global, keys: &[Key], bytes: &[u8]) -> Result<HistoryHead, HeadError>
+    ensures answer { GivesBy (λ head. (head.limits, string_bytes head.name)) result (history_head_of (keys_of keys.now) bytes.now) }
+    ensures in_range { IfOk result (λ head. AreLimits head.limits) }
 {
     let table = read_document(alloc, bytes)?;
-    check_keys(RUN_KEYS, &table)?;
-    parse_limits(&table)
+    check_keys(keys, &table)?;
+    let name = parse_name(alloc, &table)?;
+    let limits = parse_limits(&table)?;
+    Ok(HistoryHead { limits, name })
 }

@@ -3,6 +3,7 @@ use Rattle.std.proofs.Common.{◌≡◌, ℕ, List, Option, inl, inr, refl, sym,
 use Rattle.resil_rule.specs.Limits.{Sizes}
 use Rattle.resil_rule.specs.declared.event.Event.{Event}
 use Rattle.resil_heads.specs.CommandError.{IsError, from_body_error}
+use Rattle.resil_heads.specs.Document.{Keys}
 use Rattle.resil_heads.specs.History.{history_head_of}
 use Rattle.resil_heads.specs.Parts.{FitsLimit, SplitsInto}
 use Rattle.resil_heads.specs.declared.command_error.CommandError.TheVariants as error
@@ -14,46 +15,46 @@ use Rattle.resil_stats.specs.Results.{history_part}
 use Rattle.resil_input.specs.declared.output.Output.{Output}
 use Rattle.resil_input.specs.declared.output.Output.TheVariants as output
 use Rattle.resil_input.specs.declared.output.Status.TheVariants as status
-use Rattle.resil_look.specs.Command.{AreRead, IsHistoryRefusal, IsOrderRefusal, IsReadFrom, IsResultsRefusal, IsStatsError}
+use Rattle.resil_look.specs.Command.{AreRead, IsHistoryRefusal, IsOrderRefusal, IsReadFrom, IsResultsRefusal, IsStatsError, head_keys}
 use Rattle.resil_look.specs.Look.{IsRefusedLine, IsRefusedOutput, IsViewOutput}
 use Rattle.resil_look.specs.declared.command.StatsError.{StatsError}
 use Rattle.resil_look.specs.declared.command.StatsError.TheVariants.{Command, BadResult, TimeGoesBack}
 use Rattle.resil_look.specs.declared.command.View.{View}
 
 -- the error of a history that can't be read
-pub history-refused : (input : List ℕ) (limits : Sizes) (body : List ℕ) (why : BodyError) → SplitsInto history_head_of input limits body → IsHistoryBodyError (history_part body) why
-    → IsError (IsHistoryRefusal input) (from_body_error why)
-history-refused input limits body body_error.Memory split is = tt
-history-refused input limits body body_error.BadHeader split is = (limits, body, split, is)
-history-refused input limits body (body_error.BadRow position) split is = (limits, body, split, is)
+pub history-refused : (keys : Keys) (input : List ℕ) (said : Sizes × List ℕ) (body : List ℕ) (why : BodyError) → SplitsInto (history_head_of keys) input said body → IsHistoryBodyError (history_part body) why
+    → IsError (IsHistoryRefusal keys input) (from_body_error why)
+history-refused keys input said body body_error.Memory split is = tt
+history-refused keys input said body body_error.BadHeader split is = (said, body, split, is)
+history-refused keys input said body (body_error.BadRow position) split is = (said, body, split, is)
 
-module _ (input : List ℕ) (limits : Sizes) (history : List Event) (times : Option (List ℕ)) (results : Option (List ℕ)) (why : StatsError) (read : IsReadFrom input limits history times results) where
+module _ (keys : Keys) (input : List ℕ) (limits : Sizes) (name : List ℕ) (history : List Event) (times : Option (List ℕ)) (results : Option (List ℕ)) (why : StatsError) (read : IsReadFrom keys input limits name history times results) where
   -- the error of a history that was read, but not its results
-  pub results-refused : IsResultsRefusal results why → IsStatsError input why
+  pub results-refused : IsResultsRefusal results why → IsStatsError keys input why
   results-refused refused = go why refused
     where
-      go : (why : StatsError) → IsResultsRefusal results why → IsStatsError input why
+      go : (why : StatsError) → IsResultsRefusal results why → IsStatsError keys input why
       go (Command error) refused = rw refused tt
-      go BadResult refused = (limits, history, times, results, read, refused)
+      go BadResult refused = (limits, name, history, times, results, read, refused)
       go (TimeGoesBack position) refused = absurd refused
 
   -- the error of a history that was read with its results, and whose times don't ascend
-  pub order-refused : AreRead results → IsOrderRefusal times why → IsStatsError input why
+  pub order-refused : AreRead results → IsOrderRefusal times why → IsStatsError keys input why
   order-refused are refused = go why refused
     where
-      go : (why : StatsError) → IsOrderRefusal times why → IsStatsError input why
+      go : (why : StatsError) → IsOrderRefusal times why → IsStatsError keys input why
       go (Command error) refused = absurd refused
       go BadResult refused = absurd refused
-      go (TimeGoesBack position) refused = (limits, history, times, results, read, are, refused)
+      go (TimeGoesBack position) refused = (limits, name, history, times, results, read, are, refused)
 
 module _ (view : View) where
   -- an output with the status of a refusal is its line
-  line-output : (input : List ℕ) (out : Output) (line : List ℕ) → status_of out ≡ status.Refused → bytes_of out ≡ line → IsRefusedLine input line → IsViewOutput view input out
-  line-output input (output.Line l) line is same refused = subst (IsRefusedLine input) (sym same) refused
+  line-output : (input : List ℕ) (out : Output) (line : List ℕ) → status_of out ≡ status.Refused → bytes_of out ≡ line → IsRefusedLine (head_keys view) input line → IsViewOutput view input out
+  line-output input (output.Line l) line is same refused = subst (IsRefusedLine (head_keys view) input) (sym same) refused
   line-output input output.NoMemory line is same refused = tt
   line-output input out line is same refused = absurd (cc is)
 
-  pub refused-answers : (input : List ℕ) (why : StatsError) (out : Output) → FitsLimit input → IsStatsError input why → IsRefusedOutput why out → IsViewOutput view input out
+  pub refused-answers : (input : List ℕ) (why : StatsError) (out : Output) → FitsLimit input → IsStatsError (head_keys view) input why → IsRefusedOutput why out → IsViewOutput view input out
   refused-answers input (Command error.Memory) out fits is made = rw made tt
   refused-answers input (Command error.NoThread) out fits is made = absurd is
   refused-answers input (Command (error.Refused why)) out fits is (inl none) = rw none tt

@@ -5,7 +5,8 @@ use Rattle.resil_rule.specs.Verdict.{IsVerdict}
 use Rattle.resil_rule.specs.declared.event.Event.{Event}
 use Rattle.resil_rule.specs.declared.verdict.Verdict.{Verdict}
 use Rattle.resil_heads.specs.CommandError.{IsError}
-use Rattle.resil_heads.specs.History.{history_head_of}
+use Rattle.resil_heads.specs.Document.{Keys}
+use Rattle.resil_heads.specs.History.{history_head_of, history_keys, named_keys}
 use Rattle.resil_heads.specs.Parts.{SplitsInto, IsPartRefusal}
 use Rattle.resil_heads.specs.declared.command_error.CommandError.TheVariants as command_error
 use Rattle.resil_heads.specs.declared.refusal.Refusal.{Refusal}
@@ -26,6 +27,12 @@ use Rattle.resil_look.specs.declared.command.StatsError.TheVariants.{Command, Ba
 use Rattle.resil_look.specs.declared.command.View.{View}
 use Rattle.resil_look.specs.declared.command.View.TheVariants as view
 
+-- the keys of the heads of a view: a name where a history is counted or drawn
+abbrev pub head_keys : View → Keys
+head_keys view.Judge = history_keys
+head_keys view.Stats = named_keys
+head_keys view.Timeline = named_keys
+
 -- ---- The text of a view.
 
 -- the line of the verdict on a history under some limits
@@ -42,11 +49,11 @@ abbrev pub IsNumbersText : Sizes → List Event → Option (List ℕ) → List �
 IsNumbersText limits history times text = (stats : Stats) × (spans : Option Spans)
     × IsStatsOf limits history stats × AreSpansIn (legal_part stats.verdict history) times spans × (text ≡ stats_text stats spans)
 
--- the text of a view of a history: its verdict, its numbers, or its picture
-abbrev pub IsTextOf : View → Sizes → List Event → Option (List ℕ) → List ℕ → Type 0
-IsTextOf view.Judge limits history times text = IsVerdictText limits history text
-IsTextOf view.Stats limits history times text = IsNumbersText limits history times text
-IsTextOf view.Timeline limits history times text = IsHistorySvg limits history times text
+-- the text of a view of a history: its verdict, its numbers, or its picture with this name
+abbrev pub IsTextOf : View → Sizes → List ℕ → List Event → Option (List ℕ) → List ℕ → Type 0
+IsTextOf view.Judge limits name history times text = IsVerdictText limits history text
+IsTextOf view.Stats limits name history times text = IsNumbersText limits history times text
+IsTextOf view.Timeline limits name history times text = IsHistorySvg name limits history times text
 
 -- the text of results can be read, where there is one
 abbrev pub AreRead : Option (List ℕ) → Type 0
@@ -56,21 +63,21 @@ AreRead results = IfSome results (λ text. (rows : List JobResult) × AreResults
 abbrev pub AreInOrder : Option (List ℕ) → Type 0
 AreInOrder times = IfSome times AreAscending
 
--- what is read of an input: the limits of its head, its history, the times of that where it has some, and the text of the results behind it
-abbrev pub IsReadFrom : List ℕ → Sizes → List Event → Option (List ℕ) → Option (List ℕ) → Type 0
-IsReadFrom input limits history times results = (body : List ℕ) × SplitsInto history_head_of input limits body × IsHistoryBody (history_part body) history times
+-- what is read of an input: the limits and the name of its head of these keys, its history, the times of that where it has some, and the text of the results behind it
+abbrev pub IsReadFrom : Keys → List ℕ → Sizes → List ℕ → List Event → Option (List ℕ) → Option (List ℕ) → Type 0
+IsReadFrom keys input limits name history times results = (body : List ℕ) × SplitsInto (history_head_of keys) input (limits, name) body × IsHistoryBody (history_part body) history times
     × (results ≡ option_map (λ parts. parts.1) (results_of body))
 
 -- the text is of a view of the history that is read of the input, whose results can be read and whose times ascend
 abbrev pub IsViewText : View → List ℕ → List ℕ → Type 0
-IsViewText shown input text = (limits : Sizes) × (history : List Event) × (times : Option (List ℕ)) × (results : Option (List ℕ))
-    × IsReadFrom input limits history times results × AreRead results × AreInOrder times × IsTextOf shown limits history times text
+IsViewText shown input text = (limits : Sizes) × (name : List ℕ) × (history : List Event) × (times : Option (List ℕ)) × (results : Option (List ℕ))
+    × IsReadFrom (head_keys shown) input limits name history times results × AreRead results × AreInOrder times × IsTextOf shown limits name history times text
 
 -- ---- Why there is none.
 
 -- the refusal of the first step that refuses the input: its parts, its head, its history
-abbrev pub IsHistoryRefusal : List ℕ → Refusal → Type 0
-IsHistoryRefusal input why = IsPartRefusal history_head_of (λ body error. IsHistoryBodyError (history_part body) error) input why
+abbrev pub IsHistoryRefusal : Keys → List ℕ → Refusal → Type 0
+IsHistoryRefusal keys input why = IsPartRefusal (history_head_of keys) (λ body error. IsHistoryBodyError (history_part body) error) input why
 
 -- why results can't be read: memory ran out, or one of them is no result
 abbrev pub IsResultsRefusal : Option (List ℕ) → StatsError → Type 0
@@ -85,17 +92,17 @@ IsOrderRefusal times BadResult = ⊥
 IsOrderRefusal times (TimeGoesBack position) = (all : List ℕ) × (times ≡ Some all) × GoesBackAt all position
 
 -- the head and the history of the input are read, and its results aren't
-abbrev pub HasBadResult : List ℕ → Type 0
-HasBadResult input = (limits : Sizes) × (history : List Event) × (times : Option (List ℕ)) × (results : Option (List ℕ))
-    × IsReadFrom input limits history times results × IsResultsRefusal results BadResult
+abbrev pub HasBadResult : Keys → List ℕ → Type 0
+HasBadResult keys input = (limits : Sizes) × (name : List ℕ) × (history : List Event) × (times : Option (List ℕ)) × (results : Option (List ℕ))
+    × IsReadFrom keys input limits name history times results × IsResultsRefusal results BadResult
 
 -- the input is read, and the first time that goes back is that of the event at a position
-abbrev pub HasTimeBack : List ℕ → ℕ → Type 0
-HasTimeBack input position = (limits : Sizes) × (history : List Event) × (times : Option (List ℕ)) × (results : Option (List ℕ))
-    × IsReadFrom input limits history times results × AreRead results × IsOrderRefusal times (TimeGoesBack position)
+abbrev pub HasTimeBack : Keys → List ℕ → ℕ → Type 0
+HasTimeBack keys input position = (limits : Sizes) × (name : List ℕ) × (history : List Event) × (times : Option (List ℕ)) × (results : Option (List ℕ))
+    × IsReadFrom keys input limits name history times results × AreRead results × IsOrderRefusal times (TimeGoesBack position)
 
 -- an error of a view
-abbrev pub IsStatsError : List ℕ → StatsError → Type 0
-IsStatsError input (Command error) = IsError (IsHistoryRefusal input) error
-IsStatsError input BadResult = HasBadResult input
-IsStatsError input (TimeGoesBack position) = HasTimeBack input position
+abbrev pub IsStatsError : Keys → List ℕ → StatsError → Type 0
+IsStatsError keys input (Command error) = IsError (IsHistoryRefusal keys input) error
+IsStatsError keys input BadResult = HasBadResult keys input
+IsStatsError keys input (TimeGoesBack position) = HasTimeBack keys input position

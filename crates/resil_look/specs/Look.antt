@@ -1,6 +1,7 @@
 -- What the words of `resil_look` request, and what is written for an input.
 use Rattle.std.specs.Prelude.{ℕ, ◌≡◌, ◌<◌, ◌⊎◌, ◌∷◌, [], List, Option, Some, None, IfSome, codes, if◌then◌else◌, length, string_bytes}
 use Rattle.resil_heads.specs.CommandError.{IsErrorOutput}
+use Rattle.resil_heads.specs.Document.{Keys}
 use Rattle.resil_heads.specs.Parts.{FitsLimit}
 use Rattle.resil_heads.specs.Refusal.{part_line, refusal_line, row_line}
 use Rattle.resil_heads.specs.declared.refusal.Refusal.{Refusal}
@@ -15,7 +16,7 @@ use Rattle.resil_look.specs.declared.command.StatsError.{StatsError}
 use Rattle.resil_look.specs.declared.command.StatsError.TheVariants.{Command, BadResult, TimeGoesBack}
 use Rattle.resil_look.specs.declared.command.View.{View}
 use Rattle.resil_look.specs.declared.command.View.TheVariants.{Judge, Stats, Timeline}
-use Rattle.resil_look.specs.Command.{HasBadResult, HasTimeBack, IsHistoryRefusal, IsViewText}
+use Rattle.resil_look.specs.Command.{HasBadResult, HasTimeBack, IsHistoryRefusal, IsViewText, head_keys}
 
 -- what a word requests
 abbrev pub view_named : List ℕ → Option View
@@ -41,17 +42,17 @@ IsRefusedOutput BadResult out = (out ≡ output.NoMemory) ⊎ ((status_of out �
 IsRefusedOutput (TimeGoesBack position) out = (out ≡ output.NoMemory) ⊎ ((status_of out ≡ status.Refused) × (bytes_of out ≡ time_line position))
 
 -- a line that refuses an input: it is too long, its head or its history is refused, or one of its results, or a time
-abbrev pub IsRefusedLine : List ℕ → List ℕ → Type 0
-IsRefusedLine input line =
+abbrev pub IsRefusedLine : Keys → List ℕ → List ℕ → Type 0
+IsRefusedLine keys input line =
     ((input_limit < length input) × (line ≡ refusal_line refusal.TooLong))
-    ⊎ (FitsLimit input × (why : Refusal) × IsHistoryRefusal input why × (line ≡ refusal_line why))
-    ⊎ (FitsLimit input × HasBadResult input × (line ≡ results_line))
-    ⊎ (FitsLimit input × (position : ℕ) × HasTimeBack input position × (line ≡ time_line position))
+    ⊎ (FitsLimit input × (why : Refusal) × IsHistoryRefusal keys input why × (line ≡ refusal_line why))
+    ⊎ (FitsLimit input × HasBadResult keys input × (line ≡ results_line))
+    ⊎ (FitsLimit input × (position : ℕ) × HasTimeBack keys input position × (line ≡ time_line position))
 
 -- an output of a view for an input: the text, the line that refuses it, or the line that memory ran out
 abbrev pub IsViewOutput : View → List ℕ → Output → Type 0
 IsViewOutput view input (output.Text text) = FitsLimit input × IsViewText view input text.items
-IsViewOutput view input (output.Line line) = IsRefusedLine input (string_bytes line)
+IsViewOutput view input (output.Line line) = IsRefusedLine (head_keys view) input (string_bytes line)
 IsViewOutput view input output.Usage = ⊥
 IsViewOutput view input output.NoMemory = Unit {0}
 IsViewOutput view input output.NoThread = ⊥

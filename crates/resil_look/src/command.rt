@@ -4,16 +4,19 @@
 //! stand behind it. They are read, and a result that can't be read is refused once the history is read; then a time that goes back
 //! is. A history with times is judged as the same one without them.
 
-ghost use Rattle.std.specs.Prelude.{◌≡◌, IfOk, MatchResult, option_map};
+ghost use Rattle.std.specs.Prelude.{◌≡◌, IfOk, MatchResult, option_map, string_bytes};
 ghost use Rattle.resil_heads.specs.CommandError.{IsError};
+ghost use Rattle.resil_heads.specs.Document.{keys_of};
 ghost use Rattle.resil_stats.specs.Results.{history_part, results_of};
 ghost use Rattle.resil_rule.specs.Limits.{Sizes};
 ghost use Rattle.resil_rule.specs.Verdict.{IsVerdict};
 ghost use Rattle.resil_stats.specs.Stats.{legal_part};
-ghost use Rattle.resil_look.specs.Command.{AreInOrder, AreRead, AreSpansIn, IsHistoryRefusal, IsNumbersText, IsOrderRefusal, IsReadFrom, IsResultsRefusal, IsStatsError, IsTextOf, IsVerdictText, IsViewText};
+ghost use Rattle.resil_look.specs.Command.{AreInOrder, AreRead, AreSpansIn, IsHistoryRefusal, IsNumbersText, IsOrderRefusal, IsReadFrom, IsResultsRefusal, IsStatsError, IsTextOf, IsVerdictText, IsViewText, head_keys};
 ghost use Rattle.resil_stats.specs.Svg.{IsHistorySvg};
 
-use resil_heads::history::read_head;
+use resil_heads::forms::Key;
+use resil_heads::history::{HistoryHead, read_head};
+use resil_heads::run::{NAMED_KEYS, RUN_KEYS};
 use resil_heads::{CommandError, Refusal};
 use resil_input::csv_rows::BodyError;
 use resil_input::framing::split_input;
@@ -33,6 +36,18 @@ pub(crate) enum View {
     Stats,
     /// `timeline`: draw a history.
     Timeline,
+}
+
+impl View {
+    // The keys of its heads.
+    fn keys(self) -> &'static [Key]
+        ensures { keys_of result.now ≡ head_keys self }
+    {
+        match self {
+            View::Judge => RUN_KEYS,
+            View::Stats | View::Timeline => NAMED_KEYS,
+        }
+    }
 }
 
 /// Why there is no text.
@@ -57,16 +72,20 @@ fn split_body(body: &[u8]) -> (&[u8], Option<&[u8]>)
     }
 }
 
-// The limits, the history and the text of the results of an input. Errors, in this order: `Refused` as `NoBody`; as
+// What the head says, the history and the text of the results of an input. Errors, in this order: `Refused` as `NoBody`; as
 // `Head`; as `BadHeader` or `BadRow`. `Memory` may come at any step.
-fn read_parts(alloc: Global, input: &[u8]) -> Result<(Limits, History, Option<&[u8]>), CommandError>
-    ensures { MatchResult result (λ read. IsReadFrom input.now read.0 read.1.events.items (option_map (λ times. times.items) read.1.times) (option_map (λ results. results.now) read.2)) (IsError (IsHistoryRefusal input.now)) }
+fn read_parts(
+    alloc: Global,
+    view: View,
+    input: &[u8],
+) -> Result<(HistoryHead, History, Option<&[u8]>), CommandError>
+    ensures { MatchResult result (λ read. IsReadFrom (head_keys view) input.now read.0.limits (string_bytes read.0.name) read.1.events.items (option_map (λ times. times.items) read.1.times) (option_map (λ results. results.now) read.2)) (IsError (IsHistoryRefusal (head_keys view) input.now)) }
 {
     let (head, body) = split_input(input).ok_or(Refusal::NoBody)?;
-    let limits = read_head(alloc, head)?;
+    let said = read_head(alloc, view.keys(), head)?;
     let (history, results) = split_body(body);
     let history = read_history(alloc, history)?;
-    Ok((limits, history, results))
+    Ok((said, history, results))
 }
 
 // The results of a text where there is one, else none. Errors: `Command` of `Memory` where memory runs out; `BadResult`.
@@ -147,32 +166,32 @@ fn times_in(history: &History) -> Option<&[u64]>
 // The text of the picture of a history, with the results of its jobs. Errors: `AllocError` where memory runs out.
 fn drawn(
     alloc: Global,
-    limits: &Limits,
+    head: &HistoryHead,
     history: &History,
     results: &[JobResult],
 ) -> Result<Vec<u8>, AllocError>
-    ensures { IfOk result (λ text. IsHistorySvg limits.now history.now.events.items (option_map (λ times. times.items) history.now.times) text.items) }
+    ensures { IfOk result (λ text. IsHistorySvg (string_bytes head.now.name) head.now.limits history.now.events.items (option_map (λ times. times.items) history.now.times) text.items) }
 {
     let outcomes = Outcomes::of(alloc, results)?;
     let times = times_in(history);
-    let picture = picture_of(alloc, limits, &history.events, times)?;
-    svg_text(alloc, &picture, times, &outcomes)
+    let picture = picture_of(alloc, &head.limits, &history.events, times)?;
+    svg_text(alloc, head.name.as_str(), &picture, times, &outcomes)
 }
 
 // The text of a view of a history, with the results of its jobs. Errors: `AllocError` where memory runs out.
 fn written(
     alloc: Global,
     view: View,
-    limits: &Limits,
+    head: &HistoryHead,
     history: &History,
     results: &[JobResult],
 ) -> Result<Vec<u8>, AllocError>
-    ensures { IfOk result (λ text. IsTextOf view limits.now history.now.events.items (option_map (λ times. times.items) history.now.times) text.items) }
+    ensures { IfOk result (λ text. IsTextOf view head.now.limits (string_bytes head.now.name) history.now.events.items (option_map (λ times. times.items) history.now.times) text.items) }
 {
     match view {
-        View::Judge => judged(alloc, limits, &history.events),
-        View::Stats => counted(alloc, limits, history),
-        View::Timeline => drawn(alloc, limits, history, results),
+        View::Judge => judged(alloc, &head.limits, &history.events),
+        View::Stats => counted(alloc, &head.limits, history),
+        View::Timeline => drawn(alloc, head, history, results),
     }
 }
 
@@ -183,15 +202,15 @@ fn written(
 /// In this order: `Command` of a refusal: as `NoBody`; as `Head`; as `BadHeader` or `BadRow`, as `audit` refuses a history without
 /// times. `BadResult` where a result can't be read. `TimeGoesBack`. `Command` of `Memory` may come at any step.
 pub(crate) fn view_text(alloc: Global, view: View, input: &[u8]) -> Result<Vec<u8>, StatsError>
-    ensures { MatchResult result (λ text. IsViewText view input.now text.items) (IsStatsError input.now) }
+    ensures { MatchResult result (λ text. IsViewText view input.now text.items) (IsStatsError (head_keys view) input.now) }
 {
-    let (limits, history, results) = match read_parts(alloc, input) {
+    let (head, history, results) = match read_parts(alloc, view, input) {
         Ok(read) => read,
         Err(why) => return Err(StatsError::Command(why)),
     };
     let results = known_results(alloc, results)?;
     check_order(&history)?;
-    match written(alloc, view, &limits, &history, &results) {
+    match written(alloc, view, &head, &history, &results) {
         Ok(text) => Ok(text),
         Err(_) => Err(StatsError::Command(CommandError::Memory)),
     }

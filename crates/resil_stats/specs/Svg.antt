@@ -1,5 +1,5 @@
 -- What is known of the text of a picture: how it begins, and how the elements of its bars, refusals and columns do.
-use Rattle.std.specs.Prelude.{ℕ, ◌≡◌, ◌++◌, ◌∷◌, [], List, Option, codes, length}
+use Rattle.std.specs.Prelude.{ℕ, ◌≡◌, ◌==◌, ◌||◌, ◌++◌, ◌∷◌, [], List, Option, chars, codes, encode_utf8, flat_map, if◌then◌else◌, length, nat_lt}
 use Rattle.std.specs.Fmt.{decimal}
 use Rattle.resil_rule.specs.Limits.{Sizes}
 use Rattle.resil_rule.specs.declared.event.Event.{Event}
@@ -17,6 +17,23 @@ use Rattle.resil_stats.specs.declared.picture.Picture.{Picture}
 -- the beginning of a picture of this many events
 abbrev pub opening : ℕ → List ℕ
 opening events = codes "<svg xmlns=\"http://www.w3.org/2000/svg\" data-events=\"" ++ decimal events ++ codes "\""
+
+-- a character as XML has it: white space is a blank, and what is no character there is U+FFFD
+abbrev pub xml_letter : ℕ → List ℕ
+xml_letter c =
+    if c == 38 then codes "&amp;"
+    else if c == 60 then codes "&lt;"
+    else if c == 62 then codes "&gt;"
+    else if c == 34 then codes "&quot;"
+    else if c == 39 then codes "&#39;"
+    else if c == 9 || c == 10 || c == 13 then codes " "
+    else if nat_lt c 32 || c == 65534 || c == 65535 then encode_utf8 65533
+    else encode_utf8 c
+
+-- the line of a name over the title, none where it is empty
+abbrev pub name_line : List ℕ → List ℕ
+name_line name =
+    if length name == 0 then [] else codes "<text x=\"6\" y=\"2\" font-size=\"17\" font-weight=\"bold\">" ++ flat_map xml_letter (chars name) ++ codes "</text>\n"
 
 -- ---- Elements.
 
@@ -89,10 +106,10 @@ IsRestDrawn picture text = (picture.columns.items ≡ [] → IsEachDrawn picture
 abbrev pub IsAddition : (List ℕ → Type 0) → List ℕ → List ℕ → Type 0
 IsAddition known old new = (part : List ℕ) × (new ≡ old ++ part) × known part
 
--- the text of a picture: it begins with the number of the events that are drawn
-abbrev pub IsSvgOf : Picture → List ℕ → Type 0
-IsSvgOf picture text = (rest : List ℕ) × (text ≡ opening (length picture.levels.items) ++ rest) × IsRestDrawn picture rest
+-- the text of a picture: it begins with the number of the events that are drawn, and with the name once the page is laid out
+abbrev pub IsSvgOf : List ℕ → Picture → List ℕ → Type 0
+IsSvgOf name picture text = (page : List ℕ) × (rest : List ℕ) × (text ≡ opening (length picture.levels.items) ++ (page ++ (name_line name ++ rest))) × IsRestDrawn picture rest
 
--- the text of the picture under some limits of a history, whose events may have times
-abbrev pub IsHistorySvg : Sizes → List Event → Option (List ℕ) → List ℕ → Type 0
-IsHistorySvg limits history times text = (picture : Picture) × IsPictureOf limits history times picture × IsSvgOf picture text
+-- the text of the picture, with a name, under some limits of a history, whose events may have times
+abbrev pub IsHistorySvg : List ℕ → Sizes → List Event → Option (List ℕ) → List ℕ → Type 0
+IsHistorySvg name limits history times text = (picture : Picture) × IsPictureOf limits history times picture × IsSvgOf name picture text

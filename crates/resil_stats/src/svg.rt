@@ -29,7 +29,7 @@ use crate::Picture;
 use crate::results::Outcomes;
 use bands::write_bands;
 use elements::push_elements;
-use frame::{ending_text, opening_text, write_frame};
+use frame::{ending_text, ground_text, opening_text, push_name, write_frame};
 use jobs::{write_labels, write_rows, write_running};
 use over::write_over;
 use page::Page;
@@ -148,19 +148,20 @@ fn push_rest(text: &mut String, sheet: &Sheet, picture: &Picture) -> Result<(), 
 }
 
 /// The text of a picture, laid out by the times of its events where they have some, with the results of its jobs. It begins with
-/// the number of the events that are drawn; each bar and each refusal has an element, in their order, or each column where there are
-/// columns.
+/// the number of the events that are drawn, and with a name where that isn't empty; each bar and each refusal has an element, in
+/// their order, or each column where there are columns.
 ///
 /// # Errors
 ///
 /// `AllocError` where memory runs out.
 pub fn svg_text(
     alloc: Global,
+    name: &str,
     picture: &Picture,
     times: Option<&[u64]>,
     outcomes: &Outcomes,
 ) -> Result<Vec<u8>, AllocError>
-    ensures { IfOk result (λ text. IsSvgOf picture.now text.items) }
+    ensures { IfOk result (λ text. IsSvgOf name.now picture.now text.items) }
 {
     let page = Page::of(picture, times);
     let points = points_of(alloc, &page, picture)?;
@@ -171,6 +172,8 @@ pub fn svg_text(
         outcomes,
     };
     let mut text = opening_text(alloc, picture.levels.len())?;
+    push_part(&mut text, ground_text(&sheet, picture, name))?;
+    push_name(&mut text, name)?;
     match push_rest(&mut text, &sheet, picture) {
         Ok(()) => Ok(text.into_bytes()),
         Err(error) => Err(error),

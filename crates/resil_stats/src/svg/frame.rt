@@ -1,7 +1,7 @@
 //! What stands around the bands: the title, the first illegal event, the legend, the grid with its axis, the last lines.
 
-ghost use Rattle.std.specs.Prelude.{◌≡◌, IfOk, string_bytes};
-ghost use Rattle.resil_stats.specs.Svg.{opening};
+ghost use Rattle.std.specs.Prelude.{◌≡◌, ◌++◌, IfOk, OnOk, string_bytes};
+ghost use Rattle.resil_stats.specs.Svg.{name_line, opening, xml_letter};
 
 use super::Draft;
 use super::jobs::JobName;
@@ -23,6 +23,58 @@ pub(crate) fn opening_text(alloc: Global, events: usize) -> Result<String, Alloc
     ensures { IfOk result (λ text. string_bytes text ≡ opening events) }
 {
     format!(in alloc; "<svg xmlns=\"http://www.w3.org/2000/svg\" data-events=\"{events}\"")
+}
+
+/// The rest of the first element, and the ground, which begins a line higher where there is a name.
+/// Errors: `AllocError` where memory runs out.
+pub(crate) fn ground_text(
+    sheet: &Sheet,
+    picture: &Picture,
+    name: &str,
+) -> Result<String, AllocError> {
+    let mut draft = Draft::new(sheet.alloc);
+    let (line, top, y) = if name.is_empty() {
+        (0, "0", "")
+    } else {
+        (24, "-24", r#" y="-24""#)
+    };
+    let lower = if picture.illegal.is_some() { 24 } else { 0 };
+    let height = sheet.page.end().and(lower).and(line);
+    line!(draft; r#" viewBox="0 {top} 800 {height}" width="800" height="{height}" font-family="sans-serif" font-size="16" fill="{INK}">"#);
+    line!(draft; r#"<rect{y} width="800" height="{height}" fill="{PAPER}"/>"#);
+    draft.finish()
+}
+
+// Adds a character as XML has it. Errors: `AllocError` where memory runs out.
+fn push_letter(text: &mut String, letter: char) -> Result<(), AllocError>
+    ensures { OnOk result (string_bytes text.new ≡ string_bytes text.old ++ xml_letter letter) }
+{
+    match letter {
+        '&' => text.push_str("&amp;"),
+        '<' => text.push_str("&lt;"),
+        '>' => text.push_str("&gt;"),
+        '"' => text.push_str("&quot;"),
+        '\'' => text.push_str("&#39;"),
+        '\t' | '\n' | '\r' => text.push(' '),
+        '\0'..' ' | '\u{fffe}' | '\u{ffff}' => text.push('\u{fffd}'),
+        _ => text.push(letter),
+    }
+}
+
+/// Adds the line of a name, over the sizes, where that isn't empty: 64 letters of it have room.
+/// Errors: `AllocError` where memory runs out.
+pub(crate) fn push_name(text: &mut String, name: &str) -> Result<(), AllocError>
+    ensures { OnOk result (string_bytes text.new ≡ string_bytes text.old ++ name_line name.now) }
+{
+    if name.is_empty() {
+        return Ok(());
+    }
+    text.push_str(r#"<text x="6" y="2" font-size="17" font-weight="bold">"#)?;
+    for letter in name.chars() {
+        push_letter(text, letter)?;
+    }
+    text.push_str("</text>\n")?;
+    Ok(())
 }
 
 // Writes the sizes that the pool was opened with.
@@ -175,9 +227,6 @@ fn write_grid(draft: &mut Draft, page: &Page, events: usize) {
 /// Writes what stands around the bands, and begins the group in which they are: one line lower where an event is illegal.
 pub(crate) fn write_frame(draft: &mut Draft, page: &Page, picture: &Picture) {
     let lower = if picture.illegal.is_some() { 24 } else { 0 };
-    let height = page.end().and(lower);
-    line!(draft; r#" viewBox="0 0 800 {height}" width="800" height="{height}" font-family="sans-serif" font-size="16" fill="{INK}">"#);
-    line!(draft; r#"<rect width="800" height="{height}" fill="{PAPER}"/>"#);
     write_opening_sizes(draft, picture);
     write_facts(draft, picture);
     if let Some(illegal) = picture.illegal {

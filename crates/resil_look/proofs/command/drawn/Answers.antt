@@ -1,4 +1,4 @@
-use Rattle.std.proofs.Common.{option_map}
+use Rattle.std.proofs.Common.{option_map, string_bytes}
 use Rattle.std.proofs.lemmas.Result.{IfOk-weaker}
 use Rattle.resil_stats.specs.Svg.{IsHistorySvg, IsSvgOf}
 use Rattle.resil_look.proofs.command.drawn.Goals as goal
@@ -6,7 +6,7 @@ use Rattle.resil_look.proofs.command.drawn.Goals as goal
 pub returns : goal.returns
 returns c =
     let is = rw (c.deref.ensures.value, c.times_in-times.ensures) at c.in_ok-picture.ensures in
-    IfOk-weaker c.svg_text.result (λ text. IsSvgOf c.in_ok-picture.picture text.items)
-    (λ text. IsHistorySvg c.args.limits.now c.args.history.now.events.items (option_map (λ times. times.items) c.args.history.now.times) text.items)
+    IfOk-weaker c.svg_text.result (λ text. IsSvgOf (string_bytes c.args.head.now.name) c.in_ok-picture.picture text.items)
+    (λ text. IsHistorySvg (string_bytes c.args.head.now.name) c.args.head.now.limits c.args.history.now.events.items (option_map (λ times. times.items) c.args.history.now.times) text.items)
     (λ text drawn. (c.in_ok-picture.picture, record { opening = is.limits; events = is.events; numbers = is.numbers; bars = is.bars; marks = is.marks; levels = is.levels; columns = is.columns; areas = is.areas; illegal = is.illegal }, drawn))
-    c.svg_text.ensures
+    (rw c.as_str.ensures.value at c.svg_text.ensures)
