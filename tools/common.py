@@ -81,7 +81,7 @@ def build_programs():
 
 def called(words):
     """The words of a command, behind the program that answers it."""
-    return [os.environ["RESIL_LOOK_BUILT" if words[:1] in (["judge"], ["stats"], ["timeline"]) else "RESIL_BUILT"], *words]
+    return [os.environ["RESIL_LOOK_BUILT" if words[:1] in (["judge"], ["stats"], ["timeline"], ["simulate"]) else "RESIL_BUILT"], *words]
 
 
 def lay_out_cases(folder):

@@ -189,7 +189,7 @@ build_programs() {
 take_program() {
     top=resil
     program=${RESIL_BUILT:-}
-    if [[ $1 == judge || $1 == stats || $1 == timeline ]]; then
+    if [[ $1 == judge || $1 == stats || $1 == timeline || $1 == simulate ]]; then
         top=resil_look
         program=${RESIL_LOOK_BUILT:-}
     fi

@@ -152,7 +152,7 @@ fn refused_part(told: Told<'_>, table: &Table) -> Option<Part> {
         Subject::Chain => chain_in(told.alloc, table).map(drop),
         Subject::Run(_) => check_run(told.alloc, table),
         // These have one part.
-        Subject::Replay | Subject::Audit | Subject::History(_) | Subject::Weave => {
+        Subject::Replay | Subject::Audit | Subject::History(_) | Subject::Weave | Subject::Load => {
             return Some(Part::Head);
         }
     };
@@ -228,7 +228,16 @@ fn fault_in<'a>(
             )
         }
         "BadName" => Some(Fault::Name("name", table.get("name")?.as_str()?)),
-        "MaxOutOfRange" => Some(Fault::Greatest(table.get("core")?.as_integer()?)),
+        "MaxOutOfRange" => match (
+            table.get("core")?.as_integer(),
+            table.get("max")?.as_integer(),
+        ) {
+            (Some(core), Some(_)) => Some(Fault::Greatest(core)),
+            _ => Some(Fault::Other(
+                "max",
+                "a greatest size is from 1 to 64, and one of them at least is no lower than a core size",
+            )),
+        },
         "TooManyCalls" => Some(Fault::Calls(calls_in(head)?)),
         _ => {
             let (key, said) = (key_of(name), said_of(name)?);

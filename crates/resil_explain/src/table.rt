@@ -47,6 +47,9 @@ pub(crate) fn said_of(name: &str) -> Option<&'static str> {
         "TooLong" => "an input has at most 1048576 bytes",
         "CoreOutOfRange" => "the core size is from 1 to 64",
         "QueueOutOfRange" => "the queue has 1 to 65536 places",
+        "ManyPools" => "with `--history` there is one combination of the sizes",
+        "TimeTooLate" =>
+            "its time, all runs up to it and `idle_for` come to at most 18446744073709551615 together",
         "TooManyPermits" => "there are at most 65535 permits",
         "ReservedName" => "the configuration `default` is there already, and has 25 permits",
         "NoSuchConfig" => "a configuration is one of the table `permits`, or `default`",

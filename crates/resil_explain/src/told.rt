@@ -9,6 +9,7 @@ use csv::ByteRecord;
 use resil_chain::head::CHAIN_KEYS;
 use resil_heads::answer::answer_to;
 use resil_heads::forms::{Body, Key};
+use resil_heads::load::LOAD_KEYS;
 use resil_heads::run::{RUN_BODY, RUN_KEYS};
 use resil_input::csv_rows::has_fields;
 use resil_input::framing::split_input;
@@ -33,6 +34,8 @@ pub(crate) enum Subject {
     Weave,
     /// `run`, with the number of its callers.
     Run(u16),
+    /// `simulate`.
+    Load,
 }
 
 impl Subject {
@@ -44,6 +47,7 @@ impl Subject {
             Subject::Weave => WEAVE_KEYS,
             Subject::History(keys) => keys,
             Subject::Run(_) => RUN_KEYS,
+            Subject::Load => LOAD_KEYS,
         }
     }
 
@@ -55,6 +59,7 @@ impl Subject {
             Subject::Chain => resil_chain::rows::BODY,
             Subject::Weave => resil_weave::rows::BODY,
             Subject::Run(_) => RUN_BODY,
+            Subject::Load => resil_heads::load::LOAD_BODY,
         }
     }
 
@@ -70,6 +75,14 @@ impl Subject {
     // Whether its rows are events of a pool, to which the rule has an answer.
     fn is_of_pool(self) -> bool {
         matches!(self, Subject::Replay | Subject::Audit | Subject::History(_))
+    }
+
+    // The place of the time in a row that has one.
+    fn time_place(self) -> usize {
+        match self {
+            Subject::Load => 0,
+            _ => 6,
+        }
     }
 
     // The number of callers that a row may name.
@@ -212,7 +225,8 @@ fn explain_row<R: Eprint>(rt: &R, told: Told<'_>, row: usize, name: &str) -> Opt
     }
     if name == "TimeGoesBack" {
         let before = read_record(told.alloc, body, row.saturating_sub(1))??;
-        let (time, earlier) = (Shown(record.get(6)?), Shown(before.get(6)?));
+        let place = told.subject.time_place();
+        let (time, earlier) = (Shown(record.get(place)?), Shown(before.get(place)?));
         return eprintln!(rt;
             "resil: row {row}, {line}its time {time} is lower than that of the row before it, {earlier}"
         ).ok();

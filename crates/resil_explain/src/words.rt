@@ -14,7 +14,7 @@ use std::rt::Env;
 // How many words are looked at.
 const MOST_WORDS: usize = 64;
 
-// The commands of `resil_look`.
+// The commands of `resil_look` that take no more words.
 const LOOK_COMMANDS: &[&str] = &["judge", "stats", "timeline"];
 
 /// The words that a program was started with, as texts (beyond the port). Errors: `Usage` where a word is no text, `NoMemory`.
@@ -84,6 +84,14 @@ fn explain_words<R: Eprint>(rt: &R, alloc: Global, words: &[&str]) {
 // The same of the words of `resil_look`.
 fn explain_look_words<R: Eprint>(rt: &R, words: &[&str]) {
     match words.get(1) {
+        Some(word) if *word == "simulate" => {
+            let has_history = words.get(2).is_some_and(|word| *word == "--history");
+            say_words(
+                rt,
+                words.get(if has_history { 3 } else { 2 }),
+                "the command simulate takes --history, and no more words",
+            );
+        }
         Some(word) if LOOK_COMMANDS.contains(word) => {
             say_words(
                 rt,
@@ -91,7 +99,11 @@ fn explain_look_words<R: Eprint>(rt: &R, words: &[&str]) {
                 "the commands judge, stats and timeline take no more words",
             );
         }
-        word => say_words(rt, word, "the commands are judge, stats and timeline"),
+        word => say_words(
+            rt,
+            word,
+            "the commands are judge, stats, timeline and simulate",
+        ),
     }
 }
 
@@ -117,7 +129,7 @@ pub fn explain_command<R: Eprint + AllocGlobal>(
     }
 }
 
-/// The same of `resil_look`, whose inputs are histories.
+/// The same of `resil_look`, whose inputs are histories, and of `simulate` a load.
 pub fn explain_look<R: Eprint + AllocGlobal>(
     rt: &R,
     words: &[&str],
@@ -128,8 +140,11 @@ pub fn explain_look<R: Eprint + AllocGlobal>(
     if code == 2 {
         explain_look_words(rt, words);
     } else if code == 1 || line.starts_with(b"illegal ") {
-        let is_judge = words.get(1).is_some_and(|word| *word == "judge");
-        let keys = if is_judge { RUN_KEYS } else { NAMED_KEYS };
-        let _said = explain(rt, Subject::History(keys), line, input.unwrap_or(&[]));
+        let subject = match words.get(1) {
+            Some(word) if *word == "simulate" => Subject::Load,
+            Some(word) if *word == "judge" => Subject::History(RUN_KEYS),
+            _ => Subject::History(NAMED_KEYS),
+        };
+        let _said = explain(rt, subject, line, input.unwrap_or(&[]));
     }
 }

@@ -9,6 +9,7 @@ pub mod LayerBuild
 pub mod LayerBulkheads
 pub mod LayerValues
 pub mod Layers
+pub mod Load
 pub mod Parts
 pub mod Ranges
 pub mod Refusal

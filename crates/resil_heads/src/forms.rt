@@ -21,6 +21,8 @@ pub enum Form {
     Integer(i64, i64),
     /// An integer of a head that is read where it is from 0 to 4,294,967,295, and then taken from the least to the greatest.
     Count(u32, u32),
+    /// One such integer, or an array of 1 to 8 of them.
+    Sizes(u32, u32),
     AnyInteger,
     /// Milliseconds of a head, of which a retry waits so many at most.
     Wait,
@@ -60,6 +62,12 @@ impl fmt::Display for Form {
             }
             Form::Count(least, greatest) => {
                 return write!(f, "an integer from {least} to {greatest}");
+            }
+            Form::Sizes(least, greatest) => {
+                return write!(
+                    f,
+                    "an integer from {least} to {greatest}, or an array of 1 to 8 of them"
+                );
             }
             Form::Number(least, greatest) => {
                 return write!(
@@ -103,7 +111,10 @@ impl Form {
             (Form::Integer(least, greatest), Value::Integer(integer)) => {
                 least <= *integer && *integer <= greatest
             }
-            (Form::Count(..), value) => is_count(value),
+            (Form::Sizes(..), Value::Array(items)) => {
+                matches!(items.len(), 1..=8) && items.iter().all(is_count)
+            }
+            (Form::Count(..) | Form::Sizes(..), value) => is_count(value),
             (Form::AnyInteger, Value::Integer(_)) => true,
             (Form::Wait, Value::Integer(integer)) => *integer >= 0,
             (Form::Flag, Value::Boolean(_)) => true,

@@ -1,7 +1,7 @@
 //! What the commands have in common beside their bytes: the parts of their heads, and why an input is refused.
 //!
 //! Each command has its head in its own crate. Here are the TOML table and its keys (`document`), what keys and bodies
-//! may have (`forms`), the values at keys (`keys`), the three sizes of a pool (`sizes`), the head of a history (`history`), and the layers around a call with the bulkheads that they name (`layers`). `bulkheads` reads a text that names
+//! may have (`forms`), the values at keys (`keys`), the three sizes of a pool (`sizes`), the head of a history (`history`) and that of a load (`load`), and the layers around a call with the bulkheads that they name (`layers`). `bulkheads` reads a text that names
 //! the bulkheads of a service, by the same tables. The error of each step of a command becomes a `CommandError` by `?`
 //! (`command_error`), and all lines of refusals are made by one module (`refusal`). `answer` says in words what the rule answers to
 //! an event that it doesn't carry out.
@@ -16,6 +16,7 @@ pub mod forms;
 pub mod history;
 pub mod keys;
 pub mod layers;
+pub mod load;
 mod refusal;
 pub mod run;
 pub mod sizes;

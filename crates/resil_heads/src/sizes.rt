@@ -25,7 +25,7 @@ pub const QUEUE: Key = Key::Optional("queue", Form::Count(1, 65_536));
 
 // The capacity of the queue where a head names none, in jobs (Resilience4j user guide, Bulkhead,
 // `queueCapacity`).
-const DEFAULT_QUEUE: u32 = 100;
+pub(crate) const DEFAULT_QUEUE: u32 = 100;
 
 /// The limits that a table gives by its keys `core` and `max` (workers) and `queue` (jobs, 100
 /// where it is absent). It takes no memory.

@@ -19,6 +19,10 @@ use Rattle.resil_look.specs.Command.{AreRead, IsHistoryRefusal, IsOrderRefusal, 
 use Rattle.resil_look.specs.Look.{IsRefusedLine, IsRefusedOutput, IsViewOutput}
 use Rattle.resil_look.specs.declared.command.StatsError.{StatsError}
 use Rattle.resil_look.specs.declared.command.StatsError.TheVariants.{Command, BadResult, TimeGoesBack}
+use Rattle.resil_look.specs.Simulate.{IsSimulateLine, IsSimulateOutput, IsSimulateRefused}
+use Rattle.resil_simulate.specs.Command.{IsSimulateError}
+use Rattle.resil_simulate.specs.declared.command.SimulateError.{SimulateError}
+use Rattle.resil_simulate.specs.declared.command.SimulateError.TheVariants as why_not
 use Rattle.resil_look.specs.declared.command.View.{View}
 
 -- the error of a history that can't be read
@@ -63,3 +67,23 @@ module _ (view : View) where
   refused-answers input BadResult out fits is (inr line) = line-output input out _ line.0 line.1 (inr (inr (inl (fits, is, refl))))
   refused-answers input (TimeGoesBack position) out fits is (inl none) = rw none tt
   refused-answers input (TimeGoesBack position) out fits is (inr line) = line-output input out _ line.0 line.1 (inr (inr (inr (fits, position, is, refl))))
+
+-- ---- A load.
+
+-- an output with the status of a refusal is its line
+load-line : (IsText : List ℕ → List ℕ → Type 0) (input : List ℕ) (out : Output) (line : List ℕ) → status_of out ≡ status.Refused → bytes_of out ≡ line → IsSimulateLine input line → IsSimulateOutput IsText input out
+load-line IsText input (output.Line l) line is same refused = subst (IsSimulateLine input) (sym same) refused
+load-line IsText input output.NoMemory line is same refused = tt
+load-line IsText input out line is same refused = absurd (cc is)
+
+pub simulate-answers : (IsText : List ℕ → List ℕ → Type 0) (input : List ℕ) (why : SimulateError) (out : Output) → FitsLimit input → IsSimulateError input why → IsSimulateRefused why out → IsSimulateOutput IsText input out
+simulate-answers IsText input (why_not.Command error.Memory) out fits is made = rw made tt
+simulate-answers IsText input (why_not.Command error.NoThread) out fits is made = absurd is
+simulate-answers IsText input (why_not.Command (error.Refused why)) out fits is (inl none) = rw none tt
+simulate-answers IsText input (why_not.Command (error.Refused why)) out fits is (inr line) = load-line IsText input out _ line.0 line.1 (inr (fits, why_not.Command (error.Refused why), is, refl))
+simulate-answers IsText input why_not.ManyPools out fits is (inl none) = rw none tt
+simulate-answers IsText input why_not.ManyPools out fits is (inr line) = load-line IsText input out _ line.0 line.1 (inr (fits, why_not.ManyPools, is, refl))
+simulate-answers IsText input (why_not.TimeGoesBack position) out fits is (inl none) = rw none tt
+simulate-answers IsText input (why_not.TimeGoesBack position) out fits is (inr line) = load-line IsText input out _ line.0 line.1 (inr (fits, why_not.TimeGoesBack position, is, refl))
+simulate-answers IsText input (why_not.TimeTooLate position) out fits is (inl none) = rw none tt
+simulate-answers IsText input (why_not.TimeTooLate position) out fits is (inr line) = load-line IsText input out _ line.0 line.1 (inr (fits, why_not.TimeTooLate position, is, refl))

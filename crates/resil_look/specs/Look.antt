@@ -1,5 +1,5 @@
 -- What the words of `resil_look` request, and what is written for an input.
-use Rattle.std.specs.Prelude.{ℕ, ◌≡◌, ◌<◌, ◌⊎◌, ◌∷◌, [], List, Option, Some, None, IfSome, codes, if◌then◌else◌, length, string_bytes}
+use Rattle.std.specs.Prelude.{ℕ, ◌≡◌, ◌<◌, ◌&&◌, ◌⊎◌, ◌∷◌, [], List, Option, Some, None, IfSome, codes, if◌then◌else◌, length, option_map, string_bytes}
 use Rattle.resil_heads.specs.CommandError.{IsErrorOutput}
 use Rattle.resil_heads.specs.Document.{Keys}
 use Rattle.resil_heads.specs.Parts.{FitsLimit}
@@ -16,15 +16,25 @@ use Rattle.resil_look.specs.declared.command.StatsError.{StatsError}
 use Rattle.resil_look.specs.declared.command.StatsError.TheVariants.{Command, BadResult, TimeGoesBack}
 use Rattle.resil_look.specs.declared.command.View.{View}
 use Rattle.resil_look.specs.declared.command.View.TheVariants.{Judge, Stats, Timeline}
+use Rattle.resil_look.specs.declared.look.Request.{Request}
+use Rattle.resil_look.specs.declared.look.Request.TheVariants as request
+use Rattle.resil_look.specs.declared.look.Request.TheVariants.{Simulate}
+use Rattle.resil_look.specs.declared.simulate.Shown.TheVariants as shown
+use Rattle.resil_look.specs.Simulate.{IsSimulateOutput, text_of}
 use Rattle.resil_look.specs.Command.{HasBadResult, HasTimeBack, IsHistoryRefusal, IsViewText, head_keys}
 
--- what a word requests
+-- the view that a word requests
 abbrev pub view_named : List ℕ → Option View
 view_named word = if is_same word (codes "judge") then Some Judge else if is_same word (codes "stats") then Some Stats else if is_same word (codes "timeline") then Some Timeline else None
 
+-- what a word alone requests
+abbrev pub request_named : List ℕ → Option Request
+request_named word = if is_same word (codes "simulate") then Some (Simulate shown.Numbers) else option_map request.View (view_named word)
+
 -- what the words request, of which the first is the program's name
-abbrev pub requested : List (List ℕ) → Option View
-requested (name ∷ word ∷ []) = view_named word
+abbrev pub requested : List (List ℕ) → Option Request
+requested (name ∷ word ∷ []) = request_named word
+requested (name ∷ word ∷ option ∷ []) = if is_same word (codes "simulate") && is_same option (codes "--history") then Some (Simulate shown.History) else None
 requested _ = None
 
 -- the line of a result that can't be read
@@ -57,7 +67,12 @@ IsViewOutput view input output.Usage = ⊥
 IsViewOutput view input output.NoMemory = Unit {0}
 IsViewOutput view input output.NoThread = ⊥
 
+-- an output of what is requested for an input
+abbrev pub IsRequestOutput : Request → List ℕ → Output → Type 0
+IsRequestOutput (request.View view) input out = IsViewOutput view input out
+IsRequestOutput (Simulate shown) input out = IsSimulateOutput (text_of shown) input out
+
 -- an output for what the words request and an input, where the reader tells its bytes
-abbrev pub IsLooked : Option View → Option (List ℕ) → Output → Type 0
+abbrev pub IsLooked : Option Request → Option (List ℕ) → Output → Type 0
 IsLooked None input out = out ≡ output.Usage
-IsLooked (Some view) input out = IfSome input (λ bytes. IsViewOutput view bytes out)
+IsLooked (Some request) input out = IfSome input (λ bytes. IsRequestOutput request bytes out)

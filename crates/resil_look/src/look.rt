@@ -9,25 +9,49 @@ ghost use Rattle.resil_input.specs.Io.{ConsumesAtMost, IsInput, input_limit};
 ghost use Rattle.resil_input.specs.Output.{IsWritten, code_of};
 ghost use Rattle.resil_input.specs.declared.output.Output.{Output};
 ghost use Rattle.resil_input.specs.declared.output.Status.{Status};
-ghost use Rattle.resil_look.specs.Look.{IsLooked, IsRefusedOutput, IsViewOutput, requested, view_named};
+ghost use Rattle.resil_look.specs.Look.{IsLooked, IsRefusedOutput, IsRequestOutput, IsViewOutput, request_named, requested, view_named};
 
 use crate::command::{StatsError, View, view_text};
+use crate::simulate::{Shown, simulate_output};
 use resil_heads::{CommandError, Refusal, error_output};
 use resil_input::io::{Input, InputReader, OutputWriter, ReadError, read_input};
 use resil_input::output::{Output, write_output};
 use std::alloc::{AllocError, Global};
 
-// What the words request, of which the first is the program's name.
-fn requested(words: &[&str]) -> Option<View>
-    ensures { result ≡ requested (map (λ word. word.now) words.now) }
-{
-    if words.len() != 2 {
-        return None;
-    }
-    view_named(words[1])
+/// What the words request.
+#[derive(Clone, Copy, Debug, PartialEq, Eq)]
+pub(crate) enum Request {
+    /// A view of a history.
+    View(View),
+    /// What a load comes to.
+    Simulate(Shown),
 }
 
-// What a word requests.
+// What the words request, of which the first is the program's name.
+fn requested(words: &[&str]) -> Option<Request>
+    ensures { result ≡ requested (map (λ word. word.now) words.now) }
+{
+    match *words {
+        [_, word] => request_named(word),
+        [_, word, option] if word == "simulate" && option == "--history" => {
+            Some(Request::Simulate(Shown::History))
+        }
+        _ => None,
+    }
+}
+
+// What a word alone requests.
+fn request_named(word: &str) -> Option<Request>
+    ensures { result ≡ request_named word.now }
+{
+    if word == "simulate" {
+        return Some(Request::Simulate(Shown::Numbers));
+    }
+    let view = view_named(word)?;
+    Some(Request::View(view))
+}
+
+// The view that a word requests.
 fn view_named(word: &str) -> Option<View>
     ensures { result ≡ view_named word.now }
 {
@@ -42,8 +66,8 @@ fn view_named(word: &str) -> Option<View>
     }
 }
 
-// The output of a line that was made, or `NoMemory` where memory ran out for it.
-fn line_output(made: Result<String, AllocError>) -> Output
+/// The output of a line that was made, or `NoMemory` where memory ran out for it.
+pub(crate) fn line_output(made: Result<String, AllocError>) -> Output
     ensures { MatchResult made (λ line. result ≡ Output.Line line) (λ _. result ≡ Output.NoMemory) }
 {
     match made {
@@ -78,6 +102,16 @@ fn view_output(alloc: Global, view: View, input: &Input) -> Output
     }
 }
 
+// The output of what is requested for what was read of an input.
+fn request_output(alloc: Global, request: Request, input: &Input) -> Output
+    ensures { (bytes : List ℕ) → IsInput bytes input.now → IsRequestOutput request bytes result }
+{
+    match request {
+        Request::View(view) => view_output(alloc, view, input),
+        Request::Simulate(shown) => simulate_output(alloc, shown, input),
+    }
+}
+
 // The output for the words and for what a reader gives. Errors: a read failed.
 fn output_for<R: InputReader>(
     alloc: Global,
@@ -89,12 +123,12 @@ fn output_for<R: InputReader>(
     ensures failed { R.has_failed reader.new ≡ (R.has_failed reader.old || is_err result) }
     ensures unread { requested (map (λ word. word.now) words.now) ≡ None → reader.new ≡ reader.old }
 {
-    let Some(view) = requested(words) else {
+    let Some(request) = requested(words) else {
         return Ok(Output::Usage);
     };
     match read_input(alloc, reader) {
         Ok(input) => {
-            let output = view_output(alloc, view, &input);
+            let output = request_output(alloc, request, &input);
             if let Input::Whole(bytes) = input {
                 reader.take_back(bytes);
             }

@@ -1,10 +1,12 @@
-//! The program `resil_look`: what a history comes to: a verdict, numbers, and a picture.
+//! The program `resil_look`: what a history comes to: a verdict, numbers, and a picture; and what
+//! a load comes to.
 //!
 //! It hands its words, its standard input and its standard output to `look`.
 #![tactic(auto)]
 
 mod command;
 mod look;
+mod simulate;
 
 use resil_explain::{explain_look, start};
 use std::process::ExitCode;

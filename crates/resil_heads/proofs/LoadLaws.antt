@@ -1,0 +1,31 @@
+-- Laws of the pools of a load: they are limits, and how many there are.
+use Rattle.std.proofs.Common.{◌≡◌, ◌≤◌, ◌*◌, ◌∷◌, ℕ, true, List, [], All, filter, flat_map, length, length-append, arith}
+use Rattle.std.proofs.lemmas.Bool.Decides.{nat_tests}
+use Rattle.std.proofs.lemmas.List.{length-map}
+use Rattle.std.proofs.lemmas.List.Elements.{All-weaker, filter_passes}
+use Rattle.std.proofs.lemmas.List.Sums.{count_by-le-length, length-filter}
+use Rattle.resil_rule.specs.Limits.{AreLimits, Sizes}
+use Rattle.resil_heads.specs.Load.{combinations, is_pool, with_maxes, with_queues}
+
+-- what is kept are limits
+pub are_limits : (all : List Sizes) → All AreLimits (filter is_pool all)
+are_limits all =
+    All-weaker (λ sizes. is_pool sizes ≡ true) AreLimits (λ sizes pool. record { core = grind (arith, nat_tests, pool); max = grind (arith, nat_tests, pool); queue = grind (arith, nat_tests, pool) })
+    (filter is_pool all) (filter_passes is_pool all)
+
+-- of three lists of at most 8 there are at most 512 combinations
+few-flat_map : {A B : Type 0} (f : A → List B) (n : ℕ) → ((x : A) → length (f x) ≤ n) → (xs : List A) → length (flat_map f xs) ≤ length xs * n
+few-flat_map f n few [] = omega arith
+few-flat_map f n few (x ∷ xs) =
+    let here = few x in
+    let rest = few-flat_map f n few xs in
+    rw (length-append (f x) (flat_map f xs)) (omega arith)
+
+pub few-pools : (cores maxes queues : List ℕ) → length cores ≤ 8 → length maxes ≤ 8 → length queues ≤ 8 → length (filter is_pool (combinations cores maxes queues)) ≤ 512
+few-pools cores maxes queues c m q =
+    let kept : length (filter is_pool (combinations cores maxes queues)) ≤ length (combinations cores maxes queues) =
+    rw length-filter (count_by-le-length is_pool (combinations cores maxes queues)) in
+    let each : (core : ℕ) → length (with_maxes maxes queues core) ≤ 64 =
+    λ core. let all = few-flat_map (with_queues queues core) 8 (λ max. rw length-map q) maxes in omega arith in
+    let all : length (combinations cores maxes queues) ≤ length cores * 64 = few-flat_map (with_maxes maxes queues) 64 each cores in
+    omega arith

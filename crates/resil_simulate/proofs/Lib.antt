@@ -1,0 +1,4 @@
+mod CommandLaws
+pub mod LoadLaws
+pub mod NumberLaws
+pub mod TableLaws

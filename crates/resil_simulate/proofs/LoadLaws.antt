@@ -1,0 +1,67 @@
+-- The jobs of rows are a load, where times ascend and each job is in time.
+use Rattle.std.proofs.Common.{◌≡◌, ◌<◌, ◌+◌, ◌∷◌, [], ◌++◌, ◌∙◌, ℕ, zero, suc, List, Some, get_or, length, map, slice_get, slice_index, take, refl, ap, sym, add-one, arith}
+use Rattle.std.specs.List.{enumerate_from, sum}
+use Rattle.std.proofs.lemmas.List.Sums.{sum-map, sum_by_more}
+use Rattle.resil_replay.specs.Timed.{AreAscending}
+use Rattle.resil_virtual.specs.Load.{IsLoad, of_caller, runs_of, times_of}
+use Rattle.resil_virtual.specs.declared.arrival.Arrival.{Arrival}
+use Rattle.resil_simulate.specs.declared.rows.Row.{Row}
+use Rattle.resil_simulate.specs.Load.{AreInTime, arrival_at, arrivals_of, end_of}
+
+-- a job, for what is never read
+abbrev pub no_job : Arrival
+no_job = record { id = record { caller = 0; number = 0 }; at = 0; takes = 0 }
+
+time-here : (jobs : List Arrival) (i : ℕ) (d a : Arrival) → i < length jobs → get_or jobs i d ≡ a → slice_index (times_of jobs) i ≡ a.at
+time-here [] i d a lt is = absurd (omega arith)
+time-here (j ∷ jobs) zero d a lt is = ap (λ (x : Arrival). x.at) is
+time-here (j ∷ jobs) (suc i) d a lt is = time-here jobs i d a (omega arith) is
+
+-- the runs up to a job, and its end
+pub runs-more : (jobs : List Arrival) (i : ℕ) (d : Arrival) → i < length jobs
+    → sum (runs_of (take (i + 1) jobs)) ≡ sum (runs_of (take i jobs)) + (get_or jobs i d).takes
+runs-more jobs i d lt = let takes = λ (a : Arrival). a.takes in rw (sum-map takes (take (i + 1) jobs), sum-map takes (take i jobs)) (sum_by_more takes jobs i d lt)
+
+pub end-here : (idle_for : ℕ) (jobs : List Arrival) (i : ℕ) (d : Arrival) → i < length jobs
+    → end_of idle_for jobs i ≡ (get_or jobs i d).at + (sum (runs_of (take i jobs)) + (get_or jobs i d).takes) + idle_for
+end-here idle_for jobs i d lt =
+    let at = time-here jobs i d _ lt refl in
+    let more = rw add-one at (runs-more jobs i d lt) in
+    rw (at, more) refl
+
+-- ---- The jobs of rows from a number on.
+
+abbrev jobs_from : ℕ → List Row → List Arrival
+jobs_from p rows = map arrival_at (enumerate_from p rows)
+
+push-from : (p : ℕ) (rows : List Row) (i : ℕ) (d : Row) → i < length rows
+    → jobs_from p (take i rows) ++ arrival_at (i + p, get_or rows i d) ∷ [] ≡ jobs_from p (take (suc i) rows)
+push-from p [] i d lt = absurd (omega arith)
+push-from p (r ∷ rows) zero d lt = ap (λ n. arrival_at (n, r) ∷ []) (omega arith)
+push-from p (r ∷ rows) (suc i) d lt =
+    let place : i + (p + 1) ≡ suc i + p = omega arith in
+    ap (λ l. arrival_at (p, r) ∷ l) (rw place at (push-from (p + 1) rows i d (omega arith)))
+
+pub arrivals_push : (rows : List Row) (i : ℕ) (d : Row) → i < length rows
+    → arrivals_of (take i rows) ++ arrival_at (i + 1, get_or rows i d) ∷ [] ≡ arrivals_of (take (i + 1) rows)
+arrivals_push rows i d lt = rw add-one (rw add-one at (push-from 1 rows i d lt))
+
+-- a job of rows is of caller 1, and has the number of its place among them
+numbered : (p : ℕ) (rows : List Row) (k : ℕ) (a : Arrival) → slice_get (jobs_from p rows) k ≡ Some a
+    → (a.id.caller ≡ 1) × (a.id.number ≡ p + length (of_caller 1 (take k (jobs_from p rows))))
+    × (k < length (jobs_from p rows)) × (get_or (jobs_from p rows) k no_job ≡ a)
+numbered p [] k a is = absurd (cc is)
+numbered p (r ∷ rows) zero a is =
+    let same : arrival_at (p, r) ≡ a = cc is in
+    (ap (λ (x : Arrival). x.id.caller) (sym same), ap (λ (x : Arrival). x.id.number) (sym same) ∙ omega arith, omega arith, same)
+numbered p (r ∷ rows) (suc k) a is =
+    let (caller, number, within, here) = numbered (p + 1) rows k a is in
+    (caller, omega (arith, number), omega (arith, within), here)
+
+pub is_load : (idle_for : ℕ) (rows : List Row) → AreAscending (times_of (arrivals_of rows)) → AreInTime idle_for (arrivals_of rows)
+    → IsLoad idle_for (arrivals_of rows)
+is_load idle_for rows ascend in_time = record {
+  ascending = ascend;
+  numbered = λ k a is. let (caller, number, within, here) = numbered 1 rows k a is in rw caller (omega (arith, number));
+  in_time = λ k a is. let (caller, number, within, here) = numbered 1 rows k a is in rw (time-here (arrivals_of rows) k no_job a within here) at (in_time k within);
+}

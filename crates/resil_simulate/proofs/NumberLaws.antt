@@ -1,0 +1,99 @@
+-- Numbers over the time of a history, event by event, and how large they get.
+use Rattle.std.proofs.Common.{◌≡◌, ◌≤◌, ◌<◌, ◌+◌, ◌-◌, ◌*◌, ◌^◌, [], ℕ, zero, suc, Bool, false, cond, inl, inr, Fits, w64, List, get_or, length, slice_get, slice_index, take, refl, sym, add-one, arith}
+use Rattle.std.specs.Option.{option_map_or}
+use Rattle.std.proofs.lemmas.Bool.{cases_Bool}
+use Rattle.std.proofs.lemmas.Option.{slice_get-get_or}
+use Rattle.std.proofs.Math.Nat.{mul-le-mul_right}
+use Rattle.resil_replay.specs.Timed.{AreAscending}
+use Rattle.resil_rule.specs.Admission.{IsLegal}
+use Rattle.resil_rule.specs.History.{workers}
+use Rattle.resil_rule.specs.Limits.{Sizes}
+use Rattle.resil_rule.specs.declared.event.Id.{Id}
+use Rattle.resil_rule.specs.declared.event.Event.{Event}
+use Rattle.resil_rule.specs.declared.event.Event.TheVariants.{Finish}
+use Rattle.resil_rule.proofs.RunningLaws.{running-within_workers}
+use Rattle.resil_rule.proofs.WorkerLaws.{workers-within_opening}
+use Rattle.resil_stats.specs.Stats.{AreCountsOf, IsLoadAfter}
+use Rattle.resil_stats.specs.declared.stats.Counts.{Counts}
+use Rattle.resil_stats.specs.declared.stats.Load.{Load}
+use Rattle.resil_stats.proofs.LegalLaws.{allowed-take}
+use Rattle.resil_simulate.specs.Numbers.{HasTimes, area, is_finish, running_count, to_finish}
+
+-- ---- A number over time.
+
+module _ (events : List Event) (times : List ℕ) (number : List Event → ℕ) where
+  -- up to the next event
+  area-next : (i : ℕ)
+      → area number events times i ≡ area number events times (i - 1) + number (take i events) * (slice_index times i - slice_index times (i - 1))
+  area-next zero = let none : slice_index times 0 - slice_index times 0 ≡ 0 = omega arith in rw none (grind arith)
+  area-next (suc i) = let before : suc i - 1 ≡ i = omega arith in rw before refl
+
+  -- a number that is at most 64 is at most 64 times the time
+  area-small : ((k : ℕ) → number (take k events) ≤ 64) → AreAscending times → (i : ℕ) → i < length times
+      → area number events times i ≤ 64 * slice_index times i
+  area-small few ascending zero lt = omega arith
+  area-small few ascending (suc i) lt =
+      let before = area-small few ascending i (omega (arith, lt)) in
+      let later = rw add-one at (ascending i (omega (arith, lt))) in
+      let more = mul-le-mul_right (slice_index times (suc i) - slice_index times i) (few (suc i)) in
+      omega (arith, before, later, more)
+
+  -- up to the last finish, with one more event
+  pub finish-next : (i : ℕ) (d : Event) (b : Bool) → i < length events → is_finish (get_or events i d) ≡ b
+      → to_finish number events times (i + 1) ≡ cond b (area number events times i) (to_finish number events times i)
+  finish-next i d b lt is = rw (add-one, slice_get-get_or events i d lt, is) refl
+
+pub no_finish : (e : Event) → ((id : Id) → e ≡ Finish id → ⊥) → is_finish e ≡ false
+no_finish (Finish id) other = absurd (other id refl)
+no_finish e other = refl
+
+-- a greater number comes to more
+area-within : (events : List Event) (times : List ℕ) (less more : List Event → ℕ) → ((k : ℕ) → less (take k events) ≤ more (take k events))
+    → (i : ℕ) → area less events times i ≤ area more events times i
+area-within events times less more within zero = omega arith
+area-within events times less more within (suc i) =
+    let before = area-within events times less more within i in
+    let next = mul-le-mul_right (slice_index times (suc i) - slice_index times i) (within (suc i)) in
+    omega (arith, before, next)
+
+-- ---- Of a legal history.
+
+module _ (events : List Event) (times : List ℕ) (has : HasTimes events times) (fits : (k : ℕ) → Fits w64 (slice_index times k)) where
+  before : (k : ℕ) → IsLegal has.legal.0 (take k events)
+  before k = allowed-take has.legal.0 [] events k has.legal.2
+
+  workers-few : (k : ℕ) → workers (take k events) ≤ 64
+  workers-few k = let few = workers-within_opening has.legal.0 (take k events) has.legal.1 (before k) in omega (arith, few, has.legal.1.max)
+
+  -- no more ran than was there, which is small
+  areas-small : (i : ℕ) → i < length events → (area running_count events times i ≤ area workers events times i) × (area workers events times i < 2 ^ 70)
+  areas-small i lt =
+      let small = area-small events times workers workers-few has.ascending i (omega (arith, lt, has.same)) in
+      let fit = fits i in
+      (area-within events times running_count workers (λ k. running-within_workers has.legal.0 (take k events) (before k)) i, omega (arith, small, fit))
+
+  -- what a load adds, up to the next event
+  pub record AreNext (i gap : ℕ) (load : Load) : Type 0 where
+    pub run_time : area running_count events times (i - 1) + load.running * gap ≡ area running_count events times i
+    pub worker_time : area workers events times (i - 1) + load.workers * gap ≡ area workers events times i
+    pub small : (area running_count events times i ≤ area workers events times i) × (area workers events times i < 2 ^ 70)
+
+  pub areas-next : (i gap : ℕ) (load : Load) (counts : Counts) → i < length events → AreCountsOf (take i events) counts
+      → ((limits : Sizes) (h : List Event) → IsLegal limits h → AreCountsOf h counts → IsLoadAfter h load)
+      → gap ≡ slice_index times i - slice_index times (i - 1) → AreNext i gap load
+  areas-next i gap load counts lt are loads is =
+      let after = loads has.legal.0 (take i events) (before i) are in
+      record {
+        run_time = rw (after.running, is) (sym (area-next events times running_count i));
+        worker_time = rw (after.workers, is) (sym (area-next events times workers i));
+        small = areas-small i lt;
+      }
+
+  -- up to the last finish
+  pub finish-small : (k : ℕ) → k ≤ length events
+      → (to_finish running_count events times k ≤ to_finish workers events times k) × (to_finish workers events times k < 2 ^ 70)
+  finish-small zero le = (omega arith, omega arith)
+  finish-small (suc k) le = elim (cases_Bool (option_map_or is_finish (slice_get events k) false)) [
+    | inl is ↦ rw is (areas-small k le)
+    | inr other ↦ rw other (finish-small k (omega (arith, le)))
+  ]

@@ -1,0 +1,7 @@
+use Rattle.std.proofs.Common.{◌≡◌, take}
+use Rattle.resil_simulate.specs.Load.{arrivals_of}
+use Rattle.resil_simulate.proofs.load.arrivals_of.Given as goal
+
+-- the jobs of the rows so far
+abbrev pub invariant-loop-index : goal.invariant-loop-index
+invariant-loop-index l = l.arrivals.items ≡ arrivals_of (take l.index l.rows)

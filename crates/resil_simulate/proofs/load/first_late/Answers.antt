@@ -1,0 +1,23 @@
+use borrow.Author.Count.{below_more}
+use Rattle.std.proofs.Common.{◌≡◌, ◌<◌, ◌+◌, ◌-◌, ◌^◌, arith}
+use Rattle.resil_simulate.specs.Load.{end_of}
+use Rattle.resil_simulate.proofs.LoadLaws.{end-here, no_job, runs-more}
+use Rattle.resil_simulate.proofs.load.first_late.Goals as goal
+
+pub returns-then-from-runs : goal.returns-then-from-runs
+returns-then-from-runs c =
+    let i = c.loop-index.index in
+    let here = end-here c.args.idle_for c.args.arrivals.now i no_job c.loop-index-test.true in
+    let same : i + 1 - 1 ≡ i = omega arith in
+    record { within = (omega arith, omega arith); late = rw same (omega (arith, here)); first = λ k lt. c.loop-index.invariant.in_time k (omega arith) }
+
+pub loop-index-preserved : goal.loop-index-preserved
+loop-index-preserved c =
+    let i = c.loop-index.index in
+    let here = end-here c.args.idle_for c.args.arrivals.now i no_job c.loop-index-test.true in
+    let more = runs-more c.args.arrivals.now i no_job c.loop-index-test.true in
+    record {
+      runs = omega (arith, more);
+      small = omega arith;
+      in_time = below_more (λ k. end_of c.args.idle_for c.args.arrivals.now k < 2 ^ 64) i c.loop-index.invariant.in_time (omega (arith, here));
+    }

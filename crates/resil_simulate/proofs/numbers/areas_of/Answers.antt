@@ -1,0 +1,65 @@
+use Rattle.std.proofs.Common.{◌≡◌, ◌+◌, ◌-◌, ◌∙◌, [], ℕ, List, true, false, ap, arith, take}
+use Rattle.std.proofs.lemmas.List.{length-take-le, take_more}
+use Rattle.resil_rule.specs.History.{workers}
+use Rattle.resil_rule.specs.declared.event.Event.{Event}
+use Rattle.resil_simulate.specs.Numbers.{is_finish, running_count}
+use Rattle.resil_stats.proofs.LegalLaws.{allowed-take, no_event}
+use Rattle.resil_simulate.proofs.NumberLaws.{areas-next, finish-next, no_finish}
+use Rattle.resil_simulate.proofs.numbers.areas_of.Goals as goal
+
+pub load-load-requires : goal.load-load-requires
+load-load-requires c =
+    let (limits, sizes, legal) = c.requires.legal in
+    let i = c.loop-index.index in
+    let few = length-take-le i c.args.events.now (omega arith) in
+    (limits, take i c.args.events.now, allowed-take limits [] c.args.events.now i legal, c.loop-index.invariant.counts, omega (arith, few))
+
+pub overflow_add-so_far : goal.overflow_add-so_far
+overflow_add-so_far c =
+    let i = c.loop-index.index in
+    let was = c.loop-index.invariant in
+    let gap = rw c.saturating_sub.ensures at (c.from-gap.ensures ∙ c.saturating_sub-in-loop-index.ensures) in
+    let next = areas-next _ _ c.requires c.type_inv.times i _ _ _ c.loop-index-test.true was.counts c.load-load.ensures gap in
+    omega (arith, next.run_time, next.small, was.run_time)
+
+pub overflow_add-so_far-in-loop-index : goal.overflow_add-so_far-in-loop-index
+overflow_add-so_far-in-loop-index c =
+    let i = c.loop-index.index in
+    let was = c.loop-index.invariant in
+    let gap = rw c.saturating_sub.ensures at (c.from-gap.ensures ∙ c.saturating_sub-in-loop-index.ensures) in
+    let next = areas-next _ _ c.requires c.type_inv.times i _ _ _ c.loop-index-test.true was.counts c.load-load.ensures gap in
+    omega (arith, next.worker_time, next.small, was.worker_time)
+
+pub loop-index-preserved-in_default : goal.loop-index-preserved-in_default
+loop-index-preserved-in_default c =
+    let i = c.loop-index.index in
+    let was = c.loop-index.invariant in
+    let gap = rw c.saturating_sub.ensures at (c.from-gap.ensures ∙ c.saturating_sub-in-loop-index.ensures) in
+    let next = areas-next _ _ c.requires c.type_inv.times i _ _ _ c.loop-index-test.true was.counts c.load-load.ensures gap in
+    let same : i + 1 - 1 ≡ i = omega arith in
+    let last = λ (number : List Event → ℕ).
+    finish-next c.args.events.now c.args.times.now number i no_event false c.loop-index-test.true (no_finish _ c.in_default.not-Finish) in
+    record {
+      counts = rw (← take_more c.args.events.now i no_event c.loop-index-test.true) at (c.record.ensures _ was.counts);
+      run_time = rw same (omega (arith, next.run_time, was.run_time));
+      worker_time = rw same (omega (arith, next.worker_time, was.worker_time));
+      finished_run = rw (last running_count) was.finished_run;
+      finished_worker = rw (last workers) was.finished_worker;
+    }
+
+pub loop-index-preserved : goal.loop-index-preserved
+loop-index-preserved c =
+    let i = c.loop-index.index in
+    let was = c.loop-index.invariant in
+    let gap = rw c.saturating_sub.ensures at (c.from-gap.ensures ∙ c.saturating_sub-in-loop-index.ensures) in
+    let next = areas-next _ _ c.requires c.type_inv.times i _ _ _ c.loop-index-test.true was.counts c.load-load.ensures gap in
+    let same : i + 1 - 1 ≡ i = omega arith in
+    let last = λ (number : List Event → ℕ).
+    finish-next c.args.events.now c.args.times.now number i no_event true c.loop-index-test.true (ap is_finish c.in-Finish.is) in
+    record {
+      counts = rw (← take_more c.args.events.now i no_event c.loop-index-test.true) at (c.record.ensures _ was.counts);
+      run_time = rw same (omega (arith, next.run_time, was.run_time));
+      worker_time = rw same (omega (arith, next.worker_time, was.worker_time));
+      finished_run = rw (last running_count) (omega (arith, next.run_time, was.run_time));
+      finished_worker = rw (last workers) (omega (arith, next.worker_time, was.worker_time));
+    }

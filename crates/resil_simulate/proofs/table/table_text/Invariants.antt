@@ -1,0 +1,7 @@
+use Rattle.std.proofs.Common.{◌≡◌, string_bytes, take}
+use Rattle.resil_simulate.specs.Table.{pools_text}
+use Rattle.resil_simulate.proofs.table.table_text.Given as goal
+
+-- the records of the pools so far
+abbrev pub invariant-loop-pool : goal.invariant-loop-pool
+invariant-loop-pool l = string_bytes l.text ≡ pools_text (take l.pool-index l.pools)

@@ -1,0 +1,5 @@
+pub mod Command
+pub mod Load
+pub mod Numbers
+pub mod Rows
+pub mod Table

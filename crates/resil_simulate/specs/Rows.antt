@@ -1,0 +1,25 @@
+-- The body of a load: when each job comes, and how long it runs.
+use Rattle.std.specs.Prelude.{ℕ, ◌^◌, ◌∷◌, [], List, Option, codes, get_or, option_and_then, option_map}
+use Rattle.resil_input.specs.CsvRows.{IsBody, IsBodyError}
+use Rattle.resil_input.specs.Number.{parse_from_zero}
+use Rattle.resil_input.specs.declared.csv_rows.BodyError.{BodyError}
+use Rattle.resil_simulate.specs.declared.rows.Row.{Row}
+
+-- the fields of the header
+abbrev pub load_header : List (List ℕ)
+load_header = codes "at" ∷ codes "takes" ∷ []
+
+-- the job that two fields are read as: a time below 2 ^ 64, and a run below 2 ^ 32
+abbrev pub parse_fields : List ℕ → List ℕ → Option Row
+parse_fields at takes = option_and_then (λ t. option_map (λ run. record { at = t; takes = run }) (parse_from_zero (2 ^ 32) takes)) (parse_from_zero (2 ^ 64) at)
+
+-- the job that a record is read as
+abbrev pub parse_row : List (List ℕ) → Option Row
+parse_row fields = parse_fields (get_or fields 0 []) (get_or fields 1 [])
+
+-- a body of these jobs, and why a body has none
+abbrev pub IsLoadBody : List ℕ → List Row → Type 0
+IsLoadBody body rows = IsBody load_header parse_row body rows
+
+abbrev pub IsLoadBodyError : List ℕ → BodyError → Type 0
+IsLoadBodyError body why = IsBodyError load_header parse_row body why

@@ -1,0 +1,76 @@
+//! The bodies of `simulate`: the jobs of a load. All rows are read before anything else is said of them.
+
+ghost use Rattle.std.specs.Prelude.{◌≡◌, ◌^◌, MatchResult};
+ghost use Rattle.csv.specs.Records.{fields_of};
+ghost use Rattle.resil_input.specs.Number.{parse_from_zero};
+ghost use Rattle.resil_simulate.specs.Rows.{IsLoadBody, IsLoadBodyError, parse_row};
+
+use csv::ByteRecord;
+use resil_heads::load::LOAD_BODY;
+use resil_input::csv_rows::{self, BodyError, RowFormat, has_fields};
+use resil_input::fields::{field_at, is_text};
+use resil_input::number::parse_number;
+use std::alloc::{AllocError, Global};
+
+/// A job of a load, in microseconds.
+#[derive(Clone, Copy)]
+pub struct Row {
+    /// When it is submitted, since any start.
+    pub at: u64,
+    /// How long it runs.
+    pub takes: u32,
+}
+
+/// The bodies of `simulate`: the header `at,takes`, and a [`Row`] for each record.
+#[derive(Clone, Copy)]
+pub struct Rows;
+
+impl RowFormat for Rows {
+    type Row = Row;
+
+    ghost use Rattle.resil_simulate.specs.Rows.{load_header, parse_row};
+
+    ghost header = { load_header };
+
+    ghost row_of = { λ _ fields. parse_row fields };
+
+    fn is_header(&self, fields: &ByteRecord) -> bool {
+        has_fields(fields, LOAD_BODY.header)
+    }
+
+    fn row_of(&self, _alloc: Global, fields: &ByteRecord) -> Result<Option<Row>, AllocError> {
+        Ok(parse_row(fields))
+    }
+}
+
+// Reads a number from 0 to 18,446,744,073,709,551,615.
+fn parse_from_zero(field: &[u8]) -> Option<u64>
+    ensures { result ≡ parse_from_zero (2 ^ 64) field.now }
+{
+    if is_text(field, "0") {
+        Some(0)
+    } else {
+        parse_number(field)
+    }
+}
+
+// Reads a job from the fields of a record.
+fn parse_row(fields: &ByteRecord) -> Option<Row>
+    ensures { result ≡ parse_row (fields_of fields.now) }
+{
+    let at = parse_from_zero(field_at(fields, 0))?;
+    let takes = u32::try_from(parse_from_zero(field_at(fields, 1))?).ok()?;
+    Some(Row { at, takes })
+}
+
+/// Reads the jobs of a body of `simulate`, in order.
+///
+/// # Errors
+///
+/// The first that is met: `Memory` where memory runs out; `BadHeader` where the first record is missing or isn't the header; `BadRow`
+/// with the position of the first record that is no job.
+pub fn read_rows(alloc: Global, body: &[u8]) -> Result<Vec<Row>, BodyError>
+    ensures { MatchResult result (λ rows. IsLoadBody body.now rows.items) (IsLoadBodyError body.now) }
+{
+    csv_rows::read_rows(alloc, &Rows, body)
+}

@@ -1,0 +1,4 @@
+mod DueLaws
+mod ListLaws
+mod HistoryLaws
+mod PoolLaws

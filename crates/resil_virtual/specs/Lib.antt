@@ -1,0 +1,3 @@
+pub mod Load
+pub mod Pool
+pub mod Simulated
