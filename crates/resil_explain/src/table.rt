@@ -50,6 +50,9 @@ pub(crate) fn said_of(name: &str) -> Option<&'static str> {
         "ManyPools" => "with `--history` there is one combination of the sizes",
         "TimeTooLate" =>
             "its time, all runs up to it and `idle_for` come to at most 18446744073709551615 together",
+        "NoTakes" => "its job has no finish in the history, and the head has no `takes`",
+        "Illegal" =>
+            "no pool has this history, whatever its sizes: this event isn't allowed behind those before it",
         "TooManyPermits" => "there are at most 65535 permits",
         "ReservedName" => "the configuration `default` is there already, and has 25 permits",
         "NoSuchConfig" => "a configuration is one of the table `permits`, or `default`",

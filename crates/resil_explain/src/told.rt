@@ -65,7 +65,8 @@ impl Subject {
 
     // What its bodies of this header may have.
     fn body_under(self, header: &ByteRecord) -> Body {
-        if matches!(self, Subject::History(_)) && has_fields(header, timed::BODY.header) {
+        let may_have_times = matches!(self, Subject::History(_) | Subject::Load);
+        if may_have_times && has_fields(header, timed::BODY.header) {
             timed::BODY
         } else {
             self.body()
@@ -75,14 +76,6 @@ impl Subject {
     // Whether its rows are events of a pool, to which the rule has an answer.
     fn is_of_pool(self) -> bool {
         matches!(self, Subject::Replay | Subject::Audit | Subject::History(_))
-    }
-
-    // The place of the time in a row that has one.
-    fn time_place(self) -> usize {
-        match self {
-            Subject::Load => 0,
-            _ => 6,
-        }
     }
 
     // The number of callers that a row may name.
@@ -198,16 +191,18 @@ fn explain_header<R: Eprint>(rt: &R, told: Told<'_>) -> Option<()> {
     let body = told.subject.body();
     let header = Listed(body.without_resizes().header, ",");
     eprintln!(rt; "resil: a body begins with the header `{header}`").ok()?;
-    if body.has_resizes {
-        let header = Listed(body.header, ",");
-        eprint!(rt; "resil: or, where the pool is resized, with `{header}`").ok()?;
-        if matches!(told.subject, Subject::History(_)) {
-            let header = Listed(timed::BODY.header, ",");
-            eprint!(rt; ", or, with times, `{header}`").ok()?;
+    let resized = Listed(body.header, ",");
+    let with_times = Listed(timed::BODY.header, ",");
+    match told.subject {
+        Subject::History(_) => eprintln!(rt;
+            "resil: or, where the pool is resized, with `{resized}`, or, with times, `{with_times}`"
+        ).ok(),
+        Subject::Load => eprintln!(rt; "resil: or, of a history, with `{with_times}`").ok(),
+        _ if body.has_resizes => {
+            eprintln!(rt; "resil: or, where the pool is resized, with `{resized}`").ok()
         }
-        eprintln!(rt; "").ok()?;
+        _ => Some(()),
     }
-    Some(())
 }
 
 // Says what a row is refused for, or what the rule answers there.
@@ -216,16 +211,15 @@ fn explain_row<R: Eprint>(rt: &R, told: Told<'_>, row: usize, name: &str) -> Opt
     let header = read_record(told.alloc, body, 0)??;
     let record = read_record(told.alloc, body, row)??;
     let line = line_of(told.input, body, &record);
+    let rows = told.subject.body_under(&header);
     if name == "BadRow" {
-        let subject = told.subject;
-        let body = subject.body_under(&header);
-        let fault = row_fault(body, &record, &header, subject.callers())?;
+        let fault = row_fault(rows, &record, &header, told.subject.callers())?;
         let remark = remark(line.text);
         return eprintln!(rt; "resil: row {row}, {line}{fault}{remark}").ok();
     }
     if name == "TimeGoesBack" {
         let before = read_record(told.alloc, body, row.saturating_sub(1))??;
-        let place = told.subject.time_place();
+        let place = rows.header.iter().position(|column| *column == "at")?;
         let (time, earlier) = (Shown(record.get(place)?), Shown(before.get(place)?));
         return eprintln!(rt;
             "resil: row {row}, {line}its time {time} is lower than that of the row before it, {earlier}"

@@ -1,9 +1,9 @@
 -- What the head of a load says: the sizes of each pool that it is carried out on, and when an idle worker may end, or the one error that
 -- refuses it.
-use Rattle.std.specs.Prelude.{ℕ, ◌==◌, Bool, List, [], ◌∷◌, Result, Ok, Err, codes, filter, flat_map, if◌then◌else◌, is_ok, length, map, nat_le}
+use Rattle.std.specs.Prelude.{ℕ, ◌==◌, Bool, List, [], ◌∷◌, Option, Some, None, Result, Ok, Err, codes, filter, flat_map, if◌then◌else◌, is_ok, length, map, nat_le}
 use Rattle.std.specs.List.{list_all}
 use Rattle.std.specs.Option.{option_map_or}
-use Rattle.toml.specs.Data.{Data, as_array}
+use Rattle.toml.specs.Data.{Data, Members, as_array}
 use Rattle.resil_rule.specs.Limits.{Sizes}
 use Rattle.resil_rule.specs.declared.error.AdmitError.{AdmitError}
 use Rattle.resil_rule.specs.declared.error.AdmitError.TheVariants as refused
@@ -13,10 +13,11 @@ use Rattle.resil_heads.specs.Keys.{each, items_listed, parse_at, parse_count, pa
 use Rattle.resil_heads.specs.Sizes.{build_limits, is_within, required_sizes}
 use Rattle.resil_heads.specs.declared.error.HeadError.{HeadError}
 use Rattle.resil_heads.specs.declared.error.HeadError.TheVariants as error
+use Rattle.resil_heads.specs.declared.load.LoadHead.{LoadHead}
 
 -- the keys of the head
 abbrev pub load_keys : Keys
-load_keys = record { known = codes "core" ∷ codes "max" ∷ codes "queue" ∷ codes "idle_for" ∷ []; required = required_sizes }
+load_keys = record { known = codes "core" ∷ codes "max" ∷ codes "queue" ∷ codes "idle_for" ∷ codes "takes" ∷ []; required = required_sizes }
 
 -- the items of an array, or the one value that is none
 abbrev pub listed : Data → List Data
@@ -53,8 +54,22 @@ pools_from cores maxes queues =
     let pools : List Sizes = filter is_pool (combinations cores maxes queues) in
     if length pools == 0 then Err (error.Limits refused.MaxOutOfRange) else Ok pools)))
 
--- what the bytes of a head say, or the first error: the pools, and after how many microseconds an idle worker may end, of at most 365 days
-unfoldable pub load_head_of : List ℕ → Result (List Sizes × ℕ) HeadError
+-- for how many microseconds a job runs that has no finish, where the head says it
+abbrev pub parse_takes : Members → Result (Option ℕ) HeadError
+parse_takes head = parse_at (λ value. and_then (parse_count value) (λ us. Ok (Some us))) None (codes "takes") head
+
+-- what a head says: the pools, after how many microseconds an idle worker may end, and for how many a job runs that has no finish
+pub record LoadPlan : Type 0 where
+  pub pools : List Sizes
+  pub idle_for : ℕ
+  pub takes : Option ℕ
+
+-- the plan of a head that was read
+abbrev pub plan_of : LoadHead → LoadPlan
+plan_of head = record { pools = head.pools.items; idle_for = head.idle_for; takes = head.takes }
+
+-- what the bytes of a head say, or the first error; an idle worker waits for at most 365 days
+unfoldable pub load_head_of : List ℕ → Result LoadPlan HeadError
 load_head_of bytes =
     and_then (document_of bytes) (λ head.
     and_then (check_keys load_keys head) (λ _.
@@ -63,4 +78,5 @@ load_head_of bytes =
     and_then (parse_at parse_counts (100 ∷ []) (codes "queue") head) (λ queues.
     and_then (parse_at parse_wait 20000 (codes "idle_for") head) (λ us.
     and_then (if nat_le us 31536000000000 then Ok us else Err error.BadValue) (λ idle_for.
-    and_then (pools_from cores maxes queues) (λ pools. Ok (pools, idle_for)))))))))
+    and_then (parse_takes head) (λ takes.
+    and_then (pools_from cores maxes queues) (λ pools. Ok (record { pools = pools; idle_for = idle_for; takes = takes }))))))))))

@@ -1,11 +1,11 @@
-//! The head of a load: the sizes that it is carried out on, one or more for each of the three, and when an idle worker may end. What its
-//! body may have stands here too, below the command.
+//! The head of a load: the sizes that it is carried out on, one or more for each of the three, when an idle worker may end, and how long a
+//! job of a history runs that has no finish there. What a body of jobs may have stands here too, below the command.
 
 ghost use Rattle.std.specs.Prelude.{◌≡◌, ◌≤◌, All, IfOk, filter, length};
-ghost use Rattle.toml.specs.View.{view};
+ghost use Rattle.toml.specs.View.{table_view, view};
 ghost use Rattle.resil_rule.specs.Limits.{AreLimits};
 ghost use Rattle.resil_heads.specs.Checks.{GivesBy};
-ghost use Rattle.resil_heads.specs.Load.{check_each, combinations, is_pool, load_head_of, parse_counts, pools_from};
+ghost use Rattle.resil_heads.specs.Load.{check_each, combinations, is_pool, load_head_of, parse_counts, parse_takes, plan_of, pools_from};
 
 use crate::document::{check_keys, read_document};
 use crate::error::HeadError;
@@ -14,7 +14,7 @@ use crate::keys::{parse_count, required, value_at, wait_at};
 use crate::sizes::DEFAULT_QUEUE;
 use resil_rule::{AdmitError, Limits};
 use std::alloc::{AllocError, Global};
-use toml::Value;
+use toml::{Table, Value};
 
 // After how many microseconds an idle worker may end where a head says none (Resilience4j user guide, Bulkhead, `keepAliveDuration`).
 const DEFAULT_IDLE: u64 = 20_000;
@@ -25,9 +25,10 @@ pub const LOAD_KEYS: &[Key] = &[
     Key::Required("max", Form::Sizes(1, 64)),
     Key::Optional("queue", Form::Sizes(1, 65_536)),
     Key::Optional("idle_for", Form::Integer(0, 31_536_000_000_000)),
+    Key::Optional("takes", Form::Count(0, 4_294_967_295)),
 ];
 
-/// What the bodies may have.
+/// What the bodies of jobs may have.
 pub const LOAD_BODY: Body = Body {
     header: &["at", "takes"],
     forms: &[Form::Number(0, u64::MAX), Form::Number(0, 4_294_967_295)],
@@ -42,6 +43,8 @@ pub struct LoadHead {
     pub pools: Vec<Limits>,
     /// After how many microseconds an idle worker may end.
     pub idle_for: u64,
+    /// For how many microseconds a job of a history runs that has no finish there, if the head says so.
+    pub takes: Option<u32>,
 }
 
 // A number, or the 1 to 8 numbers of an array. Errors: `BadValue`, `Memory`.
@@ -113,18 +116,28 @@ fn pools_from(
     Ok(pools)
 }
 
+// The microseconds at `takes`, if it is there. Errors: `BadValue`.
+fn parse_takes(table: &Table) -> Result<Option<u32>, HeadError>
+    ensures { result ≡ parse_takes (table_view table.now) }
+{
+    match value_at("takes", table) {
+        Some(value) => Ok(Some(parse_count(value)?)),
+        None => Ok(None),
+    }
+}
+
 /// What the head of a load says: a pool for each combination of `core`, `max` (workers, both required) and `queue` (jobs, 100 where
-/// it is absent) whose core size is at most the greatest, in the order of the arrays, the queue quickest; and `idle_for`, from 0 to
-/// 31,536,000,000,000 microseconds, 20,000 where it is absent.
+/// it is absent) whose core size is at most the greatest, in the order of the arrays, the queue quickest; `idle_for`, from 0 to
+/// 31,536,000,000,000 microseconds, 20,000 where it is absent; and `takes`, from 0 to 4,294,967,295 microseconds, `None` where it is absent.
 ///
 /// # Errors
 ///
 /// The first in this order: `BadToml`; `UnknownKey`; `MissingKey`; `BadValue` where a size is neither an integer from 0 to 4,294,967,295
-/// nor an array of 1 to 8 of them, or `idle_for` is out of its range; `Limits` for the first of `core`, `max` and `queue` that has an
+/// nor an array of 1 to 8 of them, or else `idle_for` or `takes` is out of its range; `Limits` for the first of `core`, `max` and `queue` that has an
 /// item out of its range, and for `max` where no combination is left. `Memory` may come at any stage.
 #[tactic(auto, unfolding(crate::specs::Load::load_head_of))]
 pub fn read_load_head(alloc: Global, bytes: &[u8]) -> Result<LoadHead, HeadError>
-    ensures answer { GivesBy (λ head. (head.pools.items, head.idle_for)) result (load_head_of bytes.now) }
+    ensures answer { GivesBy plan_of result (load_head_of bytes.now) }
     ensures in_range { IfOk result (λ head. All AreLimits head.pools.items × (1 ≤ length head.pools.items) × (length head.pools.items ≤ 512)) }
 {
     let table = read_document(alloc, bytes)?;
@@ -139,6 +152,11 @@ pub fn read_load_head(alloc: Global, bytes: &[u8]) -> Result<LoadHead, HeadError
     if idle_for > 31_536_000_000_000 {
         return Err(HeadError::BadValue);
     }
+    let takes = parse_takes(&table)?;
     let pools = pools_from(alloc, &cores, &maxes, &queues)?;
-    Ok(LoadHead { pools, idle_for })
+    Ok(LoadHead {
+        pools,
+        idle_for,
+        takes,
+    })
 }

@@ -11,8 +11,9 @@ use Rattle.resil_input.specs.declared.output.Output.{Output}
 use Rattle.resil_input.specs.declared.output.Output.TheVariants as output
 use Rattle.resil_input.specs.declared.output.Status.TheVariants as status
 use Rattle.resil_simulate.specs.Command.{IsHistoryText, IsSimulateError, IsTableText}
+use Rattle.resil_simulate.specs.Load.{load_name}
 use Rattle.resil_simulate.specs.declared.command.SimulateError.{SimulateError}
-use Rattle.resil_simulate.specs.declared.command.SimulateError.TheVariants.{Command, ManyPools, TimeGoesBack, TimeTooLate}
+use Rattle.resil_simulate.specs.declared.command.SimulateError.TheVariants.{Command, ManyPools, Row}
 use Rattle.resil_look.specs.declared.simulate.Shown.{Shown}
 use Rattle.resil_look.specs.declared.simulate.Shown.TheVariants.{Numbers, History}
 
@@ -26,8 +27,7 @@ abbrev pub error_line : SimulateError → List ℕ
 error_line (Command (command_error.Refused why)) = refusal_line why
 error_line (Command error) = []
 error_line ManyPools = part_line (codes "head") (codes "ManyPools")
-error_line (TimeGoesBack position) = row_line position (codes "TimeGoesBack")
-error_line (TimeTooLate position) = row_line position (codes "TimeTooLate")
+error_line (Row position why) = row_line position (load_name why)
 
 -- the output where there is no text: the line that says why, or that memory ran out
 abbrev pub IsSimulateRefused : SimulateError → Output → Type 0

@@ -28,11 +28,9 @@ fn refused(alloc: Global, error: SimulateError) -> Output
     match error {
         SimulateError::Command(error) => error_output(alloc, error),
         SimulateError::ManyPools => line_output("refused head ManyPools\n".to_string(alloc)),
-        SimulateError::TimeGoesBack(position) => {
-            line_output(format!(in alloc; "refused {position} TimeGoesBack\n"))
-        }
-        SimulateError::TimeTooLate(position) => {
-            line_output(format!(in alloc; "refused {position} TimeTooLate\n"))
+        SimulateError::Row(position, why) => {
+            let name = why.name();
+            line_output(format!(in alloc; "refused {position} {name}\n"))
         }
     }
 }

@@ -90,8 +90,8 @@ impl RowFormat for Rows {
     }
 }
 
-// Reads a time, from 0 to 18,446,744,073,709,551,615.
-fn parse_time(field: &[u8]) -> Option<u64>
+/// Reads a time, from 0 to 18,446,744,073,709,551,615.
+pub fn parse_time(field: &[u8]) -> Option<u64>
     ensures { result ≡ parse_time field.now }
 {
     if is_text(field, "0") {
@@ -110,15 +110,23 @@ fn parse_timed(fields: &ByteRecord) -> Option<Timed>
     Some(Timed { event, at })
 }
 
-// The events alone. Errors: `AllocError` where memory runs out.
-fn events_in(alloc: Global, history: &[Timed]) -> Result<Vec<Event>, AllocError>
+/// The events alone.
+///
+/// # Errors
+///
+/// `AllocError` where memory runs out.
+pub fn events_in(alloc: Global, history: &[Timed]) -> Result<Vec<Event>, AllocError>
     ensures { IfOk result (λ events. events.items ≡ events_in history.now) }
 {
     history.iter().map(|timed| timed.event).collect(alloc)
 }
 
-// The times alone. Errors: `AllocError` where memory runs out.
-fn times_in(alloc: Global, history: &[Timed]) -> Result<Vec<u64>, AllocError>
+/// The times alone.
+///
+/// # Errors
+///
+/// `AllocError` where memory runs out.
+pub fn times_in(alloc: Global, history: &[Timed]) -> Result<Vec<u64>, AllocError>
     ensures { IfOk result (λ times. times.items ≡ times_in history.now) }
 {
     history.iter().map(|timed| timed.at).collect(alloc)

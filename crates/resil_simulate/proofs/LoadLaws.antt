@@ -2,6 +2,7 @@
 use Rattle.std.proofs.Common.{◌≡◌, ◌<◌, ◌+◌, ◌∷◌, [], ◌++◌, ◌∙◌, ℕ, zero, suc, List, Some, get_or, length, map, slice_get, slice_index, take, refl, ap, sym, add-one, arith}
 use Rattle.std.specs.List.{enumerate_from, sum}
 use Rattle.std.proofs.lemmas.List.Sums.{sum-map, sum_by_more}
+use Rattle.std.proofs.lemmas.Option.{get_or_from_slice_get, slice_get_within}
 use Rattle.resil_replay.specs.Timed.{AreAscending}
 use Rattle.resil_virtual.specs.Load.{IsLoad, of_caller, runs_of, times_of}
 use Rattle.resil_virtual.specs.declared.arrival.Arrival.{Arrival}
@@ -49,19 +50,23 @@ arrivals_push rows i d lt = rw add-one (rw add-one at (push-from 1 rows i d lt))
 -- a job of rows is of caller 1, and has the number of its place among them
 numbered : (p : ℕ) (rows : List Row) (k : ℕ) (a : Arrival) → slice_get (jobs_from p rows) k ≡ Some a
     → (a.id.caller ≡ 1) × (a.id.number ≡ p + length (of_caller 1 (take k (jobs_from p rows))))
-    × (k < length (jobs_from p rows)) × (get_or (jobs_from p rows) k no_job ≡ a)
 numbered p [] k a is = absurd (cc is)
 numbered p (r ∷ rows) zero a is =
     let same : arrival_at (p, r) ≡ a = cc is in
-    (ap (λ (x : Arrival). x.id.caller) (sym same), ap (λ (x : Arrival). x.id.number) (sym same) ∙ omega arith, omega arith, same)
+    (ap (λ (x : Arrival). x.id.caller) (sym same), ap (λ (x : Arrival). x.id.number) (sym same) ∙ omega arith)
 numbered p (r ∷ rows) (suc k) a is =
-    let (caller, number, within, here) = numbered (p + 1) rows k a is in
-    (caller, omega (arith, number), omega (arith, within), here)
+    let (caller, number) = numbered (p + 1) rows k a is in
+    (caller, omega (arith, number))
+
+-- jobs that ascend, each with its caller's next number and in time, are a load
+pub load : (idle_for : ℕ) (jobs : List Arrival) → AreAscending (times_of jobs)
+    → ((k : ℕ) (a : Arrival) → slice_get jobs k ≡ Some a → a.id.number ≡ suc (length (of_caller a.id.caller (take k jobs)))) → AreInTime idle_for jobs → IsLoad idle_for jobs
+load idle_for jobs ascend next in_time = record {
+  ascending = ascend;
+  numbered = next;
+  in_time = λ k a is. let within = slice_get_within jobs k a is in rw (time-here jobs k no_job a within (get_or_from_slice_get jobs k a no_job is)) at (in_time k within);
+}
 
 pub is_load : (idle_for : ℕ) (rows : List Row) → AreAscending (times_of (arrivals_of rows)) → AreInTime idle_for (arrivals_of rows)
     → IsLoad idle_for (arrivals_of rows)
-is_load idle_for rows ascend in_time = record {
-  ascending = ascend;
-  numbered = λ k a is. let (caller, number, within, here) = numbered 1 rows k a is in rw caller (omega (arith, number));
-  in_time = λ k a is. let (caller, number, within, here) = numbered 1 rows k a is in rw (time-here (arrivals_of rows) k no_job a within here) at (in_time k within);
-}
+is_load idle_for rows ascend in_time = load idle_for (arrivals_of rows) ascend (λ k a is. let (caller, number) = numbered 1 rows k a is in rw caller (omega (arith, number))) in_time

@@ -1,4 +1,6 @@
 pub mod Command
+pub mod History
+pub mod Legality
 pub mod Load
 pub mod Numbers
 pub mod Rows

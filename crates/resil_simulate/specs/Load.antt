@@ -1,12 +1,18 @@
--- The jobs of a load, by the rows of its body, and why jobs are no load.
-use Rattle.std.specs.Prelude.{ℕ, suc, ◌≤◌, ◌<◌, ◌+◌, ◌-◌, ◌^◌, List, length, map, slice_index, sum, take, ⊤}
+-- The jobs of a load, by the rows of its body or by a history, and why they are none.
+use Rattle.std.specs.Prelude.{ℕ, suc, ◌≡◌, ◌≤◌, ◌<◌, ◌+◌, ◌-◌, ◌^◌, List, Option, Some, None, codes, length, map, slice_get, slice_index, sum, take, unwrap_or, ⊤}
 use Rattle.std.specs.List.{enumerate_from}
-use Rattle.resil_replay.specs.Timed.{AreAscending, GoesBackAt}
+use Rattle.resil_replay.specs.Timed.{AreAscending, GoesBackAt, events_in, times_in}
+use Rattle.resil_replay.specs.declared.timed.Timed.{Timed}
 use Rattle.resil_virtual.specs.Load.{runs_of, times_of}
 use Rattle.resil_virtual.specs.declared.arrival.Arrival.{Arrival}
+use Rattle.resil_simulate.specs.History.{arrivals_by, first_without, submissions_in}
+use Rattle.resil_simulate.specs.Legality.{IsIllegalAt, IsLegalSomewhere}
+use Rattle.resil_simulate.specs.declared.history.Submitted.{Submitted}
 use Rattle.resil_simulate.specs.declared.rows.Row.{Row}
 use Rattle.resil_simulate.specs.declared.load.LoadError.{LoadError}
 use Rattle.resil_simulate.specs.declared.load.LoadError.TheVariants as error
+use Rattle.resil_simulate.specs.declared.load.LoadRefusal.{LoadRefusal}
+use Rattle.resil_simulate.specs.declared.load.LoadRefusal.TheVariants.{NoTakes, Illegal, TimeGoesBack, TimeTooLate}
 
 -- the job of a row at a place, from 1: the submission of caller 1 that has this number
 abbrev pub arrival_at : ℕ × Row → Arrival
@@ -29,8 +35,49 @@ pub record IsTooLateAt (idle_for : ℕ) (arrivals : List Arrival) (position : �
   pub late : 2 ^ 64 ≤ end_of idle_for arrivals (position - 1)
   pub first : (k : ℕ) → k + 1 < position → end_of idle_for arrivals k < 2 ^ 64
 
--- Why jobs are no load: memory ran out; a time is below the one before; or none is, and a job comes too late.
+-- the printed word for why a row is refused
+abbrev pub load_name : LoadRefusal → List ℕ
+load_name NoTakes = codes "NoTakes"
+load_name Illegal = codes "Illegal"
+load_name TimeGoesBack = codes "TimeGoesBack"
+load_name TimeTooLate = codes "TimeTooLate"
+
+-- Why the jobs of rows are no load: memory ran out; a time is below the one before; or none is, and a job comes too late.
 abbrev pub IsLoadError : ℕ → List Arrival → LoadError → Type 0
 IsLoadError idle_for arrivals error.Memory = ⊤
-IsLoadError idle_for arrivals (error.TimeGoesBack position) = GoesBackAt (times_of arrivals) position
-IsLoadError idle_for arrivals (error.TimeTooLate position) = AreAscending (times_of arrivals) × IsTooLateAt idle_for arrivals position
+IsLoadError idle_for arrivals (error.Row position TimeGoesBack) = GoesBackAt (times_of arrivals) position
+IsLoadError idle_for arrivals (error.Row position TimeTooLate) = AreAscending (times_of arrivals) × IsTooLateAt idle_for arrivals position
+IsLoadError idle_for arrivals (error.Row position _) = ⊥
+
+-- ---- Of a history.
+
+-- the place of the first submission that has no finish, where nothing else says how long such a one takes
+abbrev pub lacking : Option ℕ → List Submitted → Option ℕ
+lacking None jobs = first_without jobs
+lacking (Some takes) jobs = None
+
+-- the jobs of a history
+abbrev pub jobs_in : Option ℕ → List Timed → List Arrival
+jobs_in takes history = arrivals_by (unwrap_or takes 0) (submissions_in history)
+
+-- A history that can be carried out: each of its jobs has a run, some pool has it, and its times ascend.
+pub record IsUsable (takes : Option ℕ) (history : List Timed) : Type 0 where
+  pub runs : lacking takes (submissions_in history) ≡ None
+  pub legal : IsLegalSomewhere (events_in history)
+  pub ascending : AreAscending (times_in history)
+
+-- why a history can't be carried out: the first of the three that doesn't hold, at its first row
+abbrev pub IsHistoryError : Option ℕ → List Timed → LoadError → Type 0
+IsHistoryError takes history error.Memory = ⊤
+IsHistoryError takes history (error.Row position NoTakes) = lacking takes (submissions_in history) ≡ Some position
+IsHistoryError takes history (error.Row position Illegal) = (lacking takes (submissions_in history) ≡ None) × IsIllegalAt (events_in history) position
+IsHistoryError takes history (error.Row position TimeGoesBack) =
+    (lacking takes (submissions_in history) ≡ None) × IsLegalSomewhere (events_in history) × GoesBackAt (times_in history) position
+IsHistoryError takes history (error.Row position TimeTooLate) = ⊥
+
+-- why its jobs are no load: it can't be carried out; or it can, and a job comes too late, whose submission stands at the position
+abbrev pub IsHistoryLoadError : ℕ → Option ℕ → List Timed → LoadError → Type 0
+IsHistoryLoadError idle_for takes history (error.Row position TimeTooLate) =
+    IsUsable takes history × (job : ℕ) × IsTooLateAt idle_for (jobs_in takes history) job
+    × (slice_get (map (λ submission. submission.place) (submissions_in history)) (job - 1) ≡ Some position)
+IsHistoryLoadError idle_for takes history why = IsHistoryError takes history why

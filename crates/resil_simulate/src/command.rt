@@ -2,22 +2,21 @@
 
 ghost use Rattle.std.specs.Prelude.{◌≡◌, ◌≢◌, ◌∷◌, [], All, IfNone, IfOk, IfSome, MatchResult, length, map};
 ghost use Rattle.resil_heads.specs.CommandError.{IsError};
-ghost use Rattle.resil_heads.specs.Load.{load_head_of};
+ghost use Rattle.resil_heads.specs.Load.{load_head_of, plan_of};
 ghost use Rattle.resil_heads.specs.Parts.{IsPartRefusal, SplitsInto};
-ghost use Rattle.resil_replay.specs.Timed.{events_in, times_in};
 ghost use Rattle.resil_virtual.specs.Load.{IsLoad};
-ghost use Rattle.resil_simulate.specs.Command.{AreArrivals, IsArrivalsError, IsHistoryText, IsPoolRun, IsSimulateError, IsTableText};
-ghost use Rattle.resil_simulate.specs.Rows.{IsLoadBodyError};
+ghost use Rattle.resil_simulate.specs.Command.{AreArrivals, IsArrivalsError, IsBodyRefused, IsHistoryText, IsPoolRun, IsSimulateError, IsTableText};
 
-use crate::load::{LoadError, load_of};
+use crate::load::{LoadError, LoadRefusal, load_of, load_of_history};
 use crate::numbers::{Numbers, numbers_of};
 use crate::rows::read_rows;
 use crate::table::table_text;
 use resil_heads::load::{LoadHead, read_load_head};
 use resil_heads::{CommandError, Refusal};
+use resil_input::csv_rows::{self, BodyError};
 use resil_input::framing::split_input;
-use resil_replay::timed::{Timed, timed_text};
-use resil_rule::{Event, Limits};
+use resil_replay::timed::{self, events_in, timed_text, times_in};
+use resil_rule::Limits;
 use resil_virtual::{Arrival, simulate};
 use std::alloc::{AllocError, Global};
 
@@ -28,10 +27,8 @@ pub enum SimulateError {
     Command(CommandError),
     /// A history is asked for, and the head has more than one pool.
     ManyPools,
-    /// The time of the job at this position, from 1, is below that of the job before it.
-    TimeGoesBack(usize),
-    /// The time of the job at this position, all runs up to it and the time after which an idle worker may end pass 2^64 - 1.
-    TimeTooLate(usize),
+    /// The row at this position, from 1, can't be carried out.
+    Row(usize, LoadRefusal),
 }
 
 impl From<CommandError> for SimulateError {
@@ -66,44 +63,46 @@ impl From<LoadError> for SimulateError {
     fn from(why: LoadError) -> SimulateError {
         match why {
             LoadError::Memory => SimulateError::Command(CommandError::Memory),
-            LoadError::TimeGoesBack(position) => SimulateError::TimeGoesBack(position),
-            LoadError::TimeTooLate(position) => SimulateError::TimeTooLate(position),
+            LoadError::Row(position, why) => SimulateError::Row(position, why),
         }
+    }
+}
+
+impl From<BodyError> for SimulateError {
+    ghost use Rattle.std.specs.Prelude.{◌≡◌};
+    ghost use Rattle.resil_heads.specs.CommandError.{from_body_error};
+    ghost use Rattle.resil_simulate.specs.declared.command.SimulateError.TheVariants.{Command};
+
+    ghost from_gives = { λ why error. error ≡ Command (from_body_error why) };
+
+    fn from(why: BodyError) -> SimulateError {
+        SimulateError::Command(CommandError::from(why))
     }
 }
 
 // What the head of an input says, and its body. Errors, in this order: `Refused` as `NoBody`; as `Head`. `Memory` may come at any step.
 fn read_parts(alloc: Global, input: &[u8]) -> Result<(LoadHead, &[u8]), CommandError>
-    ensures { MatchResult result (λ read. SplitsInto load_head_of input.now (read.0.pools.items, read.0.idle_for) read.1.now) (IsError (IsPartRefusal load_head_of IsLoadBodyError input.now)) }
+    ensures { MatchResult result (λ read. SplitsInto load_head_of input.now (plan_of read.0) read.1.now) (IsError (IsPartRefusal load_head_of IsBodyRefused input.now)) }
 {
     let (head, body) = split_input(input).ok_or(Refusal::NoBody)?;
     let head = read_load_head(alloc, head)?;
     Ok((head, body))
 }
 
-// The jobs of a body. Errors, in this order: `BadHeader` or `BadRow`; `TimeGoesBack`; `TimeTooLate`. `Memory` may come at any step.
-fn read_arrivals(alloc: Global, body: &[u8], idle_for: u64) -> Result<Vec<Arrival>, SimulateError>
-    ensures { MatchResult result (λ arrivals. AreArrivals body.now idle_for arrivals.items) (IsArrivalsError body.now idle_for) }
+// The jobs of a body: those of its rows, or of a history. Errors, in this order: `BadHeader` or `BadRow`; those of `load_of`, or of
+// `load_of_history`. `Memory` may come at any step.
+fn read_arrivals(alloc: Global, body: &[u8], head: &LoadHead) -> Result<Vec<Arrival>, SimulateError>
+    ensures { MatchResult result (λ arrivals. AreArrivals body.now (plan_of head.now) arrivals.items) (IsArrivalsError body.now (plan_of head.now)) }
 {
-    let rows = match read_rows(alloc, body) {
-        Ok(rows) => rows,
-        Err(why) => return Err(SimulateError::Command(CommandError::from(why))),
-    };
-    Ok(load_of(alloc, &rows, idle_for)?)
-}
-
-// The events alone. Errors: `AllocError` where memory runs out.
-fn events_in(alloc: Global, history: &[Timed]) -> Result<Vec<Event>, AllocError>
-    ensures { IfOk result (λ events. events.items ≡ events_in history.now) }
-{
-    history.iter().map(|timed| timed.event).collect(alloc)
-}
-
-// The times alone. Errors: `AllocError` where memory runs out.
-fn times_in(alloc: Global, history: &[Timed]) -> Result<Vec<u64>, AllocError>
-    ensures { IfOk result (λ times. times.items ≡ times_in history.now) }
-{
-    history.iter().map(|timed| timed.at).collect(alloc)
+    match read_rows(alloc, body) {
+        Ok(rows) => Ok(load_of(alloc, &rows, head.idle_for)?),
+        Err(BodyError::BadHeader) => {
+            let history = csv_rows::read_rows(alloc, &timed::Rows, body)?;
+            let load = load_of_history(alloc, &history, head.idle_for, head.takes)?;
+            Ok(load)
+        }
+        Err(why) => Err(SimulateError::from(why)),
+    }
 }
 
 // What a load comes to in one pool. Errors: `AllocError` where memory runs out.
@@ -156,13 +155,13 @@ fn only_pool(pools: &[Limits]) -> Option<Limits>
 ///
 /// # Errors
 ///
-/// In this order: `Command` of a refusal: as `NoBody`; as `Head`; as `BadHeader` or `BadRow`. `TimeGoesBack`; `TimeTooLate`. `Command` of
-/// `Memory` may come at any step.
+/// In this order: `Command` of a refusal: as `NoBody`; as `Head`; as `BadHeader` or `BadRow`. `Row` as `NoTakes`; `Illegal`;
+/// `TimeGoesBack`; `TimeTooLate`. `Command` of `Memory` may come at any step.
 pub fn numbers_text(alloc: Global, input: &[u8]) -> Result<Vec<u8>, SimulateError>
     ensures { MatchResult result (λ text. IsTableText input.now text.items) (IsSimulateError input.now) }
 {
     let (head, body) = read_parts(alloc, input)?;
-    let arrivals = match read_arrivals(alloc, body, head.idle_for) {
+    let arrivals = match read_arrivals(alloc, body, &head) {
         Ok(arrivals) => arrivals,
         Err(why) => return Err(why),
     };
@@ -182,7 +181,7 @@ pub fn history_text(alloc: Global, input: &[u8]) -> Result<Vec<u8>, SimulateErro
     let Some(limits) = only_pool(&head.pools) else {
         return Err(SimulateError::ManyPools);
     };
-    let arrivals = match read_arrivals(alloc, body, head.idle_for) {
+    let arrivals = match read_arrivals(alloc, body, &head) {
         Ok(arrivals) => arrivals,
         Err(why) => return Err(why),
     };

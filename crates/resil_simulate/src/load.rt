@@ -1,24 +1,64 @@
-//! The jobs of a load, by the rows of its body. Their times are held against each other first, then each against the end of time.
+//! The jobs of a load, by the rows of its body or by a history. All rows are held against each other first, then each against the end of
+//! time.
 
-ghost use Rattle.std.specs.Prelude.{◌≡◌, IfErr, IfOk, MatchOption};
+ghost use Rattle.std.specs.Prelude.{◌≡◌, IfErr, IfOk, MatchOption, MatchResult};
 ghost use Rattle.resil_virtual.specs.Load.{IsLoad, times_of};
-ghost use Rattle.resil_simulate.specs.Load.{AreInTime, IsLoadError, IsTooLateAt, arrivals_of};
+ghost use Rattle.resil_simulate.specs.History.{submissions_in};
+ghost use Rattle.resil_simulate.specs.Load.{AreInTime, IsHistoryError, IsHistoryLoadError, IsLoadError, IsTooLateAt, IsUsable, arrivals_of, jobs_in, lacking, load_name};
 
+use crate::history::{Submitted, arrivals_by, first_without, submissions_in};
+use crate::legality::first_illegal;
 use crate::rows::Row;
-use resil_replay::timed::first_back;
+use resil_replay::timed::{Timed, events_in, first_back, times_in};
 use resil_rule::Id;
 use resil_virtual::Arrival;
 use std::alloc::{AllocError, Global};
 
-/// Why jobs can't be carried out. Positions are from 1.
+/// Why the row at a position, from 1, can't be carried out.
+#[derive(Clone, Copy, Debug)]
+pub enum LoadRefusal {
+    /// The job of this submission has no finish in the history, and nothing else says how long it takes.
+    NoTakes,
+    /// No pool has the history up to this event.
+    Illegal,
+    /// Its time is below that of the row before it.
+    TimeGoesBack,
+    /// Its time, all runs up to it and the time after which an idle worker may end pass 2^64 - 1.
+    TimeTooLate,
+}
+
+impl LoadRefusal {
+    /// The word that is printed for it: the variant's name.
+    pub fn name(self) -> &'static str
+        ensures { result.now ≡ load_name self }
+    {
+        match self {
+            LoadRefusal::NoTakes => "NoTakes",
+            LoadRefusal::Illegal => "Illegal",
+            LoadRefusal::TimeGoesBack => "TimeGoesBack",
+            LoadRefusal::TimeTooLate => "TimeTooLate",
+        }
+    }
+}
+
+/// Why jobs can't be carried out.
 #[derive(Clone, Copy, Debug)]
 pub enum LoadError {
     /// Memory ran out.
     Memory,
-    /// The time of the job at this position is below that of the job before it.
-    TimeGoesBack(usize),
-    /// The time of the job at this position, all runs up to it and the time after which an idle worker may end pass 2^64 - 1.
-    TimeTooLate(usize),
+    /// The row at this position, from 1, is refused.
+    Row(usize, LoadRefusal),
+}
+
+impl From<AllocError> for LoadError {
+    ghost use Rattle.std.specs.Prelude.{◌≡◌};
+    ghost use Rattle.resil_simulate.specs.declared.load.LoadError.TheVariants.{Memory};
+
+    ghost from_gives = { λ _ error. error ≡ Memory };
+
+    fn from(_refused: AllocError) -> LoadError {
+        LoadError::Memory
+    }
 }
 
 // The jobs of rows, in order. Errors: `AllocError` where memory runs out.
@@ -71,17 +111,74 @@ pub fn load_of(alloc: Global, rows: &[Row], idle_for: u64) -> Result<Vec<Arrival
     ensures load { IfOk result (λ arrivals. IsLoad idle_for arrivals.items) }
     ensures refused { IfErr result (IsLoadError idle_for (arrivals_of rows.now)) }
 {
-    let Ok(arrivals) = arrivals_of(alloc, rows) else {
-        return Err(LoadError::Memory);
-    };
-    let Ok(times) = times_of(alloc, &arrivals) else {
-        return Err(LoadError::Memory);
-    };
+    let arrivals = arrivals_of(alloc, rows)?;
+    let times = times_of(alloc, &arrivals)?;
     if let Some(position) = first_back(&times) {
-        return Err(LoadError::TimeGoesBack(position));
+        return Err(LoadError::Row(position, LoadRefusal::TimeGoesBack));
     }
     match first_late(&arrivals, idle_for) {
-        Some(position) => Err(LoadError::TimeTooLate(position)),
+        Some(position) => Err(LoadError::Row(position, LoadRefusal::TimeTooLate)),
+        None => Ok(arrivals),
+    }
+}
+
+// The place of the first submission of which nothing says how long it takes.
+fn lacking(takes: Option<u32>, jobs: &[Submitted]) -> Option<usize>
+    ensures { result ≡ lacking takes jobs.now }
+{
+    match takes {
+        Some(_) => None,
+        None => first_without(jobs),
+    }
+}
+
+// Whether a history of these submissions can be carried out. Errors: `NoTakes`, `Illegal`, `TimeGoesBack`; `Memory` at any step.
+fn check_history(
+    alloc: Global,
+    history: &[Timed],
+    takes: Option<u32>,
+    jobs: &[Submitted],
+) -> Result<(), LoadError>
+    requires { jobs.now ≡ submissions_in history.now }
+    ensures { MatchResult result (λ _. IsUsable takes history.now) (IsHistoryError takes history.now) }
+{
+    if let Some(place) = lacking(takes, jobs) {
+        return Err(LoadError::Row(place, LoadRefusal::NoTakes));
+    }
+    let events = events_in(alloc, history)?;
+    if let Some(position) = first_illegal(alloc, &events)? {
+        return Err(LoadError::Row(position, LoadRefusal::Illegal));
+    }
+    let times = times_in(alloc, history)?;
+    match first_back(&times) {
+        Some(position) => Err(LoadError::Row(position, LoadRefusal::TimeGoesBack)),
+        None => Ok(()),
+    }
+}
+
+/// The jobs of a history: its submissions with their callers and numbers, each of which takes what it ran there, or `takes` microseconds
+/// where it has no finish.
+///
+/// # Errors
+///
+/// In this order, each for the first such row: `NoTakes`; `Illegal`; `TimeGoesBack`; `TimeTooLate`. `Memory` may come at any step.
+pub fn load_of_history(
+    alloc: Global,
+    history: &[Timed],
+    idle_for: u64,
+    takes: Option<u32>,
+) -> Result<Vec<Arrival>, LoadError>
+    ensures arrivals { IfOk result (λ arrivals. arrivals.items ≡ jobs_in takes history.now) }
+    ensures usable { IfOk result (λ _. IsUsable takes history.now) }
+    ensures load { IfOk result (λ arrivals. IsLoad idle_for arrivals.items) }
+    ensures refused { IfErr result (IsHistoryLoadError idle_for takes history.now) }
+{
+    let jobs = submissions_in(alloc, history)?;
+    check_history(alloc, history, takes, &jobs)?;
+    let takes = u64::from(takes.unwrap_or(0));
+    let arrivals = arrivals_by(alloc, takes, &jobs)?;
+    match first_late(&arrivals, idle_for) {
+        Some(position) => Err(LoadError::Row(jobs[position - 1].place, LoadRefusal::TimeTooLate)),
         None => Ok(arrivals),
     }
 }

@@ -1,15 +1,14 @@
 //! The bodies of `simulate`: the jobs of a load. All rows are read before anything else is said of them.
 
-ghost use Rattle.std.specs.Prelude.{◌≡◌, ◌^◌, MatchResult};
+ghost use Rattle.std.specs.Prelude.{◌≡◌, MatchResult};
 ghost use Rattle.csv.specs.Records.{fields_of};
-ghost use Rattle.resil_input.specs.Number.{parse_from_zero};
 ghost use Rattle.resil_simulate.specs.Rows.{IsLoadBody, IsLoadBodyError, parse_row};
 
 use csv::ByteRecord;
 use resil_heads::load::LOAD_BODY;
 use resil_input::csv_rows::{self, BodyError, RowFormat, has_fields};
-use resil_input::fields::{field_at, is_text};
-use resil_input::number::parse_number;
+use resil_input::fields::field_at;
+use resil_replay::timed::parse_time;
 use std::alloc::{AllocError, Global};
 
 /// A job of a load, in microseconds.
@@ -43,23 +42,12 @@ impl RowFormat for Rows {
     }
 }
 
-// Reads a number from 0 to 18,446,744,073,709,551,615.
-fn parse_from_zero(field: &[u8]) -> Option<u64>
-    ensures { result ≡ parse_from_zero (2 ^ 64) field.now }
-{
-    if is_text(field, "0") {
-        Some(0)
-    } else {
-        parse_number(field)
-    }
-}
-
 // Reads a job from the fields of a record.
 fn parse_row(fields: &ByteRecord) -> Option<Row>
     ensures { result ≡ parse_row (fields_of fields.now) }
 {
-    let at = parse_from_zero(field_at(fields, 0))?;
-    let takes = u32::try_from(parse_from_zero(field_at(fields, 1))?).ok()?;
+    let at = parse_time(field_at(fields, 0))?;
+    let takes = u32::try_from(parse_time(field_at(fields, 1))?).ok()?;
     Some(Row { at, takes })
 }
 

@@ -23,7 +23,7 @@ parts-length [] = refl
 parts-length (e ∷ h) = grind (arith, parts-length h)
 
 -- a worker was started for each submission below the core size, and for each one above it
-started-replies : (h : List Event) → length (started h) ≡ length (filter is_core_reply h) + length (filter is_extra_reply h)
+pub started-replies : (h : List Event) → length (started h) ≡ length (filter is_core_reply h) + length (filter is_extra_reply h)
 started-replies [] = refl
 started-replies (e ∷ h) = grind (arith, started-replies h)
 

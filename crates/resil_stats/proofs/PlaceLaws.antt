@@ -19,20 +19,20 @@ use Rattle.resil_stats.specs.declared.bars.Start.{Start}
 
 -- ---- Events with their places.
 
-placed-push : (p : ℕ) (h : List Event) (e : Event) → enumerate_from p (h ++ e ∷ []) ≡ enumerate_from p h ++ (p + length h, e) ∷ []
+placed-push : {X : Type 0} (p : ℕ) (h : List X) (e : X) → enumerate_from p (h ++ e ∷ []) ≡ enumerate_from p h ++ (p + length h, e) ∷ []
 placed-push p [] e = grind (arith, common_steps)
 placed-push p (x ∷ h) e = grind (arith, common_steps, placed-push (p + 1) h e)
 
 -- what is made of the events up to one, of which nothing is made or something is
-module _ {A : Type 0} (f : ℕ × Event → Option A) (events : List Event) (i : ℕ) (d : Event) (lt : i < length events) where
-  made-more : filter_map f (placed (take (i + 1) events)) ≡ filter_map f (placed (take i events)) ++ cons_option (f (i + 1, get_or events i d)) []
-  made-more = grind (arith, common_steps, placed-push 1 (take i events) (get_or events i d), filter_map-append f (placed (take i events)))
+module _ {X A : Type 0} (f : ℕ × X → Option A) (events : List X) (i : ℕ) (d : X) (lt : i < length events) where
+  made-more : filter_map f (enumerate_from 1 (take (i + 1) events)) ≡ filter_map f (enumerate_from 1 (take i events)) ++ cons_option (f (i + 1, get_or events i d)) []
+  made-more = grind (arith, common_steps, placed-push 1 (take i events) (get_or events i d), filter_map-append f (enumerate_from 1 (take i events)))
 
-  pub made_none : None ≡ f (i + 1, get_or events i d) → filter_map f (placed (take i events)) ≡ filter_map f (placed (take (i + 1) events))
-  made_none none = sym (made-more ∙ ap (λ o. filter_map f (placed (take i events)) ++ cons_option o []) (sym none) ∙ append-nil _)
+  pub made_none : None ≡ f (i + 1, get_or events i d) → filter_map f (enumerate_from 1 (take i events)) ≡ filter_map f (enumerate_from 1 (take (i + 1) events))
+  made_none none = sym (made-more ∙ ap (λ o. filter_map f (enumerate_from 1 (take i events)) ++ cons_option o []) (sym none) ∙ append-nil _)
 
-  pub made_one : (x : A) → Some x ≡ f (i + 1, get_or events i d) → filter_map f (placed (take i events)) ++ x ∷ [] ≡ filter_map f (placed (take (i + 1) events))
-  made_one x one = sym (made-more ∙ ap (λ o. filter_map f (placed (take i events)) ++ cons_option o []) (sym one))
+  pub made_one : (x : A) → Some x ≡ f (i + 1, get_or events i d) → filter_map f (enumerate_from 1 (take i events)) ++ x ∷ [] ≡ filter_map f (enumerate_from 1 (take (i + 1) events))
+  made_one x one = sym (made-more ∙ ap (λ o. filter_map f (enumerate_from 1 (take i events)) ++ cons_option o []) (sym one))
 
 -- ---- The places of finishes.
 
@@ -40,6 +40,12 @@ module _ {A : Type 0} (f : ℕ × Event → Option A) (events : List Event) (i :
 pub parts-legal : (limits : Sizes) (before h : List Event) (e : Event) (t : List Event) → AreAllowedAfter limits before (h ++ e ∷ t) → AreAllowedAfter limits before h × IsAllowed limits (before ++ h) e
 parts-legal limits before [] e t legal = (tt, rw append-nil legal.0)
 parts-legal limits before (x ∷ h) e t legal = let rest = parts-legal limits (before ++ x ∷ []) h e t legal.1 in ((legal.0, rest.0), rw append_assoc at rest.1)
+
+-- in a legal history an event is allowed after those before it
+pub allowed-at : (limits : Sizes) (events : List Event) (i : ℕ) (d : Event) → i < length events → IsLegal limits events → IsAllowed limits (take i events) (get_or events i d)
+allowed-at limits events i d lt legal =
+    let cut : events ≡ take i events ++ get_or events i d ∷ drop (i + 1) events = sym (take-append-drop i events) ∙ ap (λ (l : List Event). take i events ++ l) (drop_more events i d lt) in
+    (parts-legal limits [] (take i events) (get_or events i d) (drop (i + 1) events) (subst (IsLegal limits) cut legal)).1
 
 -- a job that starts isn't finished before
 fresh : (limits : Sizes) (h : List Event) (e : Event) (id : Id) (start : Start) → IsLegal limits h → IsAllowed limits h e → start_at e ≡ Some (id, start) → is_among id (finished h) ≡ false

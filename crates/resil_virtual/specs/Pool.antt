@@ -13,7 +13,7 @@ use Rattle.resil_virtual.specs.declared.pool.Pool.{Pool}
 use Rattle.resil_virtual.specs.declared.pool.Step.{Step}
 use Rattle.resil_virtual.specs.declared.pool.Step.TheVariants as step
 
--- the job of a place is due when it has run its time, which isn't past
+-- the job of a place is due when it has run its time
 abbrev pub IsRunning : List Arrival → List Timed → Running → Type 0
 IsRunning arrivals history job = (began : ℕ) × (span : ℕ) × (has_begun history job.id began ≡ true) × (runs_for arrivals job.id span ≡ true) × (job.due ≡ began + span)
 

@@ -1,24 +1,21 @@
 use Rattle.std.proofs.Common.{◌∙◌, ap}
+use Rattle.resil_heads.specs.Load.{plan_of}
 use Rattle.resil_simulate.specs.Table.{pools_text}
 use Rattle.resil_simulate.proofs.CommandLaws.{arrivals-refused}
 use Rattle.resil_simulate.proofs.command.numbers_text.Goals as goal
 
 pub returns-in-Err : goal.returns-in-Err
-returns-in-Err c =
-    let head = c.in_ok-head.head in
-    arrivals-refused c.args.input.now head.pools.items head.idle_for c.in_ok-head.body.now c.in_ok-head.ensures c.in-Err.why c.in-Err.ensures
+returns-in-Err c = arrivals-refused c.args.input.now (plan_of c.in_ok-head.head) c.in_ok-head.body.now c.in_ok-head.ensures c.in-Err.why c.in-Err.ensures
 
 pub returns : goal.returns
-returns c =
-    let head = c.in_ok-head.head in (
-      head.pools.items,
-      head.idle_for,
-      c.in_ok-head.body.now,
-      c.in-Ok.arrivals.items,
-      c.in_ok-done.done.items,
-      c.in_ok-head.ensures,
-      c.in-Ok.ensures,
-      rw c.deref.ensures.value at c.in_ok-done.ensures.pools,
-      rw c.deref-2.ensures.value at c.in_ok-done.ensures.numbers,
-      c.in_ok-table_text.ensures ∙ ap pools_text c.deref-3.ensures.value,
-    )
+returns c = (
+  plan_of c.in_ok-head.head,
+  c.in_ok-head.body.now,
+  c.in-Ok.arrivals.items,
+  c.in_ok-done.done.items,
+  c.in_ok-head.ensures,
+  c.in-Ok.ensures,
+  rw c.deref.ensures.value at c.in_ok-done.ensures.pools,
+  rw c.deref-2.ensures.value at c.in_ok-done.ensures.numbers,
+  c.in_ok-table_text.ensures ∙ ap pools_text c.deref-3.ensures.value,
+)

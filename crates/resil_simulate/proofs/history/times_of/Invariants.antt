@@ -1,0 +1,12 @@
+use Rattle.std.proofs.Common.{take}
+use Rattle.std.specs.BTreeMap.{IsOrdered}
+use Rattle.std.specs.Ordering.{nat_cmp}
+use Rattle.resil_simulate.specs.History.{AreTimesOf}
+use Rattle.resil_simulate.proofs.history.times_of.Given as goal
+
+-- the times by the events so far
+abbrev pub invariant-loop-timed : goal.invariant-loop-timed
+invariant-loop-timed l = record {
+  times : AreTimesOf l.moment (take l.timed-index l.history) l.times;
+  ordered : IsOrdered nat_cmp l.times;
+}

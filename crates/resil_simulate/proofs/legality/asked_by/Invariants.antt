@@ -1,0 +1,15 @@
+use Rattle.std.proofs.Common.{◌≤◌, [], take}
+use Rattle.resil_rule.specs.Admission.{IsLegal}
+use Rattle.resil_rule.specs.Limits.{AreLimits, Sizes}
+use Rattle.resil_stats.specs.Stats.{AreCountsOf}
+use Rattle.resil_simulate.specs.Legality.{AreEnough, IsAsked}
+use Rattle.resil_simulate.proofs.legality.asked_by.Given as goal
+
+-- what the events so far ask for, which any pool has that has all of them
+abbrev pub invariant-loop-event : goal.invariant-loop-event
+invariant-loop-event l = record {
+  counts : AreCountsOf (take l.event-index l.events) l.counts;
+  some : (1 ≤ l.most.core) × (1 ≤ l.most.queue);
+  most : IsAsked [] (take l.event-index l.events) l.most;
+  least : (limits : Sizes) → AreLimits limits → IsLegal limits l.events → AreEnough l.most limits;
+}
