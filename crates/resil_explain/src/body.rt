@@ -7,31 +7,11 @@ use resil_input::csv_rows::has_fields;
 use std::alloc::Global;
 use std::fmt;
 
-/// How a row is written under a header: its word, and the names of the fields that it uses.
-#[derive(Clone, Copy)]
-pub(crate) struct Written {
-    header: &'static [&'static str],
-    row: Row,
-}
-
-impl fmt::Display for Written {
-    fn fmt<W: fmt::Write>(&self, f: &mut fmt::Formatter<W>) -> fmt::Result {
-        f.write_str(self.row.0)?;
-        for (index, column) in self.header.iter().enumerate().skip(1) {
-            f.write_char(',')?;
-            if self.row.1.contains(&index) {
-                f.write_str(column)?;
-            }
-        }
-        Ok(())
-    }
-}
-
 /// What is wrong with a row.
 #[derive(Clone, Copy)]
 pub(crate) enum RowFault {
-    /// How many fields it has, and how many it has to have; and how such a row is written, where its first field is one's.
-    Width(usize, usize, Option<Written>),
+    /// How many fields it has, in place of those of the header; and the row that it is by its first field, if it is one.
+    Width(usize, &'static [&'static str], Option<Row>),
     /// It is a resize, which needs this header.
     Resize(&'static [&'static str]),
     /// A field, and what that has to be.
@@ -40,13 +20,30 @@ pub(crate) enum RowFault {
     Word(&'static str, &'static [Row]),
 }
 
+// Writes how a row is written under a header, with the names of the fields that it uses.
+fn write_row<W: fmt::Write>(
+    f: &mut fmt::Formatter<W>,
+    header: &[&str],
+    (word, used): Row,
+) -> fmt::Result {
+    write!(f, "; write `{word}")?;
+    for (index, column) in header.iter().enumerate().skip(1) {
+        f.write_char(',')?;
+        if used.contains(&index) {
+            f.write_str(column)?;
+        }
+    }
+    f.write_char('`')
+}
+
 impl fmt::Display for RowFault {
     fn fmt<W: fmt::Write>(&self, f: &mut fmt::Formatter<W>) -> fmt::Result {
         match *self {
-            RowFault::Width(found, wanted, written) => {
+            RowFault::Width(found, header, row) => {
+                let wanted = header.len();
                 write!(f, "the header has {wanted} fields, and it has {found}")?;
-                match written {
-                    Some(written) => write!(f, "; write `{written}`"),
+                match row {
+                    Some(row) => write_row(f, header, row),
                     None => Ok(()),
                 }
             }
@@ -119,14 +116,6 @@ fn start_of(record: &ByteRecord) -> usize {
     usize::try_from(position).unwrap_or(0)
 }
 
-// How a row is written under a header, where it is one.
-fn written_as(header: &'static [&'static str], row: Option<Row>) -> Option<Written> {
-    match row {
-        Some(row) => Some(Written { header, row }),
-        None => None,
-    }
-}
-
 // The row that a record is by its first field, if it is one.
 fn row_of(body: Body, record: &ByteRecord) -> Option<Row> {
     let word = record.get(0)?;
@@ -181,8 +170,7 @@ pub(crate) fn row_fault(
         return Some(RowFault::Resize(bodies.header));
     }
     if record.len() != header.len() {
-        let written = written_as(body.header, row);
-        return Some(RowFault::Width(record.len(), header.len(), written));
+        return Some(RowFault::Width(record.len(), body.header, row));
     }
     field_fault(body, record, callers)
 }

@@ -122,8 +122,8 @@ fn behind_item(alloc: Global, value: &str) -> Result<&str, ParseError> {
     Ok(skip_blank(rest.strip_prefix(',').unwrap_or(rest), true))
 }
 
-// The item at a place of an array.
-fn item(alloc: Global, array: &str, wanted: usize) -> Result<Option<&str>, ParseError> {
+// The item at a place of an array, twice, as a pair is its key and its value.
+fn item(alloc: Global, array: &str, wanted: usize) -> Result<Option<(&str, &str)>, ParseError> {
     let Some(items) = array.strip_prefix('[') else {
         return Ok(None);
     };
@@ -134,7 +134,7 @@ fn item(alloc: Global, array: &str, wanted: usize) -> Result<Option<&str>, Parse
         }
         start = behind_item(alloc, start)?;
     }
-    Ok((first(start) != b']').then_some(start))
+    Ok((first(start) != b']').then_some((start, start)))
 }
 
 // The pair of an inline table on which the steps go on, with its value.
@@ -169,75 +169,54 @@ fn inside<'a>(
     steps: &[Step<'_>],
     gone: usize,
 ) -> Result<Option<&'a str>, ParseError> {
-    let mut found = outer;
-    let mut value = outer;
+    let (mut found, mut value) = (outer, outer);
     for index in gone..steps.len() {
-        if let Some(Step::Item(place)) = steps.get(index) {
-            let Some(inner) = item(alloc, value, *place)? else {
-                return Ok(None);
-            };
-            found = inner;
-            value = inner;
-        } else {
-            let Some((start, inner)) = pair(alloc, value, steps, index)? else {
-                return Ok(None);
-            };
-            found = start;
-            value = inner;
-        }
+        let inner = match steps.get(index) {
+            Some(Step::Item(place)) => item(alloc, value, *place)?,
+            _ => pair(alloc, value, steps, index)?,
+        };
+        let Some((start, rest)) = inner else {
+            return Ok(None);
+        };
+        found = start;
+        value = rest;
     }
     Ok(Some(found))
 }
 
-// The table of a header, with what comes behind the header.
-fn header(alloc: Global, start: &str) -> Result<(Key, &str), ParseError> {
-    let (key, rest) = dotted_key(alloc, skip_ws(start.trim_start_matches('[')))?;
-    Ok((key, rest.trim_start_matches(']')))
-}
-
-// What a line of a document comes to.
-#[derive(Clone, Copy)]
-enum Turn<'a> {
-    // The definition that the steps lead to, and what follows.
-    Found(&'a str),
-    // The next line that defines something, and what follows.
-    Next(&'a str),
-}
-
-// Reads a header, and goes to its table.
+// Goes to the table of a header. Gives the header, where the steps lead to it, and what follows.
 fn take_header<'a>(
     alloc: Global,
     walk: &mut Walk,
     steps: &[Step<'_>],
     start: &'a str,
-) -> Result<Turn<'a>, ParseError> {
-    let (key, end) = header(alloc, start)?;
+) -> Result<(Option<&'a str>, &'a str), ParseError> {
+    let (key, rest) = dotted_key(alloc, skip_ws(start.trim_start_matches('[')))?;
     walk.enter(steps, &key, start.starts_with("[["));
-    if walk.gone == Some(steps.len()) {
-        return Ok(Turn::Found(start));
-    }
-    Ok(Turn::Next(skip_blank(end, true)))
+    let is_found = walk.gone == Some(steps.len());
+    let next = skip_blank(rest.trim_start_matches(']'), true);
+    Ok((is_found.then_some(start), next))
 }
 
-// Reads a key with its value.
+// Reads a key with its value. Gives what of them the steps lead to, and what follows.
 fn take_pair<'a>(
     alloc: Global,
     walk: Walk,
     steps: &[Step<'_>],
     start: &'a str,
-) -> Result<Turn<'a>, ParseError> {
+) -> Result<(Option<&'a str>, &'a str), ParseError> {
     let (key, value) = key_and_value(alloc, start)?;
-    if let Some(before) = walk.gone
-        && let Some(gone) = walk.after_key(steps, before, &key)
-    {
-        if gone == steps.len() {
-            return Ok(Turn::Found(start));
-        }
-        if let Some(found) = inside(alloc, value, steps, gone)? {
-            return Ok(Turn::Found(found));
-        }
-    }
-    Ok(Turn::Next(skip_blank(behind_value(alloc, value)?, true)))
+    let next = skip_blank(behind_value(alloc, value)?, true);
+    let gone = match walk.gone {
+        Some(before) => walk.after_key(steps, before, &key),
+        None => None,
+    };
+    let found = match gone {
+        Some(gone) if gone == steps.len() => Some(start),
+        Some(gone) => inside(alloc, value, steps, gone)?,
+        None => None,
+    };
+    Ok((found, next))
 }
 
 // The definition that these steps lead to, of those of a document without a byte order mark, from there on.
@@ -252,17 +231,18 @@ fn find<'a>(
     };
     let mut start = skip_blank(document, true);
     for _line in 0..document.len() {
-        let turn = if start.is_empty() {
+        if start.is_empty() {
             return Ok(None);
-        } else if start.starts_with('[') {
+        }
+        let (found, next) = if start.starts_with('[') {
             take_header(alloc, &mut walk, steps, start)?
         } else {
             take_pair(alloc, walk, steps, start)?
         };
-        match turn {
-            Turn::Found(found) => return Ok(Some(found)),
-            Turn::Next(next) => start = next,
+        if found.is_some() {
+            return Ok(found);
         }
+        start = next;
     }
     Ok(None)
 }

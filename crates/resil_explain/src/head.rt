@@ -26,6 +26,8 @@ pub(crate) struct Explained<'a> {
     part: Part,
     // What the part is called, or nothing.
     title: &'static str,
+    // The key that it is about.
+    key: &'a str,
     fault: Fault<'a>,
 }
 
@@ -33,38 +35,23 @@ pub(crate) struct Explained<'a> {
 #[derive(Clone, Copy)]
 enum Fault<'a> {
     // It is none of these keys.
-    Unknown(&'a str, &'static [Key]),
+    Unknown(&'static [Key]),
     // It is a key of a retry whose waits grow.
-    NeedsGrowth(&'a str),
-    Missing(Key),
+    NeedsGrowth,
+    // It isn't there, and has to be of this form.
+    Missing(Form),
     // Its value isn't of this form.
-    Value(&'a str, Form),
+    Value(Form),
     // The item at this place of its value is no kind of error.
-    Kind(&'a str, usize),
-    // Its value, or what it is, is no name.
-    Name(&'a str, &'a str),
+    Kind(usize),
+    // This, its value or what it is, is no name.
+    Name(&'a str),
     // The greatest size, where the core size is this.
     Greatest(i64),
     // The attempts, which come to this with those of the other retries.
     Calls(u128),
     // What is allowed there.
-    Other(&'a str, &'static str),
-}
-
-impl<'a> Fault<'a> {
-    fn key(self) -> &'a str {
-        match self {
-            Fault::Unknown(key, _)
-            | Fault::NeedsGrowth(key)
-            | Fault::Value(key, _)
-            | Fault::Kind(key, _)
-            | Fault::Name(key, _)
-            | Fault::Other(key, _) => key,
-            Fault::Missing(key) => key.name(),
-            Fault::Greatest(_) => "max",
-            Fault::Calls(_) => "attempts",
-        }
-    }
+    Other(&'static str),
 }
 
 impl fmt::Display for Explained<'_> {
@@ -88,38 +75,24 @@ impl fmt::Display for Explained<'_> {
             let text = Shown(line.text);
             write!(f, ", `{text}`")?;
         }
-        let fault = self.fault;
-        write!(f, ": {fault}")
-    }
-}
-
-impl fmt::Display for Fault<'_> {
-    fn fmt<W: fmt::Write>(&self, f: &mut fmt::Formatter<W>) -> fmt::Result {
-        match *self {
-            Fault::Unknown(key, words) => {
-                let key = Shown(key.as_bytes());
+        f.write_str(": ")?;
+        let key = Shown(self.key.as_bytes());
+        match self.fault {
+            Fault::Unknown(words) => {
                 let keys = Listed(words, ", ");
                 write!(f, "unknown key `{key}`; the keys are {keys}")
             }
-            Fault::NeedsGrowth(key) => {
-                write!(f, "`{key}` needs `backoff = \"exponential\"` beside it")
-            }
-            Fault::Missing(key) => {
-                let (name, form) = (key.name(), key.form());
-                write!(f, "the key `{name}` is missing; it is {form}")
-            }
-            Fault::Value(name, form) => {
-                let name = Shown(name.as_bytes());
-                write!(f, "the value of `{name}` is not {form}")
-            }
-            Fault::Kind(name, place) => {
+            Fault::NeedsGrowth => write!(f, "`{key}` needs `backoff = \"exponential\"` beside it"),
+            Fault::Missing(form) => write!(f, "the key `{key}` is missing; it is {form}"),
+            Fault::Value(form) => write!(f, "the value of `{key}` is not {form}"),
+            Fault::Kind(place) => {
                 let number = place.saturating_add(1);
                 write!(
                     f,
-                    "item {number} of `{name}` is none of the texts `E0` to `E65535`, `FULL` and `EXCEEDED`"
+                    "item {number} of `{key}` is none of the texts `E0` to `E65535`, `FULL` and `EXCEEDED`"
                 )
             }
-            Fault::Name(_, name) => {
+            Fault::Name(name) => {
                 let name = Shown(name.as_bytes());
                 write!(
                     f,
@@ -133,7 +106,7 @@ impl fmt::Display for Fault<'_> {
                 f,
                 "the attempts of all retries of a chain come to at most 1000, multiplied, and here to {calls}"
             ),
-            Fault::Other(_, allowed) => f.write_str(allowed),
+            Fault::Other(allowed) => f.write_str(allowed),
         }
     }
 }
@@ -157,9 +130,10 @@ fn refused_part(told: Told<'_>, table: &Table) -> Option<Part> {
         }
     };
     let fault = checked.err()?;
-    match fault.why() {
+    let part = fault.part();
+    match HeadError::from(fault) {
         HeadError::Memory => None,
-        _ => Some(fault.part()),
+        _ => Some(part),
     }
 }
 
@@ -179,13 +153,19 @@ fn is_one_of(keys: &[Key], name: &str) -> bool {
     keys.iter().any(|key| key.name() == name)
 }
 
+// What is wrong at a key, with the key.
+type AtKey<'a> = (&'a str, Fault<'a>);
+
 // The first key of a table that is none of these.
-fn unknown_key<'a>(title: &str, keys: &'static [Key], table: &'a Table) -> Option<Fault<'a>> {
+fn unknown_key<'a>(title: &str, keys: &'static [Key], table: &'a Table) -> Option<AtKey<'a>> {
     let name = table.keys().find(|name| !is_one_of(keys, name.as_str()))?;
-    if title == "a retry" && is_one_of(EXPONENTIAL_RETRY_KEYS, name.as_str()) {
-        return Some(Fault::NeedsGrowth(name.as_str()));
-    }
-    Some(Fault::Unknown(name.as_str(), keys))
+    let is_of_growth = title == "a retry" && is_one_of(EXPONENTIAL_RETRY_KEYS, name.as_str());
+    let fault = if is_of_growth {
+        Fault::NeedsGrowth
+    } else {
+        Fault::Unknown(keys)
+    };
+    Some((name.as_str(), fault))
 }
 
 // The product of the attempts of all retries of a head.
@@ -202,60 +182,64 @@ fn calls_in(head: &Table) -> Option<u128> {
     Some(calls)
 }
 
+// The first of these keys whose value in a table isn't of its form.
+fn bad_value<'a>(keys: &'static [Key], table: &Table) -> Option<AtKey<'a>> {
+    let mut keys = keys.iter();
+    let key = keys.find(|key| is_bad(key.form(), table.get(key.name())))?;
+    let values = table.get(key.name()).and_then(Value::as_array);
+    let fault = match (key.form(), values) {
+        (Form::Kinds, Some(values)) => Fault::Kind(other_than_kind(values)?),
+        (form, _) => Fault::Value(form),
+    };
+    Some((key.name(), fault))
+}
+
 // What a part of these keys is refused for by this name, where that can be seen of its table.
 fn fault_in<'a>(
     (title, keys): (&'static str, &'static [Key]),
     (head, table): (&'a Table, &'a Table),
     name: &str,
-) -> Option<Fault<'a>> {
+) -> Option<AtKey<'a>> {
     match name {
         "UnknownKey" => unknown_key(title, keys, table),
         "MissingKey" => {
             let mut needed = keys.iter().filter(|key| matches!(**key, Key::Required(..)));
             let key = needed.find(|key| table.get(key.name()).is_none())?;
-            Some(Fault::Missing(*key))
+            Some((key.name(), Fault::Missing(key.form())))
         }
-        "BadValue" => {
-            let mut keys = keys.iter();
-            let key = keys.find(|key| is_bad(key.form(), table.get(key.name())))?;
-            let (name, form) = (key.name(), key.form());
-            let kinds = table.get(name).and_then(Value::as_array);
-            Some(
-                match (form, kinds.and_then(|kinds| other_than_kind(kinds))) {
-                    (Form::Kinds, Some(place)) => Fault::Kind(name, place),
-                    _ => Fault::Value(name, form),
-                },
-            )
-        }
-        "BadName" => Some(Fault::Name("name", table.get("name")?.as_str()?)),
+        "BadValue" => bad_value(keys, table),
+        "BadName" => Some(("name", Fault::Name(table.get("name")?.as_str()?))),
         "MaxOutOfRange" => match (
             table.get("core")?.as_integer(),
             table.get("max")?.as_integer(),
         ) {
-            (Some(core), Some(_)) => Some(Fault::Greatest(core)),
-            _ => Some(Fault::Other(
+            (Some(core), Some(_)) => Some(("max", Fault::Greatest(core))),
+            _ => Some((
                 "max",
-                "a greatest size is from 1 to 64, and one of them at least is no lower than a core size",
+                Fault::Other(
+                    "a greatest size is from 1 to 64, and one of them at least is no lower than a core size",
+                ),
             )),
         },
-        "TooManyCalls" => Some(Fault::Calls(calls_in(head)?)),
+        "TooManyCalls" => Some(("attempts", Fault::Calls(calls_in(head)?))),
         _ => {
             let (key, said) = (key_of(name), said_of(name)?);
             let is_cap = name == "IntervalTooLong" && !is_bad(LONGEST, table.get(key));
-            Some(Fault::Other(if is_cap { "cap" } else { key }, said))
+            Some((if is_cap { "cap" } else { key }, Fault::Other(said)))
         }
     }
 }
 
 // What a configuration at a place of a head's, in byte order of their names, is refused for by this name.
-fn fault_of_configuration<'a>(head: &'a Table, place: usize, name: &str) -> Option<Fault<'a>> {
+fn fault_of_configuration<'a>(head: &'a Table, place: usize, name: &str) -> Option<AtKey<'a>> {
     let configurations = head.get("permits")?.as_table()?;
     let key = configurations.keys().nth(place)?.as_str();
-    Some(match name {
-        "BadValue" => Fault::Value(key, PERMIT_COUNT),
-        "BadName" => Fault::Name(key, key),
-        _ => Fault::Other(key, said_of(name)?),
-    })
+    let fault = match name {
+        "BadValue" => Fault::Value(PERMIT_COUNT),
+        "BadName" => Fault::Name(key),
+        _ => Fault::Other(said_of(name)?),
+    };
+    Some((key, fault))
 }
 
 // The table of a layer, by its place.
@@ -263,37 +247,31 @@ fn layer_at(head: &Table, place: usize) -> Option<&Table> {
     head.get("layer")?.as_array()?.get(place)?.as_table()
 }
 
-// Where a head has what is wrong with a part, or where the part begins that lacks it. Errors: memory runs out.
+// Where a head has a key of a part with what is wrong there, or where the part begins that lacks it. Errors: memory runs out.
 fn place_in(
     alloc: Global,
     head: &str,
     (part, table): (Part, &Table),
-    fault: Fault<'_>,
+    (key, fault): AtKey<'_>,
 ) -> Result<Option<usize>, AllocError> {
-    let key = Step::Key(fault.key());
-    let is_there = table.get(fault.key()).is_some();
-    match part {
-        Part::Head => {
-            if is_there {
-                place_of(alloc, head, &[key])
-            } else {
-                Ok(None)
+    let is_there = table.get(key).is_some();
+    let key = Step::Key(key);
+    let layer = Step::Key("layer");
+    match (part, fault) {
+        (Part::Configuration(_), _) => place_of(alloc, head, &[Step::Key("permits"), key]),
+        (Part::Layer(place), Fault::Kind(kind)) => {
+            let (place, kind) = (Step::Item(place), Step::Item(kind));
+            match place_of(alloc, head, &[layer, place, key, kind])? {
+                None => place_of(alloc, head, &[layer, place, key]),
+                found => Ok(found),
             }
         }
-        Part::Configuration(_) => place_of(alloc, head, &[Step::Key("permits"), key]),
-        Part::Layer(place) => {
-            let (layer, item) = (Step::Key("layer"), Step::Item(place));
-            match fault {
-                Fault::Kind(_, place) => {
-                    match place_of(alloc, head, &[layer, item, key, Step::Item(place)])? {
-                        None => place_of(alloc, head, &[layer, item, key]),
-                        found => Ok(found),
-                    }
-                }
-                _ if is_there => place_of(alloc, head, &[layer, item, key]),
-                _ => place_of(alloc, head, &[layer, item]),
-            }
+        (Part::Layer(place), _) if is_there => {
+            place_of(alloc, head, &[layer, Step::Item(place), key])
         }
+        (Part::Layer(place), _) => place_of(alloc, head, &[layer, Step::Item(place)]),
+        (Part::Head, _) if is_there => place_of(alloc, head, &[key]),
+        (Part::Head, _) => Ok(None),
     }
 }
 
@@ -305,7 +283,7 @@ pub(crate) fn fault_of<'a>(
     name: &str,
 ) -> Option<Explained<'a>> {
     let part = refused_part(told, table)?;
-    let (title, of_part, fault) = match part {
+    let (title, of_part, found) = match part {
         Part::Head => {
             let keys = ("", told.subject.keys());
             ("", table, fault_in(keys, (table, table), name)?)
@@ -317,11 +295,13 @@ pub(crate) fn fault_of<'a>(
             (keys.0, layer, fault_in(keys, (table, layer), name)?)
         }
     };
-    let place = place_in(told.alloc, head, (part, of_part), fault).ok()?;
+    let place = place_in(told.alloc, head, (part, of_part), found).ok()?;
+    let (key, fault) = found;
     Some(Explained {
         line: place.map(|place| Line::from(told.input, place)),
         part,
         title,
+        key,
         fault,
     })
 }

@@ -84,17 +84,13 @@ impl<'a> fmt::Display for Line<'a> {
 
 /// The first line that is nearly the separator, with all bytes before its line feed: apart from blanks, it begins with two dashes.
 pub(crate) fn near_separator(input: &[u8]) -> Option<Line<'_>> {
-    for (index, text) in input.split(|byte| *byte == b'\n').enumerate() {
-        if text.trim_ascii_start().starts_with(b"--") {
-            let number = index.saturating_add(1);
-            return Some(Line {
-                number,
-                column: 0,
-                text,
-            });
-        }
-    }
-    None
+    let mut lines = input.split(|byte| *byte == b'\n').enumerate();
+    let (index, text) = lines.find(|(_, text)| text.trim_ascii_start().starts_with(b"--"))?;
+    Some(Line {
+        number: index.saturating_add(1),
+        column: 0,
+        text,
+    })
 }
 
 /// Bytes as they are shown: 80 at most, and those that aren't printable ASCII as `\xNN`.

@@ -8,23 +8,15 @@ use resil_replay::head::read_head;
 use resil_replay::rows::{ReplayRow, read_rows};
 use resil_replay::timed::read_history;
 use resil_rule::{Event, Id, Limits, Reply, Rule};
-use std::fmt;
 
-/// The numbers of a pool, as they are written.
-#[derive(Clone, Copy)]
-pub(crate) struct Numbers<'a>(pub &'a Rule<u8>);
-
-impl fmt::Display for Numbers<'_> {
-    fn fmt<W: fmt::Write>(&self, f: &mut fmt::Formatter<W>) -> fmt::Result {
-        let rule = self.0;
-        let (workers, running) = (rule.workers(), rule.running());
-        let (core, max) = (rule.core(), rule.max());
-        let (waiting, queue) = (rule.waiting(), rule.limits().queue());
-        write!(
-            f,
-            "workers {workers}, with a job {running}; core size {core}, greatest size {max}; waiting {waiting} of {queue}"
-        )
-    }
+/// Says on standard error what numbers a pool has.
+pub(crate) fn say_pool<R: Eprint>(rt: &R, rule: &Rule<u8>) -> Option<()> {
+    let (workers, running) = (rule.workers(), rule.running());
+    let (core, max) = (rule.core(), rule.max());
+    let (waiting, queue) = (rule.waiting(), rule.limits().queue());
+    eprintln!(rt;
+        "resil: the pool there: workers {workers}, with a job {running}; core size {core}, greatest size {max}; waiting {waiting} of {queue}"
+    ).ok()
 }
 
 // The event of a row. The reply and the job that it takes are the pool's to say.

@@ -3,12 +3,13 @@
 use crate::body::{line_of, read_record, remark, row_fault};
 use crate::head::fault_of;
 use crate::place::{Line, Listed, Shown, near_separator};
-use crate::pool::{Numbers, rule_at};
+use crate::pool::{rule_at, say_pool};
 use crate::table::said_of;
 use csv::ByteRecord;
 use resil_chain::head::CHAIN_KEYS;
 use resil_heads::answer::answer_to;
 use resil_heads::forms::{Body, Key};
+use resil_heads::history::read_head;
 use resil_heads::load::LOAD_KEYS;
 use resil_heads::run::{RUN_BODY, RUN_KEYS};
 use resil_input::csv_rows::has_fields;
@@ -18,6 +19,9 @@ use resil_replay::{events, rows, timed};
 use resil_weave::head::WEAVE_KEYS;
 use std::alloc::Global;
 use std::str;
+
+// The fields of the header of the results of a `run`.
+const RESULTS_HEADER: &[&str] = &["caller", "number", "outcome", "calls", "waits", "asked"];
 
 /// What an input is for.
 #[derive(Clone, Copy)]
@@ -73,11 +77,6 @@ impl Subject {
         }
     }
 
-    // Whether its rows are events of a pool, to which the rule has an answer.
-    fn is_of_pool(self) -> bool {
-        matches!(self, Subject::Replay | Subject::Audit | Subject::History(_))
-    }
-
     // The number of callers that a row may name.
     fn callers(self) -> u16 {
         match self {
@@ -95,9 +94,10 @@ pub(crate) struct Told<'a> {
     pub input: &'a [u8],
 }
 
-/// Says on standard error what the line of an output means for its input, in one to three lines, each of
-/// which begins with `resil: `: by what the line names, which is a row, by its number from 1, the head, the header, or nothing
-/// that has a place. Where the line is no refusal and no `illegal`, or where memory for it isn't there, it says nothing.
+/// Says on standard error what the line of an output means for its input, in one to three lines, each of which begins with `resil: `:
+/// by what the line names, which is a row, by its number from 1, the head, the header, or nothing that has a place; then `judge`,
+/// where that takes what `audit` refuses. Where the line is no refusal and no `illegal`, or where memory for it isn't there, it says
+/// nothing.
 pub(crate) fn explain<R: Eprint + AllocGlobal>(
     rt: &R,
     subject: Subject,
@@ -123,7 +123,41 @@ pub(crate) fn explain<R: Eprint + AllocGlobal>(
             Ok(row) => explain_row(rt, told, row, name),
             Err(_) => explain_name(rt, name),
         },
+    }?;
+    if matches!(subject, Subject::Audit) {
+        let _named = name_judge(rt, told, place, name);
     }
+    Some(())
+}
+
+// What of an input that `audit` refuses for this, at a place, `judge` takes, if it does.
+fn taken_by_judge(told: Told<'_>, place: &str, name: &str) -> Option<&'static str> {
+    let (head, body) = split_input(told.input)?;
+    match place {
+        "head" => {
+            let is_of_run = name == "UnknownKey" && read_head(told.alloc, RUN_KEYS, head).is_ok();
+            is_of_run.then_some("the head of a `run`")
+        }
+        "body" => {
+            let header = read_record(told.alloc, body, 0)??;
+            has_fields(&header, timed::BODY.header).then_some("a history with times")
+        }
+        _ if name == "BadRow" => {
+            let record = read_record(told.alloc, body, place.parse().ok()?)??;
+            has_fields(&record, RESULTS_HEADER).then_some(
+                "the results of a `run` behind its history",
+            )
+        }
+        _ => None,
+    }
+}
+
+// Names `judge` on standard error where it takes an input that `audit` refuses for this, at a place.
+fn name_judge<R: Eprint>(rt: &R, told: Told<'_>, place: &str, name: &str) -> Option<()> {
+    let taken = taken_by_judge(told, place, name)?;
+    eprintln!(rt;
+        "resil: the command `judge` says the same of a history, and takes {taken} too"
+    ).ok()
 }
 
 // Says what a name means.
@@ -225,13 +259,15 @@ fn explain_row<R: Eprint>(rt: &R, told: Told<'_>, row: usize, name: &str) -> Opt
             "resil: row {row}, {line}its time {time} is lower than that of the row before it, {earlier}"
         ).ok();
     }
-    if !told.subject.is_of_pool() {
+    if matches!(
+        told.subject,
+        Subject::Chain | Subject::Weave | Subject::Run(_) | Subject::Load
+    ) {
         let allowed = said_of(name)?;
         return eprintln!(rt; "resil: row {row}, {line}{allowed}").ok();
     }
     let (rule, event) = rule_at(told, head, body, row)?;
     let answer = answer_to(&rule, event);
     eprintln!(rt; "resil: row {row}, {line}{answer}").ok()?;
-    let pool = Numbers(&rule);
-    eprintln!(rt; "resil: the pool there: {pool}").ok()
+    say_pool(rt, &rule)
 }

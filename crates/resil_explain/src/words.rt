@@ -1,6 +1,5 @@
 //! The words that a program is started with, and which of them is refused.
 
-use crate::judge::name_judge;
 use crate::place::Shown;
 use crate::told::{Subject, explain};
 use resil_heads::run::{NAMED_KEYS, RUN_KEYS};
@@ -43,8 +42,7 @@ fn requested_subject(alloc: Global, words: &[&str]) -> Option<Subject> {
     })
 }
 
-// How many of the words, from the first on, are together the longest that request something, or `None`
-// where memory runs out.
+// How many of the words, from the first on, are together the longest that request something, or `None` where memory runs out.
 fn accepted(alloc: Global, words: &[&str]) -> Option<usize> {
     let mut most = 0usize;
     for count in 2..words.len().min(MOST_WORDS) {
@@ -83,28 +81,24 @@ fn explain_words<R: Eprint>(rt: &R, alloc: Global, words: &[&str]) {
 
 // The same of the words of `resil_look`.
 fn explain_look_words<R: Eprint>(rt: &R, words: &[&str]) {
-    match words.get(1) {
+    let (place, allowed) = match words.get(1) {
         Some(word) if *word == "simulate" => {
             let has_history = words.get(2).is_some_and(|word| *word == "--history");
-            say_words(
-                rt,
-                words.get(if has_history { 3 } else { 2 }),
+            let place = if has_history { 3 } else { 2 };
+            (
+                place,
                 "the command simulate takes --history, and no more words",
-            );
+            )
         }
         Some(word) if LOOK_COMMANDS.contains(word) => {
-            say_words(
-                rt,
-                words.get(2),
+            (
+                2,
                 "the commands judge, stats and timeline take no more words",
-            );
+            )
         }
-        word => say_words(
-            rt,
-            word,
-            "the commands are judge, stats, timeline and simulate",
-        ),
-    }
+        _ => (1, "the commands are judge, stats, timeline and simulate"),
+    };
+    say_words(rt, words.get(place), allowed);
 }
 
 /// Says on standard error what the status and the first line of an output of `resil` mean for its words and its input, where it
@@ -120,11 +114,7 @@ pub fn explain_command<R: Eprint + AllocGlobal>(
         explain_words(rt, rt.alloc(), words);
     } else if code == 1 || line.starts_with(b"illegal ") {
         if let Some(subject) = requested_subject(rt.alloc(), words) {
-            let input = input.unwrap_or(&[]);
-            let said = explain(rt, subject, line, input);
-            if said.is_some() && matches!(subject, Subject::Audit) {
-                let _named = name_judge(rt, line, input);
-            }
+            let _said = explain(rt, subject, line, input.unwrap_or(&[]));
         }
     }
 }
