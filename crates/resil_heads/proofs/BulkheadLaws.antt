@@ -1,6 +1,6 @@
 -- Laws of the bulkheads of a head.
-use Rattle.std.proofs.Common.{◌≡◌, ◌≢◌, ◌∙◌, ◌∷◌, ◌++◌, ◌&&◌, ℕ, true, false, List, [], Option, Some, None, IfSome, IfNone, is_ok, Result, Ok, Err, length, map, nat_le, string_bytes, append_assoc, refl, sym, ap}
-use Rattle.std.proofs.lemmas.Bool.{and_from, and_parts, both_ways, false_from_ne_true, false≢true, le-leb, leb-true, true_from_ne_false}
+use Rattle.std.proofs.Common.{◌≡◌, ◌≢◌, ◌∙◌, ◌∷◌, ◌++◌, ◌&&◌, ℕ, true, false, List, [], Option, Some, None, IfSome, IfNone, Result, Ok, Err, length, map, nat_le, string_bytes, append_assoc, refl, sym, ap}
+use Rattle.std.proofs.lemmas.Bool.{and_from, and_parts, both_ways, false_from_ne_true, le-leb, leb-true, true_from_ne_false}
 use Rattle.std.proofs.lemmas.List.Sums.{AllPass-from_list_all, list_all-from_AllPass}
 use Rattle.std.specs.Cmp.Lexicographic.{bytes_decides}
 use Rattle.std.specs.List.{list_all}
@@ -12,7 +12,7 @@ use Rattle.resil_registry.specs.Registry.{RegistryView, instance_id, with_config
 use Rattle.resil_registry.specs.declared.error.RegistryError.{RegistryError}
 use Rattle.resil_registry.specs.declared.error.RegistryError.TheVariants.{ReservedName, NoSuchConfig, NameTaken, BadName, Memory}
 use Rattle.resil_heads.specs.LayerBulkheads.{parse_config, is_good_name, obtained, obtained_with, registry_error, with_configuration}
-use Rattle.resil_heads.specs.ByteOrder.{members_listed}
+use Rattle.resil_heads.specs.ByteOrder.{in_byte_order}
 use Rattle.resil_heads.specs.LayerBuild.{BuiltLayers}
 use Rattle.resil_heads.specs.Checks.{and_then}
 use Rattle.resil_heads.specs.Keys.{each}
@@ -51,14 +51,14 @@ other a b differ = false_from_ne_true (is_same a b) (λ is. differ ((bytes_decid
 -- ---- Configurations.
 
 -- the entries of a map as members
-pub members_listed-view : (entries : List Entry) → members_listed (members_view entries) ≡ map (λ (e : Entry). (string_bytes e.0, view e.1)) entries
-members_listed-view [] = refl
-members_listed-view (e ∷ entries) = ap (λ rest. (string_bytes e.0, view e.1) ∷ rest) (members_listed-view entries)
+pub in_byte_order-view : (entries : List Entry) → in_byte_order (members_view entries) ≡ map (λ (e : Entry). (string_bytes e.0, view e.1)) entries
+in_byte_order-view [] = refl
+in_byte_order-view (e ∷ entries) = ap (λ rest. (string_bytes e.0, view e.1) ∷ rest) (in_byte_order-view entries)
 
 pub configurations-init : (entries : List Entry) (prefix : List ConfigSpec) → prefix ≡ []
-    → after prefix (each (λ (e : Entry). parse_config (string_bytes e.0, view e.1)) entries) ≡ each parse_config (members_listed (members_view entries))
+    → after prefix (each (λ (e : Entry). parse_config (string_bytes e.0, view e.1)) entries) ≡ each parse_config (in_byte_order (members_view entries))
 configurations-init entries prefix none =
-    rw none (after-none _ ∙ sym (each-map parse_config (λ (e : Entry). (string_bytes e.0, view e.1)) entries) ∙ ap (each parse_config) (sym (members_listed-view entries)))
+    rw none (after-none _ ∙ sym (each-map parse_config (λ (e : Entry). (string_bytes e.0, view e.1)) entries) ∙ ap (each parse_config) (sym (in_byte_order-view entries)))
 
 pub configuration-added : (lists : RegistryView ℕ) (said : ConfigSpec) → IsFreeName lists said.name → with_configuration lists said ≡ Ok (with_config lists said.name said.permits)
 configuration-added lists said free = rw (good-name said.name free.good, other said.name default_name free.unreserved, free.new) refl
@@ -76,10 +76,6 @@ configuration-refused lists said NoSuchConfig never h = absurd never
 -- an id that a registry answers
 abbrev answered : ℕ → Result ℕ RegistryError
 answered id = Ok id
-
--- an answer isn't a refusal
-pub answered-apart : (id : ℕ) (why : RegistryError) → answered id ≡ Err why → ⊥
-answered-apart id why is = false≢true (sym (ap is_ok is))
 
 obtained-found : (lists new : RegistryView ℕ) (name config : List ℕ) (id : ℕ) (o : Option ℕ)
     → IfSome o (λ known. (answered id ≡ answered known) × (new ≡ lists)) → IfNone o (CreatesInstance lists name config id new)

@@ -59,15 +59,15 @@ array-init read items vs d prefix none same is =
     rw (← is, same) (each-init read view vs prefix none ∙ ap (each read) (sym (items_listed-of (map view vs))))
 
 -- a fraction has two items
-pub fraction_from-other : (vs : List Value) → length vs ≢ 2 → fraction_from (items_view vs) ≡ Err error.BadValue
-fraction_from-other [] other = refl
-fraction_from-other (p ∷ []) other = refl
-fraction_from-other (p ∷ q ∷ []) other = absurd (other refl)
-fraction_from-other (p ∷ q ∷ r ∷ rest) other = refl
+pub other_fraction : (vs : List Value) → length vs ≢ 2 → fraction_from (items_view vs) ≡ Err error.BadValue
+other_fraction [] other = refl
+other_fraction (p ∷ []) other = refl
+other_fraction (p ∷ q ∷ []) other = absurd (other refl)
+other_fraction (p ∷ q ∷ r ∷ rest) other = refl
 
 -- the first of the layers that are left passes
-pub checks-next : {X : Type 0} (stage : Stage) (f : X → Members) (xs : List X) (i : ℕ) (x : X) (passed : Unit {0}) (all : Result (Unit {0}) HeadError)
+pub next_checks : {X : Type 0} (stage : Stage) (f : X → Members) (xs : List X) (i : ℕ) (x : X) (passed : Unit {0}) (all : Result (Unit {0}) HeadError)
     → i < length xs → x ≡ get_or xs i x → check_layer stage (f x) ≡ Ok passed → check_layers stage (map f (drop i xs)) ≡ all → check_layers stage (map f (drop (i + 1) xs)) ≡ all
-checks-next stage f xs i x passed all within is said inv =
+next_checks stage f xs i x passed all within is said inv =
     let here : drop i xs ≡ x ∷ drop (i + 1) xs = drop_more xs i x within ∙ ap (λ z. z ∷ drop (i + 1) xs) (sym is) in
     rw (here, said) at inv

@@ -1,5 +1,4 @@
 pub mod BulkheadLaws
-pub mod ByteOrderLaws
 pub mod DocumentLaws
 pub mod LayerLaws
 pub mod LoadLaws

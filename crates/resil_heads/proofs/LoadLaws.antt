@@ -1,9 +1,10 @@
 -- Laws of the pools of a load: they are limits, and how many there are.
-use Rattle.std.proofs.Common.{◌≡◌, ◌≤◌, ◌*◌, ◌∷◌, ℕ, true, List, [], All, filter, flat_map, length, length-append, arith}
+use Rattle.std.proofs.Common.{◌≡◌, ◌≤◌, ◌*◌, ℕ, true, List, All, filter, Contains, flat_map, length, arith}
 use Rattle.std.proofs.lemmas.Bool.Decides.{nat_tests}
 use Rattle.std.proofs.lemmas.List.{length-map}
-use Rattle.std.proofs.lemmas.List.Elements.{All-weaker, filter_passes}
-use Rattle.std.proofs.lemmas.List.Sums.{count_by-le-length, length-filter}
+use Rattle.std.proofs.lemmas.List.Concat.{length-flat_map}
+use Rattle.std.proofs.lemmas.List.Elements.{All-contains_itself, All-weaker, filter_passes}
+use Rattle.std.proofs.lemmas.List.Sums.{count_by-le-length, length-filter, sum_by-le}
 use Rattle.resil_rule.specs.Limits.{AreLimits, Sizes}
 use Rattle.resil_heads.specs.Load.{combinations, is_pool, with_maxes, with_queues}
 
@@ -15,11 +16,7 @@ are_limits all =
 
 -- of three lists of at most 8 there are at most 512 combinations
 few-flat_map : {A B : Type 0} (f : A → List B) (n : ℕ) → ((x : A) → length (f x) ≤ n) → (xs : List A) → length (flat_map f xs) ≤ length xs * n
-few-flat_map f n few [] = omega arith
-few-flat_map f n few (x ∷ xs) =
-    let here = few x in
-    let rest = few-flat_map f n few xs in
-    rw (length-append (f x) (flat_map f xs)) (omega arith)
+few-flat_map f n few xs = rw length-flat_map (sum_by-le (λ x. length (f x)) n xs (All-weaker (Contains xs) (λ x. length (f x) ≤ n) (λ x _. few x) xs (All-contains_itself xs)))
 
 pub few-pools : (cores maxes queues : List ℕ) → length cores ≤ 8 → length maxes ≤ 8 → length queues ≤ 8 → length (filter is_pool (combinations cores maxes queues)) ≤ 512
 few-pools cores maxes queues c m q =

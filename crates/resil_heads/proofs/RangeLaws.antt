@@ -1,24 +1,23 @@
 -- Laws of ranges: what is built of a head is in its ranges, whatever the head says.
-use Rattle.std.proofs.Common.{◌≡◌, ◌≤◌, ◌<◌, ◌+◌, ◌^◌, ◌∙◌, ◌∷◌, not, ℕ, ℤ, pos, negsuc, Bool, true, false, cond, List, [], Option, Some, None, IfOk, is_some, Result, Ok, Err, length, length-append, All, nat_lt, refl, sym, ap, subst, arith}
+use Rattle.std.proofs.Common.{◌≡◌, ◌≤◌, ◌<◌, ◌+◌, ◌^◌, ◌∙◌, ◌∷◌, ℕ, ℤ, pos, negsuc, Bool, true, false, cond, List, [], Option, Some, None, IfOk, Result, Ok, Err, length, length-append, All, nat_lt, refl, sym, ap, subst, arith}
 use Rattle.std.proofs.lemmas.Bool.Decides.{nat_tests}
 use Rattle.std.proofs.lemmas.List.Elements.{All-cons, All-head, All-nil, All-push, All-tail}
 use Rattle.std.proofs.lemmas.List.Quantifiers.{position-Some}
 use Rattle.std.proofs.lemmas.List.{length-map}
 use Rattle.std.proofs.lemmas.Nat.{mul-le}
 use Rattle.std.specs.Str.{bytes_eq}
-use Rattle.resil_input.specs.TextEquality.{is_same}
 use Rattle.resil_registry.specs.Entries.{names_of, index_of}
 use Rattle.resil_heads.specs.ByteOrder.{in_byte_order}
 use Rattle.toml.specs.Data.{Data, Members}
-use Rattle.resil_decor.specs.ChainLimits.{attempts_of, call_limit, layer_limit, max_calls, IsChain}
+use Rattle.resil_decor.specs.ChainLimits.{attempts_of, max_calls, IsChain}
 use Rattle.resil_decor.specs.declared.layer.Layer.{Layer}
 use Rattle.resil_decor.specs.declared.layer.Layer.TheVariants as layer
-use Rattle.resil_registry.specs.Registry.{RegistryView, config_index, instance_id, with_config, with_instance, default_name}
+use Rattle.resil_registry.specs.Registry.{RegistryView, config_index, instance_id, with_instance, default_name}
 use Rattle.resil_retry.specs.Interval.{IsBackoff}
 use Rattle.resil_retry.specs.declared.interval.Backoff.{Backoff}
 use Rattle.resil_heads.specs.Checks.{Gives, and_then}
 use Rattle.resil_heads.specs.LayerBuild.{BuiltLayer, BuiltLayers, build_settings, chain_from_layers, build_interval, build_layer, build_layers, build_retry}
-use Rattle.resil_heads.specs.LayerBulkheads.{Obtained, parse_config, configured, is_good_name, layer_id, obtained, obtained_new, obtained_with, permits_in, parse_permits, unconfigured, with_configuration}
+use Rattle.resil_heads.specs.LayerBulkheads.{Obtained, parse_config, configured, layer_id, obtained, obtained_new, obtained_with, permits_in, parse_permits, unconfigured, with_configuration}
 use Rattle.resil_heads.specs.Document.{Keys}
 use Rattle.resil_heads.specs.Keys.{each, number_below, parse_integer}
 use Rattle.resil_heads.specs.LayerValues.{requested_layers}
@@ -161,16 +160,7 @@ abbrev IsChainOf : List Layer → List Layer → Type 0
 IsChainOf layers chain = IsChain chain × (chain ≡ layers)
 
 chain-ok : (n : ℕ) (layers : List Layer) → All (IsLayerInRange n) layers → IfOk (chain_from_layers layers) (IsChainOf layers)
-chain-ok n layers all =
-    passed (IsChainOf layers) _ _ _ (λ few.
-    passed (IsChainOf layers) _ _ _ (λ calls.
-    let chain : IsChain layers = record {
-      few_layers = not_above layer_limit (length layers) few;
-      few_calls = not_above call_limit (max_calls layers) calls;
-      some_call = max_calls-some n layers all;
-    } in
-    let same : IsChainOf layers layers = (chain, refl) in
-    same))
+chain-ok n layers all = let some = max_calls-some n layers all in grind (arith, nat_tests, some)
 
 -- ---- Configurations.
 
@@ -192,12 +182,8 @@ AreConfigured old new = ArePermitsInRange new × (new.instances ≡ old.instance
 
 with-configuration-ok : (lists : RegistryView ℕ) (said : ConfigSpec) → ArePermitsInRange lists → HasPermits said → IfOk (with_configuration lists said) (AreConfigured lists)
 with-configuration-ok lists said all few =
-    passed (AreConfigured lists) (not (is_good_name said.name)) _ _ (λ good.
-    passed (AreConfigured lists) (is_same said.name default_name) _ _ (λ unreserved.
-    passed (AreConfigured lists) (is_some (config_index lists said.name)) _ _ (λ new.
-    let more : AreConfigured lists (with_config lists said.name said.permits) =
-    (All-push (λ (configuration : List ℕ × ℕ). configuration.1 < 2 ^ 16) lists.configurations (said.name, said.permits) all few, refl) in
-    more)))
+    let more = All-push (λ (configuration : List ℕ × ℕ). configuration.1 < 2 ^ 16) lists.configurations (said.name, said.permits) all few in
+    grind (arith, more)
 
 configured-ok : (lists : RegistryView ℕ) (said : List ConfigSpec) → ArePermitsInRange lists → All HasPermits said → IfOk (configured lists said) (AreConfigured lists)
 configured-ok lists [] all few = (all, refl)

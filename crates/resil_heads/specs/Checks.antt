@@ -1,5 +1,4 @@
--- How the checks of a head follow each other, and how the result of a call agrees with a
--- definition.
+-- How the checks of a head follow each other, and how the result of a call agrees with a definition.
 use Rattle.std.specs.Prelude.{◌≡◌, ◌≢◌, Result, Ok, Err}
 use Rattle.resil_heads.specs.declared.error.HeadError.{HeadError}
 use Rattle.resil_heads.specs.declared.error.HeadError.TheVariants as error
@@ -9,8 +8,7 @@ abbrev pub and_then : {A B E : Type 0} → Result A E → (A → Result B E) →
 and_then (Ok x) check = check x
 and_then (Err why) check = Err why
 
--- The result of a call, which contracts see through `seen`, is what the definition says, unless
--- memory ran out.
+-- The result of a call, which contracts see through `seen`, is what the definition says, unless memory ran out.
 abbrev pub GivesBy : {T A : Type 0} → (T → A) → Result T HeadError → Result A HeadError → Type 0
 GivesBy seen (Ok x) said = said ≡ Ok (seen x)
 GivesBy seen (Err why) said = why ≢ error.Memory → said ≡ Err why

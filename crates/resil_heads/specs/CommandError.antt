@@ -24,8 +24,7 @@ IsError IsWhy error.Memory = Unit {0}
 IsError IsWhy error.NoThread = ⊥
 IsError IsWhy (error.Refused why) = IsWhy why
 
--- an error of `run`: memory, a thread that can't be started where this is given, or a refusal that
--- is one of the given
+-- an error of `run`: memory, a thread that can't be started where this is given, or a refusal that is one of the given
 abbrev pub IsRunError : Type 0 → (Refusal → Type 0) → CommandError → Type 0
 IsRunError LacksThread IsWhy error.Memory = Unit {0}
 IsRunError LacksThread IsWhy error.NoThread = LacksThread

@@ -1,5 +1,4 @@
--- What the values at the keys of a table say. A value that isn't of its kind, or isn't in its
--- range, is the error `BadValue`.
+-- What the values at the keys of a table say. A value that isn't of its kind, or isn't in its range, is the error `BadValue`.
 use Rattle.std.specs.Prelude.{ℕ, ◌^◌, ◌==◌, Bool, ℤ, pos, negsuc, List, [], ◌∷◌, Option, Some, None, Result, Ok, Err, ok_or, if◌then◌else◌, codes, nat_lt, option_map, option_and_then}
 use Rattle.std.specs.Option.{option_map_or}
 use Rattle.toml.specs.Data.{Data, Items, no_items, item, Members, get_member, as_str, as_integer, as_bool, as_array, as_table}
@@ -46,14 +45,9 @@ number_below limit (negsuc _) = Err error.BadValue
 abbrev pub parse_count : Data → Result ℕ HeadError
 parse_count value = and_then (parse_integer value) (number_below (2 ^ 32))
 
--- an integer from 0 on, in milliseconds
-abbrev pub wait_from : ℤ → Result ℕ HeadError
-wait_from (pos ms) = Ok ms
-wait_from (negsuc _) = Err error.BadValue
-
--- a value that is an integer from 0 on
+-- a value that is an integer from 0 on, of 64 bits as all are
 abbrev pub parse_wait : Data → Result ℕ HeadError
-parse_wait value = and_then (parse_integer value) wait_from
+parse_wait value = and_then (parse_integer value) (number_below (2 ^ 64))
 
 -- true or false
 abbrev pub parse_flag : Data → Result Bool HeadError

@@ -1,5 +1,4 @@
--- What is built of the layers that a head requests: each part, or the error of the first that
--- breaks its rule.
+-- What is built of the layers that a head requests: each part, or the error of the first that breaks its rule.
 use Rattle.std.specs.Prelude.{ℕ, not, ◌==◌, ◌&&◌, List, [], ◌∷◌, Result, Ok, Err, if◌then◌else◌, length, nat_lt, nat_le}
 use Rattle.resil_decor.specs.ChainLimits.{call_limit, layer_limit, max_calls}
 use Rattle.resil_decor.specs.declared.error.DecorError.TheVariants as chain
@@ -72,8 +71,7 @@ build_layers lists (said ∷ more) =
     and_then (build_layer lists said) (λ allowed.
     and_then (build_layers allowed.lists more) (λ rest. Ok (record { layers = allowed.layer ∷ rest.layers; lists = rest.lists })))
 
--- the layers, where they make a chain: first their number is checked, then the number of calls that
--- they may make
+-- the layers, where they make a chain: first their number is checked, then the number of calls that they may make
 abbrev pub chain_from_layers : List Layer → Result (List Layer) HeadError
 chain_from_layers layers =
     if nat_lt layer_limit (length layers) then Err (error.Chain chain.TooManyLayers)

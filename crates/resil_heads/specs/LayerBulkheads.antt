@@ -1,5 +1,4 @@
--- The bulkheads of a head: the configurations of its table `permits`, and the ids that its layers
--- obtain.
+-- The bulkheads of a head: the configurations of its table `permits`, and the ids that its layers obtain.
 use Rattle.std.specs.Prelude.{ℕ, ◌^◌, not, ◌&&◌, Bool, is_some, List, [], ◌∷◌, Option, Some, None, Result, Ok, Err, if◌then◌else◌, codes, length, nat_lt, nat_le}
 use Rattle.std.specs.List.{list_all}
 use Rattle.toml.specs.Data.{Data, Members, no_members}
@@ -42,8 +41,7 @@ is_good_name name = nat_le 1 (length name) && nat_le (length name) 64 && list_al
 abbrev pub unconfigured : RegistryView ℕ
 unconfigured = record { configurations = (default_name, 25) ∷ []; instances = [] }
 
--- the registry with one configuration more; the name is checked as a text, then against `default`,
--- then against the names that are there
+-- the registry with one configuration more; the name is checked as a text, then against `default`, then against the names that are there
 abbrev pub with_configuration : RegistryView ℕ → ConfigSpec → Result (RegistryView ℕ) HeadError
 with_configuration lists said =
     if not (is_good_name said.name) then Err (error.Registry registry.BadName)
@@ -61,8 +59,7 @@ pub record Obtained : Type 0 where
   pub id : ℕ
   pub lists : RegistryView ℕ
 
--- a bulkhead that isn't there yet: its id is the number of those before, and it has the
--- configuration at this index
+-- a bulkhead that isn't there yet: its id is the number of those before, and it has the configuration at this index
 abbrev pub obtained_new : RegistryView ℕ → List ℕ → Option ℕ → Result Obtained HeadError
 obtained_new lists name None = Err (error.Registry registry.NoSuchConfig)
 obtained_new lists name (Some place) = Ok (record { id = length lists.instances; lists = with_instance lists name place })

@@ -26,8 +26,7 @@ parse_chain keys head =
     and_then (each parse_config (in_byte_order permits)) (λ configurations.
     Ok (record { configurations = configurations; layers = layers }))))
 
--- what is built of a request: the configurations in byte order of their names, then the layers, and
--- then the chain
+-- what is built of a request: the configurations in byte order of their names, then the layers, and then the chain
 unfoldable pub build_chain : ChainSpecView → Result BuiltLayers HeadError
 build_chain asked =
     and_then (configured unconfigured asked.configurations) (λ lists.

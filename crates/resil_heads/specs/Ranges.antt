@@ -11,8 +11,7 @@ use Rattle.resil_retry.specs.Interval.{IsBackoff}
 abbrev pub IsRetryInRange : RetryConfigView → Type 0
 IsRetryInRange settings = IsBackoff settings.interval × (1 ≤ settings.max_attempts) × (settings.max_attempts ≤ attempt_limit)
 
--- a layer whose retry is in range, and whose bulkhead is one of this number of bulkheads, with ids
--- from 0 on
+-- a layer whose retry is in range, and whose bulkhead is one of this number of bulkheads, with ids from 0 on
 abbrev pub IsLayerInRange : ℕ → Layer → Type 0
 IsLayerInRange bulkheads (Retry settings) = IsRetryInRange settings
 IsLayerInRange bulkheads (Bulkhead id) = id < bulkheads

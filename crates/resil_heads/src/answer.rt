@@ -99,8 +99,7 @@ pub fn answer_to(rule: &Rule<u8>, event: Event) -> Answer {
     }
 }
 
-/// A rule of these limits that has carried out all events but the last, and that one, or `None` where there is none or memory
-/// runs out.
+/// A rule of these limits that has carried out all events but the last, and that one, or `None` where there is none or memory runs out.
 pub fn rule_at_last(alloc: Global, limits: Limits, events: &[Event]) -> Option<(Rule<u8>, Event)> {
     let (last, before) = events.split_last()?;
     let mut rule = Rule::new(alloc, limits, 0).ok()?;

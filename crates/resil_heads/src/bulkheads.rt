@@ -1,6 +1,5 @@
-//! The bulkheads of a service, as a text in TOML names them: the table `permits` has configurations
-//! by name, as in a head, and each `[[bulkhead]]` has a name, a configuration and the longest wait
-//! for a permit.
+//! The bulkheads of a service, as a text in TOML names them: the table `permits` has configurations by name, as in a head, and each
+//! `[[bulkhead]]` has a name, a configuration and the longest wait for a permit.
 //!
 //! A text is read in steps, in this order: `read_text`, `read_configurations`, `read_tables`, and
 //! `parse_bulkhead` for each table. Who takes them makes the bulkheads.
@@ -134,7 +133,7 @@ pub fn read_configurations(alloc: Global, text: &Table) -> Result<Registry<u16>,
 {
     match parse_configurations(alloc, text) {
         Ok(names) => Ok(names),
-        Err(fault) => Err(at(Place::Permits, fault.why())),
+        Err(fault) => Err(at(Place::Permits, fault.into())),
     }
 }
 
@@ -146,14 +145,10 @@ pub fn read_configurations(alloc: Global, text: &Table) -> Result<Registry<u16>,
 pub fn read_tables<'a>(alloc: Global, text: &'a Table) -> Result<Vec<&'a Table>, TextError>
     ensures { IfOk result (λ tables. bulkhead_tables (table_view text.now) ≡ Ok (map (λ table. table_view table.now) tables.items)) }
 {
-    match tables_at(alloc, "bulkhead", text) {
-        Ok(tables) => Ok(tables),
-        Err(why) => Err(at(Place::Text, why)),
-    }
+    tables_at(alloc, "bulkhead", text).map_err(|why| at(Place::Text, why))
 }
 
-/// What the table of a bulkhead says. One without `config` has the configuration `default`, and one
-/// without `wait` waits for no permit.
+/// What the table of a bulkhead says. One without `config` has the configuration `default`, and one without `wait` waits for no permit.
 ///
 /// # Errors
 ///

@@ -1,8 +1,7 @@
 //! Why a command has no text.
 //!
-//! The error of each step becomes a `CommandError` by `?`, with the row that the step named, so each
-//! command reads as its steps. All are said here, but for that of carrying out the rows of `replay`
-//! and that of a run, which their commands say.
+//! The error of each step becomes a `CommandError` by `?`, with the row that the step named, so each command reads as its steps. All are
+//! said here, but for that of carrying out the rows of `replay` and that of a run, which their commands say.
 
 ghost use Rattle.std.specs.Prelude.{◌≡◌};
 ghost use Rattle.resil_heads.specs.CommandError.{IsErrorOutput, from_body_error, from_head_error, from_weave_error};

@@ -1,9 +1,8 @@
 //! A head as a TOML table, and its keys.
 //!
-//! A head is checked in stages, each over the whole table before the next one begins: it is TOML,
-//! each key is known, the required keys are there, each value is of its kind and in its range, and
-//! last come the checks of the command. The first stage that fails gives the error, so the order of
-//! the keys in the text never decides.
+//! A head is checked in stages, each over the whole table before the next one begins: it is TOML, each key is known, the required keys
+//! are there, each value is of its kind and in its range, and last come the checks of the command. The first stage that fails gives the
+//! error, so the order of the keys in the text never decides.
 
 ghost use Rattle.std.specs.Prelude.{◌≡◌, map};
 ghost use Rattle.toml.specs.View.{table_view};

@@ -11,8 +11,7 @@ use std::alloc::{AllocError, AllocFailed};
 use std::marker::Model;
 use thiserror::Error;
 
-/// Why a head is refused. `Memory` may come at any stage; the other errors are in the order of the
-/// stages.
+/// Why a head is refused. `Memory` may come at any stage; the other errors are in the order of the stages.
 #[derive(Clone, Copy, Debug, Error)]
 pub enum HeadError {
     /// Memory ran out.
@@ -98,13 +97,6 @@ impl HeadFault {
         ensures { result ≡ why }
     {
         HeadFault { why, part }
-    }
-
-    /// Why it is refused.
-    pub fn why(&self) -> HeadError
-        ensures { result ≡ self.now }
-    {
-        self.why
     }
 
     /// The part that is refused.

@@ -20,7 +20,7 @@ pub enum Form {
     /// An integer of a head, from the least to the greatest.
     Integer(i64, i64),
     /// An integer of a head that is read where it is from 0 to 4,294,967,295, and then taken from the least to the greatest.
-    Count(u32, u32),
+    Count(i64, i64),
     /// One such integer, or an array of 1 to 8 of them.
     Sizes(u32, u32),
     AnyInteger,
@@ -57,10 +57,7 @@ pub enum Form {
 impl fmt::Display for Form {
     fn fmt<W: fmt::Write>(&self, f: &mut fmt::Formatter<W>) -> fmt::Result {
         let wanted = match *self {
-            Form::Integer(least, greatest) => {
-                return write!(f, "an integer from {least} to {greatest}");
-            }
-            Form::Count(least, greatest) => {
+            Form::Integer(least, greatest) | Form::Count(least, greatest) => {
                 return write!(f, "an integer from {least} to {greatest}");
             }
             Form::Sizes(least, greatest) => {

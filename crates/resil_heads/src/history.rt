@@ -28,19 +28,13 @@ pub struct HistoryHead {
     pub name: String,
 }
 
-// Whether a text has more than 64 characters.
-fn is_long(text: &str) -> bool
-    ensures { result ≡ nat_lt 64 (length (chars text.now)) }
-{
-    text.chars().count() > 64
-}
-
 // The name in a table, empty where it has none. Errors: `BadValue` where it is no text, or one of more than 64 characters.
+#[tactic(auto, using(std::proofs::lemmas::Str::chars_from_encodes))]
 fn parse_name(alloc: Global, table: &Table) -> Result<String, HeadError>
     ensures { GivesBy string_bytes result (parse_name (table_view table.now)) }
 {
     let name = text_at("name", "", table)?.as_str();
-    if is_long(name) {
+    if name.chars().count() > 64 {
         return Err(HeadError::BadValue);
     }
     Ok(name.to_string(alloc)?)

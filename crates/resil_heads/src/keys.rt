@@ -50,6 +50,7 @@ impl<'a> HeadText<'a> {
 }
 
 /// The value at a key.
+#[tactic(auto, using(toml::proofs::Views::table_get))]
 pub(crate) fn value_at<'a>(key: &str, table: &'a Table) -> Option<&'a Value>
     ensures { option_map (λ value. view value.now) result ≡ get_member key.now (table_view table.now) }
 {
@@ -130,8 +131,9 @@ pub(crate) fn flag_at(key: &str, default: bool, table: &Table) -> Result<bool, H
     }
 }
 
-// An array of two numbers, the numerator and the denominator.
-fn parse_fraction(value: &Value) -> Result<(u32, u32), HeadError>
+/// An array of two numbers, the numerator and the denominator.
+#[tactic(auto, using(crate::proofs::LayerLaws::other_fraction))]
+pub(crate) fn parse_fraction(value: &Value) -> Result<(u32, u32), HeadError>
     ensures { result ≡ parse_fraction (view value.now) }
 {
     let Some(items) = value.as_array() else {
@@ -141,17 +143,6 @@ fn parse_fraction(value: &Value) -> Result<(u32, u32), HeadError>
         [numerator, denominator] => Ok((parse_count(numerator)?, parse_count(denominator)?)),
         _ => Err(HeadError::BadValue),
     }
-}
-
-/// The fraction at a key, as its numerator and its denominator.
-pub(crate) fn fraction_at(
-    key: &str,
-    default: (u32, u32),
-    table: &Table,
-) -> Result<(u32, u32), HeadError>
-    ensures { result ≡ parse_at parse_fraction default key.now (table_view table.now) }
-{
-    value_at(key, table).map_or(Ok(default), parse_fraction)
 }
 
 /// A kind of error, by its text.

@@ -1,9 +1,8 @@
 //! The layers of a head, with the bulkheads that they name, as `chain` and `run` have them.
 //!
-//! A head is read whole before the first of its parts is built, so that a bad value in the last
-//! layer comes before an interval that is too long in the first. So what each layer says is read
-//! first (`values`), and then the configurations, the layers and the chain are built (`bulkheads`,
-//! `build`).
+//! A head is read whole before the first of its parts is built, so that a bad value in the last layer comes before an interval that is
+//! too long in the first. So what each layer says is read first (`values`), and then the configurations, the layers and the chain are
+//! built (`bulkheads`, `build`).
 
 ghost use Rattle.toml.specs.View.{table_view};
 ghost use Rattle.resil_heads.specs.Checks.{Gives};
@@ -72,10 +71,9 @@ impl Model for BuiltChain {
 ///
 /// # Errors
 ///
-/// The first in this order: `BadValue` where `permits` isn't a table or `layer` isn't an array of
-/// tables; `MissingKey` or `BadValue` for the first layer that has no kind or an unknown one;
-/// `BadValue` for an unknown backoff; `UnknownKey`; `MissingKey`; `BadValue`. `Memory` may come at
-/// any step.
+/// The first in this order: `BadValue` where `permits` isn't a table or `layer` isn't an array of tables; `MissingKey` or `BadValue` for
+/// the first layer that has no kind or an unknown one; `BadValue` for an unknown backoff; `UnknownKey`; `MissingKey`; `BadValue`.
+/// `Memory` may come at any step.
 #[tactic(auto, unfolding(crate::specs::Layers::parse_chain))]
 pub fn parse_chain<'a>(
     alloc: Global,

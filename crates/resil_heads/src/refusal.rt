@@ -65,8 +65,7 @@ pub enum StepRefusal {
 /// Why a run that was carried out has no report.
 #[derive(Clone, Copy, Debug)]
 pub enum RunRefusal {
-    /// The pool didn't take a job's run, an accepted job has no result, or the pool has other
-    /// sizes.
+    /// The pool didn't take a job's run, an accepted job has no result, or the pool has other sizes.
     Stranger,
     /// The receipts of the callers aren't what the history says.
     ReceiptsDiffer,

@@ -23,12 +23,10 @@ pub const MAX: Key = Key::Required("max", Form::Count(1, 64));
 /// The capacity of the queue, in jobs.
 pub const QUEUE: Key = Key::Optional("queue", Form::Count(1, 65_536));
 
-// The capacity of the queue where a head names none, in jobs (Resilience4j user guide, Bulkhead,
-// `queueCapacity`).
+// The capacity of the queue where a head names none, in jobs (Resilience4j user guide, Bulkhead, `queueCapacity`).
 pub(crate) const DEFAULT_QUEUE: u32 = 100;
 
-/// The limits that a table gives by its keys `core` and `max` (workers) and `queue` (jobs, 100
-/// where it is absent). It takes no memory.
+/// The limits that a table gives by its keys `core` and `max` (workers) and `queue` (jobs, 100 where it is absent). It takes no memory.
 ///
 /// # Errors
 ///

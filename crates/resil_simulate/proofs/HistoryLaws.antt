@@ -1,5 +1,5 @@
 -- The submissions of a history: the times of their starts and finishes, and the load that they are.
-use Rattle.std.proofs.Common.{◌≡◌, ◌≤◌, ◌<◌, ◌+◌, ◌*◌, ◌^◌, ◌==◌, ◌∷◌, [], ◌++◌, ◌∙◌, ℕ, zero, suc, Bool, true, false, cond, List, Option, Some, None, filter, length, map, slice_get, slice_index, take, option_map, refl, sym, ap, subst, arith}
+use Rattle.std.proofs.Common.{◌≡◌, ◌≤◌, ◌<◌, ◌+◌, ◌^◌, ◌==◌, ◌∷◌, [], ◌++◌, ◌∙◌, ℕ, zero, suc, Bool, true, false, cond, List, Option, Some, None, length, slice_get, slice_index, take, option_map, refl, sym, ap, subst, arith}
 use Rattle.std.specs.BTreeMap.{BTreeMap, get}
 use Rattle.std.specs.List.{enumerate_from, filter_map, find}
 use Rattle.std.specs.Option.{option_map_or, option_or}
@@ -22,7 +22,6 @@ use Rattle.resil_virtual.specs.declared.arrival.Arrival.{Arrival}
 use Rattle.resil_simulate.specs.History.{AreTimesOf, arrival_by, arrivals_by, is_of, job_at, key, run_of, submissions_in, submitted_at, submitted_id, time_of}
 use Rattle.resil_simulate.specs.Load.{AreInTime}
 use Rattle.resil_simulate.specs.declared.history.Moment.{Moment}
-use Rattle.resil_simulate.specs.declared.history.Submitted.{Submitted}
 use Rattle.resil_simulate.proofs.LoadLaws.{load}
 
 -- an event with its time, for what is never read

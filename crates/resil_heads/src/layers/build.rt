@@ -1,5 +1,4 @@
-//! Builds the layers that a head requests: intervals, retries, bulkheads with their ids, fallbacks,
-//! and the chain of them all.
+//! Builds the layers that a head requests: intervals, retries, bulkheads with their ids, fallbacks, and the chain of them all.
 //!
 //! The first part that can't be built gives the error. The registry goes from one layer to the
 //! next, so a name that two layers have is one bulkhead.
@@ -50,8 +49,7 @@ fn build_retry(said: RetrySpec) -> Result<RetryConfig, HeadError>
 }
 
 // The layer that is requested; a bulkhead has the id that the registry gives it.
-// Errors: of a retry those of its parts; of a bulkhead `BadName`, `NoSuchConfig`, `Memory`, in this
-// order.
+// Errors: of a retry those of its parts; of a bulkhead `BadName`, `NoSuchConfig`, `Memory`, in this order.
 fn build_layer(registry: &mut Registry<u16>, said: LayerSpec) -> Result<Layer, HeadError>
     ensures { GivesBy (λ layer. record { layer = layer; lists = registry.new }) result (build_layer registry.old said.entry) }
 {

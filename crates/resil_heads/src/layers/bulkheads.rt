@@ -1,16 +1,15 @@
 //! The bulkheads of a head: the configurations in its table `permits`, and the ids of its layers.
 //!
-//! A registry has the configurations and gives each name its id. It is made anew for each head, so
-//! the ids of a chain count its bulkheads from 0, in the order in which its layers name them. The
-//! configurations are added in byte order of their names (`specs/ByteOrder.antt`), so their order
-//! in the text never decides which of them gives the error.
+//! A registry has the configurations and gives each name its id. It is made anew for each head, so the ids of a chain count its bulkheads
+//! from 0, in the order in which its layers name them. The configurations are added in byte order of their names
+//! (`specs/ByteOrder.antt`), so their order in the text never decides which of them gives the error.
 
 ghost use Rattle.std.specs.Prelude.{◌≡◌};
 ghost use Rattle.std.specs.Option.{option_map_or};
 ghost use Rattle.toml.specs.Data.{no_members};
 ghost use Rattle.toml.specs.View.{view, table_view};
 ghost use Rattle.resil_heads.specs.Checks.{GivesBy, Gives};
-ghost use Rattle.resil_heads.specs.ByteOrder.{IsByteOrder, in_byte_order};
+ghost use Rattle.resil_heads.specs.ByteOrder.{AreInByteOrder, in_byte_order};
 ghost use Rattle.resil_heads.specs.Keys.{each};
 ghost use Rattle.resil_heads.specs.LayerBulkheads.{permits_in, parse_permits, parse_config, registry_error, unconfigured, with_configuration, configured, obtained};
 
@@ -20,8 +19,7 @@ use resil_registry::{Registry, RegistryError};
 use std::alloc::Global;
 use toml::{Table, Value};
 
-/// The permits of a bulkhead where a head names no number (Resilience4j user guide, Bulkhead,
-/// `maxConcurrentCalls`).
+/// The permits of a bulkhead where a head names no number (Resilience4j user guide, Bulkhead, `maxConcurrentCalls`).
 pub const DEFAULT_PERMITS: u16 = 25;
 
 /// What a head says of a configuration.
@@ -47,11 +45,18 @@ fn parse_permits(value: &Value) -> Result<u16, HeadError>
     u16::try_from(parse_integer(value)?).map_err(|_| HeadError::BadValue)
 }
 
-// The configurations in a table, in byte order of their names. Errors: `BadValue`, `Memory`.
-fn configs_in<'a>(alloc: Global, table: &'a Table) -> Result<Vec<ConfigSpec<'a>>, HeadFault>
-    ensures { GivesBy (λ said. said.items) result (each parse_config (in_byte_order (table_view table.now))) }
+/// The configurations of a head, in byte order of their names. Errors: `BadValue` for the first
+/// value that is no number of permits; `Memory`.
+pub(crate) fn parse_configs<'a>(
+    alloc: Global,
+    permits: Option<&'a Table>,
+) -> Result<Vec<ConfigSpec<'a>>, HeadFault>
+    ensures { GivesBy (λ said. said.items) result (each parse_config (in_byte_order (option_map_or (λ table. table_view table.now) permits.entry no_members))) }
 {
     let mut said = Vec::new(alloc);
+    let Some(table) = permits else {
+        return Ok(said);
+    };
     'entries: for (name, value) in table.iter() {
         match parse_permits(value) {
             Ok(permits) => {
@@ -62,20 +67,6 @@ fn configs_in<'a>(alloc: Global, table: &'a Table) -> Result<Vec<ConfigSpec<'a>>
         }
     }
     Ok(said)
-}
-
-/// The configurations of a head, in byte order of their names. Errors: `BadValue` for the first
-/// value that is no number of permits; `Memory`.
-pub(crate) fn parse_configs<'a>(
-    alloc: Global,
-    permits: Option<&'a Table>,
-) -> Result<Vec<ConfigSpec<'a>>, HeadFault>
-    ensures { GivesBy (λ said. said.items) result (each parse_config (in_byte_order (option_map_or (λ table. table_view table.now) permits.entry no_members))) }
-{
-    match permits {
-        Some(table) => configs_in(alloc, table),
-        None => Ok(Vec::new(alloc)),
-    }
 }
 
 /// The error of a head of which a registry refuses a part.
@@ -101,8 +92,7 @@ fn add_configuration(registry: &mut Registry<u16>, said: ConfigSpec) -> Result<(
     }
 }
 
-/// A registry with the default configuration and these. Errors: that of the first configuration
-/// that can't be added; `Memory`.
+/// A registry with the default configuration and these. Errors: that of the first configuration that can't be added; `Memory`.
 pub(crate) fn configured(alloc: Global, said: Vec<ConfigSpec>) -> Result<Registry<u16>, HeadFault>
     ensures { Gives result (configured unconfigured said.entry.items) }
 {
@@ -133,9 +123,9 @@ pub(crate) fn obtained(
     }
 }
 
-/// The law of byte order: what the definition calls the members of a table in byte order are in
-/// byte order, and they are the members of the table, each as often as there. It does nothing: its
-/// contract is what it is for.
-pub fn byte_order_is_of_members()
-    ensures { IsByteOrder }
-{}
+/// The law of byte order: a table has its members in byte order of their keys. Its contract is what it is for.
+pub fn byte_order_is_of_members(table: &Table)
+    ensures { AreInByteOrder (table_view table.now) }
+{
+    let _members = table.iter();
+}

@@ -1,9 +1,8 @@
-//! What the layers of a head say: the kind of each, the keys that it may have and those that it
-//! needs, and the values at them, each of its kind and in its range.
+//! What the layers of a head say: the kind of each, the keys that it may have and those that it needs, and the values at them, each
+//! of its kind and in its range. Nothing is built of the layers yet.
 //!
-//! Each stage goes over all layers before the next one begins: first their kinds, then the backoffs
-//! of the retries, then keys that aren't known, then required keys that are missing, then values.
-//! Nothing is built of the layers yet.
+//! Each stage goes over all layers before the next one begins: first their kinds, then the backoffs of the retries, then keys that
+//! aren't known, then required keys that are missing, then values.
 
 ghost use Rattle.std.specs.Prelude.{◌≡◌, map};
 ghost use Rattle.toml.specs.View.{table_view};
@@ -16,7 +15,7 @@ use crate::document::{check_known, check_required};
 use crate::error::{HeadError, HeadFault, Part};
 use crate::forms::{Form, Key};
 use crate::keys::{
-    HeadText, count_at, flag_at, fraction_at, kinds_at, parse_integer, parse_text, required,
+    HeadText, count_at, flag_at, kinds_at, parse_fraction, parse_integer, parse_text, required,
     result_test_at, tables_at, text_at, value_at, wait_at,
 };
 use resil_registry::DEFAULT_CONFIG;
@@ -91,12 +90,10 @@ pub const FALLBACK_KEYS: &[Key] = &[
 // The attempts of a retry where a head names none (Resilience4j user guide, Retry, `maxAttempts`).
 const DEFAULT_ATTEMPTS: u32 = 3;
 
-// The first wait of a retry where a head names none, in milliseconds (Resilience4j user guide,
-// Retry, `waitDuration`).
+// The first wait of a retry where a head names none, in milliseconds (Resilience4j user guide, Retry, `waitDuration`).
 const DEFAULT_INTERVAL: u64 = 500;
 
-// The multiplier of an exponential interval where a head names none: three halves (Resilience4j
-// user guide, Retry, interval functions).
+// The multiplier of an exponential interval where a head names none: three halves (Resilience4j user guide, Retry, interval functions).
 const DEFAULT_MULTIPLIER: (u32, u32) = (3, 2);
 
 /// The kind of a layer.
@@ -230,6 +227,7 @@ fn check_layer(stage: Stage, layer: &Table) -> Result<(), HeadError>
 }
 
 // Checks all layers at a stage. Errors: that of the first layer that fails.
+#[tactic(auto, using(crate::proofs::LayerLaws::next_checks))]
 fn check_layers(stage: Stage, layers: &[&Table]) -> Result<(), HeadFault>
     ensures { Gives result (check_layers stage (map (λ layer. table_view layer.now) layers.now)) }
 {
@@ -252,7 +250,10 @@ fn parse_interval(backoff: BackoffKind, layer: &Table) -> Result<IntervalSpec, H
     match backoff {
         BackoffKind::Fixed => Ok(IntervalSpec::Fixed(initial)),
         BackoffKind::Exponential => {
-            let (numerator, denominator) = fraction_at("multiplier", DEFAULT_MULTIPLIER, layer)?;
+            let (numerator, denominator) = value_at("multiplier", layer).map_or(
+                Ok(DEFAULT_MULTIPLIER),
+                parse_fraction,
+            )?;
             let cap = wait_at("cap", MAX_INTERVAL, layer)?;
             Ok(IntervalSpec::Exponential {
                 initial,
@@ -264,8 +265,7 @@ fn parse_interval(backoff: BackoffKind, layer: &Table) -> Result<IntervalSpec, H
     }
 }
 
-// The kinds of error that a layer acts on: those at the key that lists them, but none that is
-// ignored. Errors: `BadValue`, `Memory`.
+// The kinds of error that a layer acts on: those at the key that lists them, but none that is ignored. Errors: `BadValue`, `Memory`.
 #[tactic(auto, unfolding(crate::specs::LayerValues::parse_error_test))]
 fn parse_error_test(alloc: Global, listed: &str, layer: &Table) -> Result<ErrorTest, HeadError>
     ensures { Gives result (parse_error_test listed.now (table_view layer.now)) }

@@ -1,4 +1,4 @@
-use Rattle.std.proofs.Common.{◌≡◌, ◌∙◌, ◌+◌, ◌++◌, ◌∷◌, [], List, Some, ap, get_or, refl, sym}
+use Rattle.std.proofs.Common.{◌≡◌, ◌∙◌, ◌+◌, ◌++◌, ◌∷◌, [], List, Some, ap, get_or, refl}
 use Rattle.resil_stats.proofs.PlaceLaws.{made_none, made_one}
 use Rattle.resil_simulate.specs.History.{submitted_at}
 use Rattle.resil_simulate.specs.declared.history.Submitted.{Submitted}

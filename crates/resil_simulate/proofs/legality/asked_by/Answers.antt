@@ -1,4 +1,4 @@
-use Rattle.std.proofs.Common.{[], ◌+◌, arith, take}
+use Rattle.std.proofs.Common.{[], arith, take}
 use Rattle.std.proofs.lemmas.List.{take_more}
 use Rattle.resil_stats.proofs.LegalLaws.{no_event}
 use Rattle.resil_stats.proofs.PlaceLaws.{allowed-at}

@@ -1,4 +1,4 @@
-use Rattle.std.proofs.Common.{length-drop, arith}
+use Rattle.std.proofs.Common.{arith}
 use Rattle.std.proofs.lemmas.Grind.{common_steps}
 use Rattle.resil_rule.specs.History.{started_id}
 use Rattle.resil_stats.proofs.CountLaws.{made_few}

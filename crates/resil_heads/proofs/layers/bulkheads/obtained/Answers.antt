@@ -1,4 +1,4 @@
-use Rattle.resil_heads.proofs.BulkheadLaws.{answered-apart, obtained-given, obtained-refused}
+use Rattle.resil_heads.proofs.BulkheadLaws.{obtained-given, obtained-refused}
 use Rattle.resil_heads.proofs.layers.bulkheads.obtained.Goals as goal
 
 pub returns-in-Ok : goal.returns-in-Ok
@@ -6,7 +6,7 @@ returns-in-Ok c =
     let good = rw c.as_str.ensures at c.in-Ok.ensures.bad_name in
     let known = rw c.as_str.ensures at c.in-Ok.ensures.known in
     let made = rw (c.as_str.ensures, c.as_str-2.ensures) at c.in-Ok.ensures.made in
-    obtained-given c.args.registry.now c.obtain_with.new.self c.args.name c.args.config c.in-Ok.id (λ bad. answered-apart c.in-Ok.id _ (good.1 bad)) known made
+    obtained-given c.args.registry.now c.obtain_with.new.self c.args.name c.args.config c.in-Ok.id (λ bad. cc (good.1 bad)) known made
 
 pub returns-in-Err : goal.returns-in-Err
 returns-in-Err c =
