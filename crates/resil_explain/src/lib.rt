@@ -23,4 +23,5 @@ mod words;
 
 pub use program::{FailureTracking, KeptFront, KeptInput, Output, write_output};
 pub use resil_heads::answer::{Answer, answer_to_last, name_of};
-pub use words::{borrowed, explain_command, explain_look, own_words};
+pub use told::Subject;
+pub use words::{borrowed, explain_command, explain_input, explain_look, own_words};

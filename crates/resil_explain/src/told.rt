@@ -25,7 +25,7 @@ const RESULTS_HEADER: &[&str] = &["caller", "number", "outcome", "calls", "waits
 
 /// What an input is for.
 #[derive(Clone, Copy)]
-pub(crate) enum Subject {
+pub enum Subject {
     /// `replay`.
     Replay,
     /// `audit`.

@@ -101,6 +101,24 @@ fn explain_look_words<R: Eprint>(rt: &R, words: &[&str]) {
     say_words(rt, words.get(place), allowed);
 }
 
+// Whether more is said of an output of this status and with this first line.
+fn is_told(code: u8, line: &[u8]) -> bool {
+    code == 1 || line.starts_with(b"illegal ")
+}
+
+/// Says on standard error what the status and the first line of an output mean for its input, where it is refused or illegal.
+pub fn explain_input<R: Eprint + AllocGlobal>(
+    rt: &R,
+    subject: Subject,
+    code: u8,
+    line: &[u8],
+    input: &[u8],
+) {
+    if is_told(code, line) {
+        let _said = explain(rt, subject, line, input);
+    }
+}
+
 /// Says on standard error what the status and the first line of an output of `resil` mean for its words and its input, where it
 /// refuses something.
 pub fn explain_command<R: Eprint + AllocGlobal>(
@@ -112,7 +130,7 @@ pub fn explain_command<R: Eprint + AllocGlobal>(
 ) {
     if code == 2 {
         explain_words(rt, rt.alloc(), words);
-    } else if code == 1 || line.starts_with(b"illegal ") {
+    } else if is_told(code, line) {
         if let Some(subject) = requested_subject(rt.alloc(), words) {
             let _said = explain(rt, subject, line, input.unwrap_or(&[]));
         }
@@ -129,12 +147,12 @@ pub fn explain_look<R: Eprint + AllocGlobal>(
 ) {
     if code == 2 {
         explain_look_words(rt, words);
-    } else if code == 1 || line.starts_with(b"illegal ") {
+    } else {
         let subject = match words.get(1) {
             Some(word) if *word == "simulate" => Subject::Load,
             Some(word) if *word == "judge" => Subject::History(RUN_KEYS),
             _ => Subject::History(NAMED_KEYS),
         };
-        let _said = explain(rt, subject, line, input.unwrap_or(&[]));
+        explain_input(rt, subject, code, line, input.unwrap_or(&[]));
     }
 }
