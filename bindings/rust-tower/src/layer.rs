@@ -8,24 +8,6 @@ use tower_layer::Layer;
 ///
 /// Of the three that there are, [`queueing`](BulkheadLayer::queueing) makes calls wait, [`new`](BulkheadLayer::new) refuses what finds
 /// no permit, and [`waiting`](BulkheadLayer::waiting) takes a permit before a call is there.
-///
-/// ```
-/// use resil::Bulkhead;
-/// use resil_tower::BulkheadLayer;
-/// use std::{convert::Infallible, sync::Arc, time::Duration};
-/// use tower::{BoxError, Service, ServiceBuilder, ServiceExt, service_fn};
-///
-/// # #[tokio::main(flavor = "current_thread")]
-/// # async fn main() -> Result<(), BoxError> {
-/// let backend = Arc::new(Bulkhead::new("backend", 25)?);
-/// let mut answers = ServiceBuilder::new()
-///     .timeout(Duration::from_secs(1))
-///     .layer(BulkheadLayer::new(Arc::clone(&backend)))
-///     .service(service_fn(async |number: u32| Ok::<u32, Infallible>(number + 1)));
-/// assert_eq!(answers.ready().await?.call(41).await?, 42);
-/// # Ok(())
-/// # }
-/// ```
 #[derive(Debug, Clone)]
 pub struct BulkheadLayer {
     bulkhead: Arc<Bulkhead>,
@@ -34,18 +16,6 @@ pub struct BulkheadLayer {
 
 impl BulkheadLayer {
     /// A layer over this bulkhead, which may also be used elsewhere.
-    ///
-    /// ```
-    /// use std::sync::Arc;
-    /// use tower::{Layer, service_fn};
-    ///
-    /// let backend = Arc::new(resil::Bulkhead::new("backend", 1)?);
-    /// let layer = resil_tower::BulkheadLayer::new(Arc::clone(&backend));
-    /// let service = layer.layer(service_fn(async |number: u32| Ok::<u32, String>(number)));
-    /// assert_eq!(backend.available(), 1);
-    /// # drop(service);
-    /// # Ok::<(), resil::BulkheadError>(())
-    /// ```
     pub fn new(bulkhead: Arc<Bulkhead>) -> BulkheadLayer {
         BulkheadLayer {
             bulkhead,

@@ -65,13 +65,6 @@ pub struct RetryPolicy<
 
 impl<S, Errors, Values, Pause> RetryPolicy<S, Errors, Values, Pause> {
     /// A policy of this retry, with what gives a future that is ready after a while.
-    ///
-    /// ```
-    /// use resil::Retry;
-    ///
-    /// let policy = resil_tower::RetryPolicy::new(Retry::new(), tokio::time::sleep);
-    /// # drop(policy);
-    /// ```
     pub fn new<F>(retry: Retry<Errors, Values, Pause>, sleep: S) -> Self
     where
         S: Fn(Duration) -> F + Clone,
@@ -197,11 +190,6 @@ pub trait CloneRequest<Request> {
 }
 
 /// Copies each request by its `Clone`.
-///
-/// ```
-/// let policy: resil_tower::RetryPolicy<_> = resil_tower::RetryPolicy::new(resil::Retry::new(), tokio::time::sleep);
-/// # drop(policy);
-/// ```
 #[derive(Debug, Clone, Copy)]
 pub struct EveryClone;
 
@@ -219,21 +207,6 @@ impl<Request, F: Fn(&Request) -> Option<Request>> CloneRequest<Request> for F {
 
 pin_project! {
     /// The wait of a [`RetryPolicy`] before the next attempt, which gives the policy back.
-    ///
-    /// ```
-    /// # #[cfg(not(feature = "retry"))]
-    /// # fn main() {}
-    /// # #[cfg(feature = "retry")]
-    /// # #[tokio::main(flavor = "current_thread", start_paused = true)]
-    /// # async fn main() {
-    /// use tower::retry::Policy;
-    ///
-    /// let policy = resil_tower::RetryPolicy::new(resil::Retry::new().attempts(2), tokio::time::sleep);
-    /// let failed: Result<&u32, &&str> = Err(&"busy");
-    /// let again = policy.retry(&"a letter", failed).expect("an attempt is left").await;
-    /// assert!(again.retry(&"a letter", failed).is_none());
-    /// # }
-    /// ```
     #[derive(Debug)]
     #[must_use = "a future that isn't polled does nothing"]
     pub struct Wait<F, P> {

@@ -53,13 +53,6 @@ impl BulkheadLayer {
 }
 
 /// Puts a bulkhead round a service whose calls wait for its permits. [`BulkheadLayer::queueing`] makes it.
-///
-/// ```
-/// let backend = std::sync::Arc::new(resil::Bulkhead::new("backend", 1)?);
-/// let layer: resil_tower::QueueingLayer = resil_tower::BulkheadLayer::queueing(backend);
-/// # drop(layer);
-/// # Ok::<(), resil::BulkheadError>(())
-/// ```
 #[derive(Debug, Clone)]
 pub struct QueueingLayer<P = fn(Duration) -> Pending<()>> {
     bulkhead: Arc<Bulkhead>,
@@ -71,16 +64,6 @@ pub struct QueueingLayer<P = fn(Duration) -> Pending<()>> {
 impl<P> QueueingLayer<P> {
     /// The same, but a call is refused by [`CallError::Full`] where it has no permit after so long, which is Resilience4j's
     /// `maxWaitDuration`. The function gives a future that is ready after a while, as `tokio::time::sleep`.
-    ///
-    /// ```
-    /// use std::{sync::Arc, time::Duration};
-    ///
-    /// let backend = Arc::new(resil::Bulkhead::new("backend", 1)?);
-    /// let layer = resil_tower::BulkheadLayer::queueing(backend)
-    ///     .longest(Duration::from_millis(500), tokio::time::sleep);
-    /// # drop(layer);
-    /// # Ok::<(), resil::BulkheadError>(())
-    /// ```
     pub fn longest<S, F>(self, longest: Duration, sleep: S) -> QueueingLayer<S>
     where
         S: Fn(Duration) -> F + Clone,
@@ -96,13 +79,6 @@ impl<P> QueueingLayer<P> {
 
     /// The same, but a call is refused by [`CallError::Full`] at once where it would have to wait and so many wait for the bulkhead
     /// already, by this layer or otherwise.
-    ///
-    /// ```
-    /// let backend = std::sync::Arc::new(resil::Bulkhead::new("backend", 1)?);
-    /// let layer = resil_tower::BulkheadLayer::queueing(backend).most_waiting(100);
-    /// # drop(layer);
-    /// # Ok::<(), resil::BulkheadError>(())
-    /// ```
     #[must_use]
     pub fn most_waiting(mut self, most: usize) -> QueueingLayer<P> {
         self.most_waiting = most;
@@ -122,23 +98,6 @@ impl<S, P: Clone> Layer<S> for QueueingLayer<P> {
 }
 
 /// Calls copies of a service under permits of a bulkhead, for which the calls wait. It is always ready. A [`QueueingLayer`] makes it.
-///
-/// ```
-/// use resil::Bulkhead;
-/// use resil_tower::BulkheadLayer;
-/// use std::{convert::Infallible, sync::Arc};
-/// use tower::{Layer, Service, service_fn};
-///
-/// # #[tokio::main(flavor = "current_thread")]
-/// # async fn main() -> Result<(), tower::BoxError> {
-/// let backend = Arc::new(Bulkhead::new("backend", 1)?);
-/// let answers = service_fn(async |number: u32| Ok::<u32, Infallible>(number + 1));
-/// let mut answers = BulkheadLayer::queueing(backend).layer(answers);
-/// let (first, second) = (answers.call(41), answers.call(6));
-/// assert_eq!(tokio::join!(first, second), (Ok(42), Ok(7)));
-/// # Ok(())
-/// # }
-/// ```
 #[derive(Debug, Clone)]
 pub struct QueueingService<S, P = fn(Duration) -> Pending<()>> {
     inner: S,
@@ -184,20 +143,6 @@ pin_project! {
     /// The answer of a call that waits for its permit first, or why there is none.
     ///
     /// It stands in the bulkhead's row from its first poll on. It gives the permit back before it is ready, or when it is dropped.
-    ///
-    /// ```
-    /// use resil::Bulkhead;
-    /// use resil_tower::BulkheadLayer;
-    /// use std::{convert::Infallible, sync::Arc};
-    /// use tower::{Layer, Service, service_fn};
-    ///
-    /// let backend = Arc::new(Bulkhead::new("backend", 1)?);
-    /// let answers = service_fn(async |number: u32| Ok::<u32, Infallible>(number + 1));
-    /// let call = BulkheadLayer::queueing(Arc::clone(&backend)).layer(answers).call(41);
-    /// assert_eq!(backend.available(), 1);
-    /// drop(call);
-    /// # Ok::<(), resil::BulkheadError>(())
-    /// ```
     #[must_use = "a future that isn't polled makes no call"]
     pub struct QueueingFuture<S, Request, P, F>
     where

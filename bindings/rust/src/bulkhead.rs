@@ -87,15 +87,6 @@ impl Bulkhead {
     /// In this order: `BadName` where the name isn't 1 to 64 bytes of ASCII letters, digits, `-`, `_` and `.`;
     /// `TooManyPermits` where `max` is above 65,535; `Memory` where there is none for the library's permits or their
     /// seats. The name is taken as everywhere in Rust: the process ends where there is no memory for it.
-    ///
-    /// ```
-    /// use resil::{Bulkhead, BulkheadError};
-    ///
-    /// assert_eq!(Bulkhead::new("backend", 25)?.max(), 25);
-    /// assert_eq!(Bulkhead::new("two backends", 25).err(), Some(BulkheadError::BadName));
-    /// assert_eq!(Bulkhead::new("backend", 65_536).err(), Some(BulkheadError::TooManyPermits));
-    /// # Ok::<(), BulkheadError>(())
-    /// ```
     pub fn new(name: impl Into<String>, max: u32) -> Result<Bulkhead, BulkheadError> {
         let name = name.into();
         if !is_name(&name) {
@@ -117,24 +108,6 @@ impl Bulkhead {
 
     /// The same bulkhead, of whose calls this observer is told: of each permit that is taken, whichever way, when it is given
     /// back, and of each refusal. It takes the place of an earlier one.
-    ///
-    /// ```
-    /// use resil::{Bulkhead, Observer};
-    /// use std::sync::Arc;
-    /// use std::time::Duration;
-    ///
-    /// struct Log;
-    ///
-    /// impl Observer for Log {
-    ///     fn call_finished(&self, bulkhead: &str, time: Duration) {
-    ///         println!("a call of {bulkhead} took {time:?}");
-    ///     }
-    /// }
-    ///
-    /// let backend = Bulkhead::new("backend", 2)?.observed(Arc::new(Log));
-    /// assert_eq!(backend.call(|| 42), Ok(42));
-    /// # Ok::<(), resil::BulkheadError>(())
-    /// ```
     #[must_use]
     pub fn observed(mut self, observer: Arc<dyn Observer>) -> Bulkhead {
         let own = observer.of_bulkhead(&self.name);
@@ -146,35 +119,16 @@ impl Bulkhead {
     }
 
     /// The name.
-    ///
-    /// ```
-    /// let backend = resil::Bulkhead::new("backend", 2)?;
-    /// assert_eq!(backend.name(), "backend");
-    /// # Ok::<(), resil::BulkheadError>(())
-    /// ```
     pub fn name(&self) -> &str {
         &self.name
     }
 
     /// The number of permits at the making: free, held or retired.
-    ///
-    /// ```
-    /// let backend = resil::Bulkhead::new("backend", 2)?;
-    /// assert_eq!(backend.call(|| backend.max()), Ok(2));
-    /// # Ok::<(), resil::BulkheadError>(())
-    /// ```
     pub fn max(&self) -> u32 {
         self.max
     }
 
     /// The number of free permits at this point: those in use that nobody holds. One that is [owed](Bulkhead::owed) is held still.
-    ///
-    /// ```
-    /// let backend = resil::Bulkhead::new("backend", 2)?;
-    /// assert_eq!(backend.call(|| backend.available()), Ok(1));
-    /// assert_eq!(backend.available(), 2);
-    /// # Ok::<(), resil::BulkheadError>(())
-    /// ```
     pub fn available(&self) -> u32 {
         locked(&self.watch).available()
     }
@@ -184,15 +138,6 @@ impl Bulkhead {
     /// # Errors
     ///
     /// `Closed` where the bulkhead is [closed](Bulkhead::close); `Full` where all permits in use are held.
-    ///
-    /// ```
-    /// let backend = resil::Bulkhead::new("backend", 1)?;
-    /// let permit = backend.enter()?;
-    /// assert!(backend.enter().is_err());
-    /// drop(permit);
-    /// assert!(backend.enter().is_ok());
-    /// # Ok::<(), Box<dyn std::error::Error>>(())
-    /// ```
     #[inline]
     pub fn enter(&self) -> Result<Permit<'_>, NoPermit> {
         let place = self.enter_place()?;
@@ -207,20 +152,6 @@ impl Bulkhead {
     ///
     /// `Closed` where the bulkhead is closed, or is closed meanwhile; `Full` where all permits in use are held until then; at once,
     /// where the duration is zero.
-    ///
-    /// ```
-    /// use std::time::Duration;
-    ///
-    /// let backend = resil::Bulkhead::new("backend", 1)?;
-    /// let permit = backend.enter()?;
-    /// assert!(backend.enter_within(Duration::ZERO).is_err());
-    /// std::thread::scope(|scope| {
-    ///     let waits = scope.spawn(|| backend.enter_within(Duration::MAX).is_ok());
-    ///     drop(permit);
-    ///     assert!(waits.join().expect("it doesn't panic"));
-    /// });
-    /// # Ok::<(), Box<dyn std::error::Error>>(())
-    /// ```
     pub fn enter_within(&self, limit: Duration) -> Result<Permit<'_>, NoPermit> {
         self.told(self.acquire_within(limit))
             .map(|place| Permit::new(self, place))
@@ -231,20 +162,6 @@ impl Bulkhead {
     /// # Errors
     ///
     /// `Closed` where the bulkhead is [closed](Bulkhead::close); `Full` where all permits in use are held.
-    ///
-    /// ```
-    /// use std::sync::Arc;
-    ///
-    /// let backend = Arc::new(resil::Bulkhead::new("backend", 1)?);
-    /// let permit = backend.enter_owned()?;
-    /// let call = std::thread::spawn(move || {
-    ///     let _permit = permit;
-    ///     42
-    /// });
-    /// assert_eq!(call.join().expect("it doesn't panic"), 42);
-    /// assert_eq!(backend.available(), 1);
-    /// # Ok::<(), Box<dyn std::error::Error>>(())
-    /// ```
     #[inline]
     pub fn enter_owned(self: &Arc<Self>) -> Result<OwnedPermit, NoPermit> {
         let place = self.enter_place()?;
@@ -257,15 +174,6 @@ impl Bulkhead {
     ///
     /// `Closed` where the bulkhead is closed, or is closed meanwhile; `Full` where all permits in use are held until then; at once,
     /// where the duration is zero.
-    ///
-    /// ```
-    /// use std::{sync::Arc, time::Duration};
-    ///
-    /// let backend = Arc::new(resil::Bulkhead::new("backend", 1)?);
-    /// let permit = backend.enter_owned_within(Duration::from_millis(5))?;
-    /// assert!(backend.enter_owned_within(Duration::from_millis(5)).is_err());
-    /// # Ok::<(), Box<dyn std::error::Error>>(())
-    /// ```
     pub fn enter_owned_within(self: &Arc<Self>, limit: Duration) -> Result<OwnedPermit, NoPermit> {
         let place = self.told(self.acquire_within(limit))?;
         Ok(OwnedPermit::new(Arc::clone(self), place))
@@ -307,15 +215,6 @@ impl Bulkhead {
     /// # Errors
     ///
     /// `Closed` where the bulkhead is closed, `Full` where all permits in use are held; the function wasn't called.
-    ///
-    /// ```
-    /// use resil::{Bulkhead, Full};
-    ///
-    /// let backend = Bulkhead::new("backend", 1)?;
-    /// assert_eq!(backend.call(|| backend.call(|| 42)), Ok(Err(Full)));
-    /// assert_eq!(backend.call(|| 42), Ok(42));
-    /// # Ok::<(), resil::BulkheadError>(())
-    /// ```
     #[inline]
     pub fn call<T>(&self, function: impl FnOnce() -> T) -> Result<T, NoPermit> {
         let _permit = self.enter()?;
@@ -323,16 +222,6 @@ impl Bulkhead {
     }
 
     /// The numbers of about this moment: each is read for itself.
-    ///
-    /// ```
-    /// let backend = resil::Bulkhead::new("backend", 3)?;
-    /// assert_eq!(backend.retire(1), 1);
-    /// let permit = backend.enter()?;
-    /// let numbers = backend.numbers();
-    /// assert_eq!((numbers.max, numbers.available, numbers.retired, numbers.waiting), (3, 1, 1, 0));
-    /// # drop(permit);
-    /// # Ok::<(), Box<dyn std::error::Error>>(())
-    /// ```
     #[must_use]
     pub fn numbers(&self) -> BulkheadNumbers {
         let available = self.available();
@@ -371,11 +260,6 @@ impl Bulkhead {
     }
 
     /// Whether it is closed.
-    ///
-    /// ```
-    /// assert!(!resil::Bulkhead::new("backend", 2)?.is_closed());
-    /// # Ok::<(), resil::BulkheadError>(())
-    /// ```
     #[inline]
     pub fn is_closed(&self) -> bool {
         self.is_closed.load(Ordering::Acquire)
@@ -449,12 +333,6 @@ pub(crate) fn is_name(name: &str) -> bool {
 }
 
 /// The numbers of a [`Bulkhead`], as a page of numbers shows them.
-///
-/// ```
-/// let backend = resil::Bulkhead::new("backend", 3)?;
-/// assert_eq!(backend.numbers().available, 3);
-/// # Ok::<(), resil::BulkheadError>(())
-/// ```
 #[derive(Debug, Clone, Copy, PartialEq, Eq)]
 #[non_exhaustive]
 pub struct BulkheadNumbers {

@@ -42,25 +42,6 @@ pub use layer::{KeptLayer, Layer};
 ///
 /// The chain of a function that takes an argument is kept, and called by reference, by many threads at once. So it is best
 /// given what it owns: an `Arc` of a bulkhead, or a retry by value. Its function and its fallbacks are called by reference too.
-///
-/// ```
-/// use resil::{Bulkhead, CallError, Decorators, Retry};
-/// use std::sync::Arc;
-/// use std::time::Duration;
-///
-/// let backend = Arc::new(Bulkhead::new("backend", 25)?);
-/// let prices = Decorators::of(|id: u32| if id < 7 { Err("no price") } else { Ok(id * 100) })
-///     .inside(Arc::clone(&backend))
-///     .retried(Retry::new().pause_by(|_wait: Duration| {}))
-///     .or_else(|_error| Ok(0));
-/// std::thread::scope(|scope| {
-///     for id in 0..10 {
-///         let prices = &prices;
-///         scope.spawn(move || assert_eq!(prices.call(id), Ok(if id < 7 { 0 } else { id * 100 })));
-///     }
-/// });
-/// # Ok::<(), resil::BulkheadError>(())
-/// ```
 #[must_use = "nothing is called before `call`"]
 pub struct Decorators<L, Arguments = ()> {
     layers: L,
@@ -69,15 +50,6 @@ pub struct Decorators<L, Arguments = ()> {
 
 impl<F> Decorators<Function<F>> {
     /// The function alone, which takes no argument, or one. Its errors are [`CallError::Failed`].
-    ///
-    /// ```
-    /// use resil::{CallError, Decorators};
-    ///
-    /// assert_eq!(Decorators::of(|| Ok::<_, String>(42)).call(), Ok(42));
-    /// let failed = Decorators::of(|| Err::<u32, _>("no answer")).call();
-    /// assert_eq!(failed, Err(CallError::Failed("no answer")));
-    /// assert_eq!(Decorators::of(|n: u32| Ok::<_, String>(n + 1)).call(41), Ok(42));
-    /// ```
     pub fn of<Arguments>(function: F) -> Decorators<Function<F>, Arguments>
     where
         Function<F>: Layer<Arguments>,
@@ -98,15 +70,6 @@ impl<L, Arguments> Decorators<L, Arguments> {
 impl<L: Layer<Arguments>, Arguments> Decorators<L, Arguments> {
     /// What stands so far, under a permit of this bulkhead, which is given back when it ends or panics. Where all are
     /// held, nothing is called, and the error is [`CallError::Full`]. The bulkhead is taken by reference, or in an `Arc`.
-    ///
-    /// ```
-    /// use resil::{Bulkhead, CallError, Decorators};
-    ///
-    /// let closed = Bulkhead::new("closed", 0)?;
-    /// let refused = Decorators::of(|| Ok::<_, String>(42)).inside(&closed).call();
-    /// assert_eq!(refused, Err(CallError::Full));
-    /// # Ok::<(), resil::BulkheadError>(())
-    /// ```
     pub fn inside<B: AsRef<Bulkhead>>(self, bulkhead: B) -> Decorators<Inside<B, L>, Arguments> {
         Decorators::new(Inside {
             inner: self.layers,
@@ -116,16 +79,6 @@ impl<L: Layer<Arguments>, Arguments> Decorators<L, Arguments> {
 
     /// What stands so far, called again by this retry, which is taken by reference, by value or in an `Arc`. A refusal of a
     /// bulkhead inside is an error as any other, so a test of errors is one of [`CallError`].
-    ///
-    /// ```
-    /// use resil::{Bulkhead, CallError, Decorators, Retry};
-    ///
-    /// let closed = Bulkhead::new("closed", 0)?;
-    /// let unless_full = Retry::new().retry_if(|error: &CallError<String>| *error != CallError::Full);
-    /// let mut chain = Decorators::of(|| Ok(42)).inside(&closed).retried(&unless_full);
-    /// assert_eq!(chain.call(), Err(CallError::Full));
-    /// # Ok::<(), resil::BulkheadError>(())
-    /// ```
     pub fn retried<R, Errors, Values, Pause>(
         self,
         retry: R,
@@ -148,16 +101,6 @@ impl<L: Layer<Arguments>, Arguments> Decorators<L, Arguments> {
 impl<L: Layer> Decorators<L> {
     /// What stands so far, and where that gives an error, what this function makes of it: a value, or an error, which may
     /// be the same one.
-    ///
-    /// ```
-    /// use resil::{CallError, Decorators};
-    ///
-    /// let mut chain = Decorators::of(|| Err("no answer")).or_else(|error| match error {
-    ///     CallError::Failed("no answer") => Ok(0),
-    ///     error => Err(error),
-    /// });
-    /// assert_eq!(chain.call(), Ok(0));
-    /// ```
     pub fn or_else<G>(self, fallback: G) -> Decorators<OrElse<L, G>>
     where
         G: FnMut(CallError<L::Error>) -> Result<L::Value, CallError<L::Error>>,
@@ -173,15 +116,6 @@ impl<L: Layer> Decorators<L> {
     /// # Errors
     ///
     /// `Failed` with the function's error, `Full` where a bulkhead refused, or what a fallback makes of these.
-    ///
-    /// ```
-    /// let mut count = 0;
-    /// let mut chain = resil::Decorators::of(|| {
-    ///     count += 1;
-    ///     Ok::<u32, String>(count)
-    /// });
-    /// assert_eq!((chain.call(), chain.call()), (Ok(1), Ok(2)));
-    /// ```
     #[inline]
     pub fn call(&mut self) -> Result<L::Value, CallError<L::Error>> {
         self.layers.call(())
@@ -191,13 +125,6 @@ impl<L: Layer> Decorators<L> {
 /// Of a function that takes an argument.
 impl<L: Layer<(A,)>, A> Decorators<L, (A,)> {
     /// As the one of a function without arguments; the chain is kept, so the fallback is called by reference.
-    ///
-    /// ```
-    /// use resil::Decorators;
-    ///
-    /// let numbers = Decorators::of(|text: &str| text.parse::<u32>()).or_else(|_error| Ok(0));
-    /// assert_eq!((numbers.call("42"), numbers.call("none")), (Ok(42), Ok(0)));
-    /// ```
     pub fn or_else<G>(self, fallback: G) -> Decorators<OrElse<L, G>, (A,)>
     where
         G: Fn(CallError<L::Error>) -> Result<L::Value, CallError<L::Error>>,
@@ -213,12 +140,6 @@ impl<L: Layer<(A,)>, A> Decorators<L, (A,)> {
     /// # Errors
     ///
     /// As of a function without arguments.
-    ///
-    /// ```
-    /// let doubled = resil::Decorators::of(|n: u32| n.checked_mul(2).ok_or("too large"));
-    /// assert_eq!(doubled.call(21), Ok(42));
-    /// assert!(doubled.call(u32::MAX).is_err());
-    /// ```
     #[inline]
     pub fn call(&self, argument: A) -> Result<L::Value, CallError<L::Error>>
     where

@@ -27,14 +27,6 @@ unsafe extern "C" {
 }
 
 /// Why there is no interval.
-///
-/// ```
-/// use resil::{Interval, IntervalError};
-/// use std::time::Duration;
-///
-/// let shrinks = Interval::exponential(Duration::from_millis(10), (1, 2), Interval::LONGEST);
-/// assert_eq!(shrinks, Err(IntervalError::BadMultiplier));
-/// ```
 #[derive(Debug, Clone, Copy, PartialEq, Eq)]
 #[non_exhaustive]
 pub enum IntervalError {
@@ -79,12 +71,6 @@ pub struct Interval {
 
 impl Interval {
     /// The longest wait, 365 days, which is the usual cap.
-    ///
-    /// ```
-    /// use resil::Interval;
-    ///
-    /// assert_eq!(Interval::fixed(Interval::LONGEST).after(1), Interval::LONGEST);
-    /// ```
     pub const LONGEST: Duration = Duration::from_secs(31_536_000);
 
     /// This wait after each attempt, truncated to whole milliseconds. Zero is allowed.
@@ -92,14 +78,6 @@ impl Interval {
     /// # Panics
     ///
     /// Where the wait is longer than [`Interval::LONGEST`].
-    ///
-    /// ```
-    /// use resil::Interval;
-    /// use std::time::Duration;
-    ///
-    /// let same = Interval::fixed(Duration::from_micros(1_999));
-    /// assert_eq!(same.after(7), Duration::from_millis(1));
-    /// ```
     #[track_caller]
     #[must_use]
     pub fn fixed(wait: Duration) -> Interval {
@@ -121,15 +99,6 @@ impl Interval {
     ///
     /// In this order: `IntervalTooLong` where `first` or `cap` is longer than [`Interval::LONGEST`]; `BadMultiplier`
     /// unless `1 <= denominator <= numerator <= 1000`; `CapBelowInitial` where `cap` is shorter than `first`.
-    ///
-    /// ```
-    /// use resil::Interval;
-    /// use std::time::Duration;
-    ///
-    /// let doubled = Interval::exponential(Duration::from_millis(10), (2, 1), Interval::LONGEST)?;
-    /// assert_eq!(doubled.after(3), Duration::from_millis(40));
-    /// # Ok::<(), resil::IntervalError>(())
-    /// ```
     pub fn exponential(
         first: Duration,
         (numerator, denominator): (u32, u32),
@@ -153,13 +122,6 @@ impl Interval {
     /// # Panics
     ///
     /// Where the attempt is 0.
-    ///
-    /// ```
-    /// use std::time::Duration;
-    ///
-    /// let same = resil::Interval::fixed(Duration::from_millis(500));
-    /// assert_eq!(same.after(1), Duration::from_millis(500));
-    /// ```
     #[track_caller]
     #[must_use]
     pub fn after(&self, attempt: u32) -> Duration {

@@ -61,19 +61,6 @@ use std::sync::{Arc, Mutex};
 ///
 /// What was counted stays until its name is [removed](Metrics::remove): some KiB for each name of a bulkhead, and a kilobyte of each
 /// page. So names are for neighbours, of which there are few, and not for whoever calls.
-///
-/// ```
-/// use resil::Bulkhead;
-/// use resil::metrics::Metrics;
-/// use std::sync::Arc;
-///
-/// let metrics = Arc::new(Metrics::new());
-/// let backend = Bulkhead::new("backend", 1)?.observed(metrics.clone());
-/// assert!(backend.call(|| backend.enter().is_err()).is_ok());
-/// let text = metrics.text(&[], &[]);
-/// assert!(text.contains("resil_bulkhead_calls_total{kind=\"refused\",name=\"backend\"} 1\n"));
-/// # Ok::<(), resil::BulkheadError>(())
-/// ```
 #[derive(Default)]
 pub struct Metrics {
     is_untimed: bool,
@@ -90,33 +77,15 @@ struct All {
 
 impl Metrics {
     /// The type of the text, as a server tells it.
-    ///
-    /// ```
-    /// assert_eq!(resil::metrics::Metrics::CONTENT_TYPE, "text/plain; version=0.0.4; charset=utf-8");
-    /// ```
     pub const CONTENT_TYPE: &str = "text/plain; version=0.0.4; charset=utf-8";
 
     /// Metrics of nothing so far, with all times.
-    ///
-    /// ```
-    /// assert_eq!(resil::metrics::Metrics::new().text(&[], &[]), "");
-    /// ```
     #[must_use]
     pub fn new() -> Metrics {
         Metrics::default()
     }
 
     /// Metrics that only count, so that the clock isn't read for them: there are no histograms.
-    ///
-    /// ```
-    /// use std::sync::Arc;
-    ///
-    /// let metrics = Arc::new(resil::metrics::Metrics::untimed());
-    /// let backend = resil::Bulkhead::new("backend", 1)?.observed(metrics.clone());
-    /// assert_eq!(backend.call(|| 42), Ok(42));
-    /// assert!(!metrics.text(&[], &[]).contains("seconds"));
-    /// # Ok::<(), resil::BulkheadError>(())
-    /// ```
     #[must_use]
     pub fn untimed() -> Metrics {
         Metrics {
@@ -127,18 +96,6 @@ impl Metrics {
 
     /// Forgets what was counted under this name of bulkheads, retries and pools, and says whether there was any. What still bears it
     /// counts on untold; what is observed under it from here on begins anew.
-    ///
-    /// ```
-    /// use std::sync::Arc;
-    ///
-    /// let metrics = Arc::new(resil::metrics::Metrics::new());
-    /// let tenant = resil::Bulkhead::new("tenant", 7)?.observed(metrics.clone());
-    /// assert_eq!(tenant.call(|| 42), Ok(42));
-    /// drop(tenant);
-    /// assert!(metrics.remove("tenant") && !metrics.remove("tenant"));
-    /// assert_eq!(metrics.text(&[], &[]), "");
-    /// # Ok::<(), resil::BulkheadError>(())
-    /// ```
     pub fn remove(&self, name: &str) -> bool {
         let mut all = locked(&self.all);
         let calls = all.calls.remove(name).is_some();
@@ -148,16 +105,6 @@ impl Metrics {
 
     /// All that was counted, and the numbers of these bulkheads and pools at this moment, as Prometheus' text. Of two that bear
     /// one name the numbers of the last are told.
-    ///
-    /// ```
-    /// use std::sync::Arc;
-    ///
-    /// let metrics = resil::metrics::Metrics::new();
-    /// let backend = Arc::new(resil::Bulkhead::new("backend", 7)?);
-    /// let text = metrics.text(&[backend], &[]);
-    /// assert!(text.contains("resilience4j_bulkhead_max_allowed_concurrent_calls{name=\"backend\"} 7\n"));
-    /// # Ok::<(), resil::BulkheadError>(())
-    /// ```
     #[must_use]
     pub fn text(&self, bulkheads: &[Arc<Bulkhead>], pools: &[&ThreadPool]) -> String {
         let mut page = Page::default();

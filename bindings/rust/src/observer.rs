@@ -126,27 +126,6 @@ macro_rules! own_of_each {
 }
 
 /// Several observers, one after the other.
-///
-/// ```
-/// use resil::metrics::Metrics;
-/// use resil::{Bulkhead, Observer};
-/// use std::sync::Arc;
-///
-/// struct Log;
-///
-/// impl Observer for Log {
-///     fn call_refused(&self, bulkhead: &str) {
-///         println!("{bulkhead} is full");
-///     }
-/// }
-///
-/// let metrics = Arc::new(Metrics::new());
-/// let both: [Arc<dyn Observer>; 2] = [Arc::new(Log), metrics.clone()];
-/// let backend = Bulkhead::new("backend", 1)?.observed(Arc::new(both));
-/// assert_eq!(backend.call(|| 42), Ok(42));
-/// assert!(metrics.text(&[], &[]).contains("permitted"));
-/// # Ok::<(), resil::BulkheadError>(())
-/// ```
 impl<const N: usize> Observer for [Arc<dyn Observer>; N] {
     own_of_each! { of_bulkhead, of_retry, of_pool }
 

@@ -81,11 +81,6 @@ impl Pass {
     /// # Errors
     ///
     /// `TooManyPermits` where `max` is above 65,535; `Memory` where memory runs out.
-    ///
-    /// ```
-    /// assert_eq!(resil::pass::Pass::new(3)?.available(), 3);
-    /// # Ok::<(), resil::BulkheadError>(())
-    /// ```
     pub fn new(max: u32) -> Result<Pass, BulkheadError> {
         let mut out = Handle::EMPTY;
         // SAFETY: `out` is empty and this call's alone.
@@ -98,13 +93,6 @@ impl Pass {
     /// # Errors
     ///
     /// `Memory` where memory runs out.
-    ///
-    /// ```
-    /// let mut first = resil::pass::Pass::new(3)?;
-    /// let mut second = first.split()?;
-    /// assert_eq!(second.call(|| first.available()), Ok(2));
-    /// # Ok::<(), resil::BulkheadError>(())
-    /// ```
     pub fn split(&mut self) -> Result<Pass, BulkheadError> {
         let mut out = Handle::EMPTY;
         // SAFETY: the handle was filled by `new` or `split` and is used by this call alone; `out` is empty.
@@ -117,14 +105,6 @@ impl Pass {
     /// # Errors
     ///
     /// `Full` where all permits in use are held.
-    ///
-    /// ```
-    /// let mut pass = resil::pass::Pass::new(1)?;
-    /// let permit = pass.enter()?;
-    /// drop(permit);
-    /// assert_eq!(pass.available(), 1);
-    /// # Ok::<(), Box<dyn std::error::Error>>(())
-    /// ```
     pub fn enter(&mut self) -> Result<PassPermit<'_>, NoPermit> {
         self.acquire()?;
         Ok(PassPermit { pass: self })
@@ -135,12 +115,6 @@ impl Pass {
     /// # Errors
     ///
     /// `Full` where all permits in use are held; the function wasn't called.
-    ///
-    /// ```
-    /// let mut pass = resil::pass::Pass::new(1)?;
-    /// assert_eq!(pass.call(|| 42), Ok(42));
-    /// # Ok::<(), resil::BulkheadError>(())
-    /// ```
     pub fn call<T>(&mut self, function: impl FnOnce() -> T) -> Result<T, NoPermit> {
         let _permit = self.enter()?;
         Ok(function())
@@ -152,16 +126,6 @@ impl Pass {
     /// # Errors
     ///
     /// `Full` where all permits in use are held.
-    ///
-    /// ```
-    /// let mut operator = resil::pass::Pass::new(2)?;
-    /// let mut caller = operator.split()?;
-    /// operator.retire()?;
-    /// assert_eq!((operator.retired(), caller.available()), (1, 1));
-    /// assert!(operator.raise());
-    /// assert_eq!((operator.retired(), caller.available()), (0, 2));
-    /// # Ok::<(), Box<dyn std::error::Error>>(())
-    /// ```
     pub fn retire(&mut self) -> Result<(), NoPermit> {
         self.acquire()?;
         let had = self.keep_back();
@@ -170,40 +134,18 @@ impl Pass {
     }
 
     /// Raises a permit that the pass has retired, which is free then, and says whether there was one.
-    ///
-    /// ```
-    /// let mut pass = resil::pass::Pass::new(1)?;
-    /// assert!(!pass.raise());
-    /// pass.retire()?;
-    /// assert!(pass.raise());
-    /// # Ok::<(), Box<dyn std::error::Error>>(())
-    /// ```
     pub fn raise(&mut self) -> bool {
         // SAFETY: as in `split`.
         unsafe { resil_permit_raise(self.handle, &raw mut self.handle) == 0 }
     }
 
     /// How many permits the pass has retired and not raised again.
-    ///
-    /// ```
-    /// let mut pass = resil::pass::Pass::new(2)?;
-    /// pass.retire()?;
-    /// assert_eq!(pass.retired(), 1);
-    /// # Ok::<(), Box<dyn std::error::Error>>(())
-    /// ```
     pub fn retired(&mut self) -> u32 {
         // SAFETY: as in `split`.
         unsafe { resil_permit_retired(self.handle, &raw mut self.handle) }
     }
 
     /// The number of free permits at this point: those in use that nobody holds.
-    ///
-    /// ```
-    /// let mut pass = resil::pass::Pass::new(2)?;
-    /// pass.retire()?;
-    /// assert_eq!(pass.available(), 1);
-    /// # Ok::<(), Box<dyn std::error::Error>>(())
-    /// ```
     pub fn available(&mut self) -> u32 {
         // SAFETY: as in `split`.
         unsafe { resil_permit_available(self.handle, &raw mut self.handle) }
@@ -252,16 +194,6 @@ impl fmt::Debug for Pass {
 }
 
 /// A permit of a [`Pass`], given back when it is dropped.
-///
-/// ```
-/// let mut mine = resil::pass::Pass::new(1)?;
-/// let mut other = mine.split()?;
-/// let permit = mine.enter()?;
-/// assert!(other.enter().is_err());
-/// drop(permit);
-/// assert!(other.enter().is_ok());
-/// # Ok::<(), Box<dyn std::error::Error>>(())
-/// ```
 #[derive(Debug)]
 #[must_use = "a permit that is dropped is given back at once"]
 pub struct PassPermit<'a> {

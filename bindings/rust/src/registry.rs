@@ -13,13 +13,6 @@ use std::sync::{Arc, Mutex, MutexGuard};
 const DEFAULT_CONFIG: &str = "default";
 
 /// Why a registry didn't do what a call wanted; where more than one holds, the first of these. It is as it was then.
-///
-/// ```
-/// use resil::{BulkheadRegistry, RegistryError};
-///
-/// let registry = BulkheadRegistry::new(25);
-/// assert_eq!(registry.bulkhead("no name").err(), Some(RegistryError::BadName));
-/// ```
 #[derive(Debug, Clone, Copy, PartialEq, Eq)]
 #[non_exhaustive]
 pub enum RegistryError {
@@ -97,12 +90,6 @@ struct Inner {
 impl BulkheadRegistry {
     /// A registry without bulkheads whose configuration `default` is this number of permits. More than 65,535 are refused
     /// when a bulkhead is made by it.
-    ///
-    /// ```
-    /// let registry = resil::BulkheadRegistry::new(25);
-    /// assert_eq!(registry.bulkhead("prices")?.max(), 25);
-    /// # Ok::<(), resil::RegistryError>(())
-    /// ```
     #[must_use]
     pub fn new(default_max: u32) -> BulkheadRegistry {
         BulkheadRegistry {
@@ -116,23 +103,6 @@ impl BulkheadRegistry {
 
     /// The same registry, all of whose bulkheads are [observed](Bulkhead::observed) by this one, but for those that it has made
     /// before.
-    ///
-    /// ```
-    /// use resil::{BulkheadRegistry, Observer};
-    /// use std::sync::Arc;
-    ///
-    /// struct Log;
-    ///
-    /// impl Observer for Log {
-    ///     fn call_refused(&self, bulkhead: &str) {
-    ///         println!("{bulkhead} is full");
-    ///     }
-    /// }
-    ///
-    /// let registry = BulkheadRegistry::new(25).observed(Arc::new(Log));
-    /// assert_eq!(registry.bulkhead("prices")?.call(|| 42), Ok(42));
-    /// # Ok::<(), Box<dyn std::error::Error>>(())
-    /// ```
     #[must_use]
     pub fn observed(mut self, observer: Arc<dyn Observer>) -> BulkheadRegistry {
         self.observer = Some(observer);
@@ -145,15 +115,6 @@ impl BulkheadRegistry {
     ///
     /// In this order: `BadName` where the name isn't 1 to 64 bytes of ASCII letters, digits, `-`, `_` and `.`;
     /// `ReservedName` where it is `default`; `NameTaken` where a configuration has that name.
-    ///
-    /// ```
-    /// use resil::{BulkheadRegistry, RegistryError};
-    ///
-    /// let registry = BulkheadRegistry::new(25);
-    /// assert_eq!(registry.add_config("small", 2), Ok(()));
-    /// assert_eq!(registry.add_config("small", 3), Err(RegistryError::NameTaken));
-    /// assert_eq!(registry.add_config("default", 3), Err(RegistryError::ReservedName));
-    /// ```
     pub fn add_config(&self, name: &str, max: u32) -> Result<(), RegistryError> {
         if !is_name(name) {
             return Err(RegistryError::BadName);
@@ -176,14 +137,6 @@ impl BulkheadRegistry {
     ///
     /// In this order: `BadName` where the name isn't 1 to 64 bytes of ASCII letters, digits, `-`, `_` and `.`; where a
     /// bulkhead is to be made, `TooManyPermits` and `Memory`, as [`Bulkhead::new`] does.
-    ///
-    /// ```
-    /// use std::sync::Arc;
-    ///
-    /// let registry = resil::BulkheadRegistry::new(25);
-    /// assert!(Arc::ptr_eq(&registry.bulkhead("prices")?, &registry.bulkhead("prices")?));
-    /// # Ok::<(), resil::RegistryError>(())
-    /// ```
     pub fn bulkhead(&self, name: &str) -> Result<Arc<Bulkhead>, RegistryError> {
         self.bulkhead_with(name, DEFAULT_CONFIG)
     }
@@ -196,17 +149,6 @@ impl BulkheadRegistry {
     /// In this order: `BadName` where the bulkhead's name isn't 1 to 64 bytes of ASCII letters, digits, `-`, `_` and
     /// `.`; where a bulkhead is to be made, `NoSuchConfig` where no configuration has the other name, then
     /// `TooManyPermits` and `Memory`, as [`Bulkhead::new`] does.
-    ///
-    /// ```
-    /// use resil::{BulkheadRegistry, RegistryError};
-    ///
-    /// let registry = BulkheadRegistry::new(25);
-    /// let refused = registry.bulkhead_with("letters", "small");
-    /// assert_eq!(refused.err(), Some(RegistryError::NoSuchConfig));
-    /// registry.add_config("small", 2)?;
-    /// assert_eq!(registry.bulkhead_with("letters", "small")?.max(), 2);
-    /// # Ok::<(), RegistryError>(())
-    /// ```
     pub fn bulkhead_with(&self, name: &str, config: &str) -> Result<Arc<Bulkhead>, RegistryError> {
         if !is_name(name) {
             return Err(RegistryError::BadName);
@@ -233,34 +175,11 @@ impl BulkheadRegistry {
 
     /// Removes the bulkhead of that name, and gives it; none where there is none. Whoever has it keeps it, with its permits: it may be
     /// [closed](Bulkhead::close). Who asks for the name next makes another one.
-    ///
-    /// ```
-    /// let registry = resil::BulkheadRegistry::new(25);
-    /// let prices = registry.bulkhead("prices")?;
-    /// if let Some(removed) = registry.remove("prices") {
-    ///     removed.close();
-    /// }
-    /// assert!(prices.is_closed() && !registry.bulkhead("prices")?.is_closed());
-    /// # Ok::<(), resil::RegistryError>(())
-    /// ```
     pub fn remove(&self, name: &str) -> Option<Arc<Bulkhead>> {
         self.inner().instances.remove(name)
     }
 
     /// All bulkheads that are there, by their names in the order of bytes.
-    ///
-    /// ```
-    /// let registry = resil::BulkheadRegistry::new(25);
-    /// for name in ["prices", "letters"] {
-    ///     registry.bulkhead(name)?;
-    /// }
-    /// let shown = registry.bulkheads().into_iter().map(|bulkhead| {
-    ///     let numbers = bulkhead.numbers();
-    ///     format!("{}: {} of {}", bulkhead.name(), numbers.available, numbers.max)
-    /// });
-    /// assert!(shown.eq(["letters: 25 of 25", "prices: 25 of 25"]));
-    /// # Ok::<(), resil::RegistryError>(())
-    /// ```
     #[must_use]
     pub fn bulkheads(&self) -> Vec<Arc<Bulkhead>> {
         let mut all: Vec<_> = self.inner().instances.values().map(Arc::clone).collect();

@@ -48,18 +48,6 @@ pub struct Retry<Errors = EveryError, Values = NoValue, Pause = fn(Duration)> {
 
 impl Retry {
     /// Three attempts, 500 ms after each that failed, whatever its error. No value is retried.
-    ///
-    /// ```
-    /// use std::time::Duration;
-    ///
-    /// let retry = resil::Retry::new().pause_by(|wait| assert_eq!(wait, Duration::from_millis(500)));
-    /// let mut calls = 0;
-    /// let answer: Result<(), _> = retry.call(|| {
-    ///     calls += 1;
-    ///     Err("no answer")
-    /// });
-    /// assert_eq!((answer, calls), (Err("no answer"), 3));
-    /// ```
     pub fn new() -> Retry {
         Retry {
             plan: Plan::new(3, Interval::fixed(Duration::from_millis(500))),
@@ -82,11 +70,6 @@ impl<Errors, Values, Pause> Retry<Errors, Values, Pause> {
     /// # Panics
     ///
     /// Where the number isn't from 1 to 1,000.
-    ///
-    /// ```
-    /// let once = resil::Retry::new().attempts(1);
-    /// assert_eq!(once.call(|| Err::<(), _>("no answer")), Err("no answer"));
-    /// ```
     #[track_caller]
     pub fn attempts(mut self, count: u32) -> Self {
         assert!(
@@ -98,16 +81,6 @@ impl<Errors, Values, Pause> Retry<Errors, Values, Pause> {
     }
 
     /// How long to wait after each attempt that another one follows.
-    ///
-    /// ```
-    /// use resil::{Interval, Retry};
-    /// use std::time::Duration;
-    ///
-    /// let doubled = Interval::exponential(Duration::from_millis(10), (2, 1), Duration::from_secs(1))?;
-    /// let retry = Retry::new().interval(doubled);
-    /// # drop(retry);
-    /// # Ok::<(), resil::IntervalError>(())
-    /// ```
     pub fn interval(mut self, interval: Interval) -> Self {
         self.plan.interval = interval;
         self
@@ -155,22 +128,6 @@ impl<Errors, Values, Pause> Retry<Errors, Values, Pause> {
     /// Retries the values that this test holds of too. It takes the place of an earlier test of values.
     ///
     /// A value that is still to be retried after the last attempt is the answer.
-    ///
-    /// ```
-    /// use resil::{Interval, Retry};
-    /// use std::time::Duration;
-    ///
-    /// let retry = Retry::new()
-    ///     .interval(Interval::fixed(Duration::ZERO))
-    ///     .retry_value_if(|answer: &u32| *answer < 3);
-    /// let mut calls = 0;
-    /// let mut call = || {
-    ///     calls += 1;
-    ///     Ok::<u32, String>(calls)
-    /// };
-    /// assert_eq!(retry.call(&mut call), Ok(3));
-    /// assert_eq!(retry.attempts(1).call(|| Ok::<u32, String>(0)), Ok(0));
-    /// ```
     pub fn retry_value_if<T, F: Fn(&T) -> bool>(self, test: F) -> Retry<Errors, F, Pause> {
         Retry {
             plan: self.plan,
@@ -182,17 +139,6 @@ impl<Errors, Values, Pause> Retry<Errors, Values, Pause> {
 
     /// Draws each wait: from half of the interval's to the whole of it, in whole milliseconds, otherwise each time the program is
     /// run.
-    ///
-    /// ```
-    /// use resil::{Interval, Retry};
-    /// use std::time::Duration;
-    ///
-    /// let whole = Duration::from_millis(100);
-    /// let retry = Retry::new().interval(Interval::fixed(whole)).jitter().pause_by(|wait| {
-    ///     assert!(whole / 2 <= wait && wait <= whole);
-    /// });
-    /// assert!(retry.call(|| Err::<(), _>("no answer")).is_err());
-    /// ```
     pub fn jitter(mut self) -> Self {
         self.plan.jitter = Some(Jitter::unseeded());
         self
@@ -202,13 +148,6 @@ impl<Errors, Values, Pause> Retry<Errors, Values, Pause> {
     ///
     /// A retry has one stream of numbers, which begins with the seed, and all of its calls draw on it. So calls that come
     /// one after the other wait the same each time the program is run.
-    ///
-    /// ```
-    /// use resil::Retry;
-    ///
-    /// let waits = || Retry::new().attempts(9).jitter_seeded(7).waits().collect::<Vec<_>>();
-    /// assert_eq!(waits(), waits());
-    /// ```
     pub fn jitter_seeded(mut self, seed: u64) -> Self {
         self.plan.jitter = Some(Jitter::new(seed));
         self
@@ -253,43 +192,12 @@ impl<Errors, Values, Pause> Retry<Errors, Values, Pause> {
     /// answer at once. What is called isn't cut off.
     ///
     /// The time is that of the clock or, where [`pause_by`](Retry::pause_by) doesn't sleep, the sum of the waits.
-    ///
-    /// ```
-    /// use std::cell::Cell;
-    /// use std::time::Duration;
-    ///
-    /// let waited = Cell::new(Duration::ZERO);
-    /// let retry = resil::Retry::new()
-    ///     .attempts(100)
-    ///     .within(Duration::from_secs(60))
-    ///     .interval(resil::Interval::fixed(Duration::from_secs(25)))
-    ///     .pause_by(|wait| waited.set(waited.get() + wait));
-    /// assert!(retry.call(|| Err::<(), _>("no answer")).is_err());
-    /// assert_eq!(waited.get(), Duration::from_secs(50));
-    /// ```
     pub fn within(mut self, limit: Duration) -> Self {
         self.plan.set_limit(limit);
         self
     }
 
     /// Has this observer told of the calls, under this name: of each attempt that another one follows, and how each call ends.
-    ///
-    /// ```
-    /// use resil::{Observer, Retry};
-    /// use std::sync::Arc;
-    /// use std::time::Duration;
-    ///
-    /// struct Log;
-    ///
-    /// impl Observer for Log {
-    ///     fn attempt_failed(&self, retry: &str, attempt: u32, wait: Duration) {
-    ///         println!("attempt {attempt} of {retry} failed, the next one is in {wait:?}");
-    ///     }
-    /// }
-    ///
-    /// let retry = Retry::new().observed("prices", Arc::new(Log)).pause_by(|_wait| {});
-    /// assert!(retry.call(|| Err::<(), _>("no answer")).is_err());
-    /// ```
     pub fn observed(mut self, name: impl Into<String>, observer: Arc<dyn Observer>) -> Self {
         let name = name.into();
         let own = observer.of_retry(&name);
@@ -299,31 +207,11 @@ impl<Errors, Values, Pause> Retry<Errors, Values, Pause> {
 
     /// The waits of one call whose every attempt fails, jitter and limit in them: for loops of one's own, as in async
     /// code. No observer is told of them.
-    ///
-    /// ```
-    /// use resil::{Interval, Retry};
-    /// use std::time::Duration;
-    ///
-    /// let ms = Duration::from_millis;
-    /// let doubled = Interval::exponential(ms(10), (2, 1), Interval::LONGEST)?;
-    /// assert!(Retry::new().attempts(4).interval(doubled).waits().eq([10, 20, 40].map(ms)));
-    /// # Ok::<(), resil::IntervalError>(())
-    /// ```
     pub fn waits(&self) -> Waits<'_> {
         Waits::new(&self.plan)
     }
 
     /// Waits by this function, in place of [`std::thread::sleep`]: for tests.
-    ///
-    /// ```
-    /// use std::cell::RefCell;
-    /// use std::time::Duration;
-    ///
-    /// let waits = RefCell::new(Vec::new());
-    /// let retry = resil::Retry::new().pause_by(|wait| waits.borrow_mut().push(wait));
-    /// assert!(retry.call(|| Err::<(), _>("no answer")).is_err());
-    /// assert_eq!(*waits.borrow(), [Duration::from_millis(500); 2]);
-    /// ```
     pub fn pause_by<F: Fn(Duration)>(self, pause: F) -> Retry<Errors, Values, F> {
         Retry {
             plan: self.plan,
@@ -340,12 +228,6 @@ impl<Errors, Values, Pause: Fn(Duration)> Retry<Errors, Values, Pause> {
     /// # Errors
     ///
     /// The function's last one.
-    ///
-    /// ```
-    /// let retry = resil::Retry::new().retry_if(|error: &&str| *error == "busy");
-    /// assert_eq!(retry.call(|| Ok::<_, &str>(42)), Ok(42));
-    /// assert_eq!(retry.call(|| Err::<u32, _>("gone")), Err("gone"));
-    /// ```
     #[inline]
     pub fn call<T, E>(&self, mut function: impl FnMut() -> Result<T, E>) -> Result<T, E>
     where
@@ -373,19 +255,6 @@ impl<Errors, Values, Pause> Retry<Errors, Values, Pause> {
     /// # Errors
     ///
     /// The last one.
-    ///
-    /// ```
-    /// use std::future;
-    /// use std::pin::pin;
-    /// use std::task::{Context, Poll, Waker};
-    ///
-    /// let retry = resil::Retry::new();
-    /// let mut numbers = ["none", "?", "7"].iter();
-    /// let parse = || future::ready(numbers.next().map_or("", |text| text).parse());
-    /// // With tokio, the second one is `tokio::time::sleep`.
-    /// let answer = pin!(retry.call_async(parse, |_wait| future::ready(())));
-    /// assert_eq!(answer.poll(&mut Context::from_waker(Waker::noop())), Poll::Ready(Ok(7)));
-    /// ```
     pub async fn call_async<T, E, Answer, Sleep>(
         &self,
         mut function: impl FnMut() -> Answer,
@@ -429,15 +298,6 @@ impl<Errors, Values, Pause> Retry<Errors, Values, Pause> {
 
     /// How long to wait before the next attempt of a call that was begun, after this outcome of the last one; none where that is
     /// the answer. The observer is told of it. A limit counts from [`begin`](Retry::begin) on.
-    ///
-    /// ```
-    /// let retry = resil::Retry::new().attempts(2);
-    /// let mut attempts = retry.begin();
-    /// let failed: Result<&u32, &&str> = Err(&"no answer");
-    /// assert!(retry.wait_after(&mut attempts, failed).is_some_and(|wait| wait.as_millis() == 500));
-    /// assert_eq!(attempts.count(), 2);
-    /// assert!(retry.wait_after(&mut attempts, failed).is_none());
-    /// ```
     #[inline]
     pub fn wait_after<T, E>(
         &self,

@@ -26,12 +26,6 @@ pub use event::{Event, JobId, Origin, Picked, PoolNumbers, Reply};
 pub(crate) const QUEUE: u32 = 100;
 
 /// The sizes of a [`PoolRule`] that is to be made.
-///
-/// ```
-/// let rule = resil::rule::PoolRule::builder(2, 4).queue(1_000).callers(8).keep_events(50).open()?;
-/// # drop(rule);
-/// # Ok::<(), resil::PoolError>(())
-/// ```
 #[derive(Debug, Clone)]
 #[must_use]
 pub struct PoolRuleBuilder {
@@ -44,41 +38,18 @@ pub struct PoolRuleBuilder {
 
 impl PoolRuleBuilder {
     /// The capacity of the queue, in jobs: 1 to 65,536, and 100 where none is named.
-    ///
-    /// ```
-    /// let mut rule = resil::rule::PoolRule::builder(1, 1).queue(7).open()?;
-    /// assert_eq!(rule.numbers().capacity, 7);
-    /// # Ok::<(), resil::PoolError>(())
-    /// ```
     pub fn queue(mut self, capacity: u32) -> Self {
         self.queue = capacity;
         self
     }
 
     /// The number of callers that submit: 1 to 65,535, and one where none is named. They are numbered from 1.
-    ///
-    /// ```
-    /// use resil::rule::{JobId, PoolError, PoolRule};
-    ///
-    /// let mut rule = PoolRule::builder(1, 1).callers(2).open()?;
-    /// assert!(rule.submit(JobId { caller: 2, number: 1 }, 0).is_ok());
-    /// assert_eq!(rule.submit(JobId { caller: 3, number: 1 }, 0), Err(PoolError::NoCaller));
-    /// # Ok::<(), resil::PoolError>(())
-    /// ```
     pub fn callers(mut self, count: u32) -> Self {
         self.callers = count;
         self
     }
 
     /// How many of the last events are kept; none where this isn't called.
-    ///
-    /// ```
-    /// let mut rule = resil::rule::PoolRule::builder(1, 1).keep_events(1).open()?;
-    /// rule.resize(1, 1)?;
-    /// rule.close();
-    /// assert_eq!(rule.last_events(), [resil::rule::Event::Close]);
-    /// # Ok::<(), resil::PoolError>(())
-    /// ```
     pub fn keep_events(mut self, count: u32) -> Self {
         self.kept = count;
         self
@@ -90,13 +61,6 @@ impl PoolRuleBuilder {
     ///
     /// In this order: `CoreOutOfRange` where the core size isn't from 1 to 64; `MaxOutOfRange` where the greatest size
     /// isn't from the core size to 64; `QueueOutOfRange`; `CallersOutOfRange`; `Memory` where memory runs out.
-    ///
-    /// ```
-    /// use resil::rule::{PoolError, PoolRule};
-    ///
-    /// assert_eq!(PoolRule::builder(65, 65).open().err(), Some(PoolError::CoreOutOfRange));
-    /// assert_eq!(PoolRule::builder(2, 1).open().err(), Some(PoolError::MaxOutOfRange));
-    /// ```
     pub fn open(self) -> Result<PoolRule, PoolError> {
         let mut handle = Handle::EMPTY;
         // SAFETY: `handle` is empty and this call's alone.
@@ -150,10 +114,6 @@ unsafe impl Send for PoolRule {}
 
 impl PoolRule {
     /// Begins a pool of a core size from 1 to 64 and a greatest size from the core size to 64, in workers.
-    ///
-    /// ```
-    /// assert!(resil::rule::PoolRule::builder(4, 8).open().is_ok());
-    /// ```
     pub fn builder(core: u32, max: u32) -> PoolRuleBuilder {
         PoolRuleBuilder {
             core,
@@ -171,15 +131,6 @@ impl PoolRule {
     ///
     /// In this order: `NoCaller` where the caller isn't from 1 to the number of callers; `WrongNumber` where the number isn't
     /// the caller's next one.
-    ///
-    /// ```
-    /// use resil::rule::{JobId, PoolError, PoolRule, Reply};
-    ///
-    /// let mut rule = PoolRule::builder(1, 1).open()?;
-    /// assert_eq!(rule.submit(JobId { caller: 1, number: 1 }, 7)?, Reply::Core);
-    /// assert_eq!(rule.submit(JobId { caller: 1, number: 1 }, 7), Err(PoolError::WrongNumber));
-    /// # Ok::<(), resil::PoolError>(())
-    /// ```
     pub fn submit(&mut self, id: JobId, work: u64) -> Result<Reply, PoolError> {
         // SAFETY: the handle was filled by `resil_pool_new` and is used by this call alone.
         let answer = unsafe {
@@ -199,16 +150,6 @@ impl PoolRule {
 
     /// Picks the job that is to run next: the oldest with a worker of its own that wasn't picked, else the oldest of
     /// the queue, where a worker is idle.
-    ///
-    /// ```
-    /// use resil::rule::{JobId, PoolRule};
-    ///
-    /// let mut rule = PoolRule::builder(1, 1).open()?;
-    /// assert_eq!(rule.pick(), None);
-    /// rule.submit(JobId { caller: 1, number: 1 }, 7)?;
-    /// assert_eq!(rule.pick().map(|picked| picked.work), Some(7));
-    /// # Ok::<(), resil::PoolError>(())
-    /// ```
     pub fn pick(&mut self) -> Option<Picked> {
         let mut job = PoolJob::default();
         // SAFETY: as in `submit`; the job is this call's own.
@@ -224,17 +165,6 @@ impl PoolRule {
     /// # Errors
     ///
     /// `NotOut` where no job of this id was picked at this place and isn't finished.
-    ///
-    /// ```
-    /// use resil::rule::{JobId, PoolError, PoolRule};
-    ///
-    /// let mut rule = PoolRule::builder(1, 1).open()?;
-    /// rule.submit(JobId { caller: 1, number: 1 }, 7)?;
-    /// let picked = rule.pick().expect("a worker is started for it");
-    /// assert_eq!(rule.finish(&picked), Ok(()));
-    /// assert_eq!(rule.finish(&picked), Err(PoolError::NotOut));
-    /// # Ok::<(), resil::PoolError>(())
-    /// ```
     pub fn finish(&mut self, picked: &Picked) -> Result<(), PoolError> {
         let JobId { caller, number } = picked.id;
         // SAFETY: as in `submit`.
@@ -264,15 +194,6 @@ impl PoolRule {
     ///
     /// In this order: `CoreOutOfRange` where the core size isn't from 1 to 64; `MaxOutOfRange` where the greatest size
     /// is below the core size, or above that at making.
-    ///
-    /// ```
-    /// use resil::rule::{PoolError, PoolRule};
-    ///
-    /// let mut rule = PoolRule::builder(1, 2).open()?;
-    /// assert_eq!(rule.resize(2, 2), Ok(()));
-    /// assert_eq!(rule.resize(2, 3), Err(PoolError::MaxOutOfRange));
-    /// # Ok::<(), resil::PoolError>(())
-    /// ```
     pub fn resize(&mut self, core: u32, max: u32) -> Result<(), PoolError> {
         // SAFETY: as in `submit`.
         match unsafe { resil_pool_resize(self.handle, &raw mut self.handle, core, max) } {
@@ -284,89 +205,40 @@ impl PoolRule {
 
     /// Ends an idle worker, and says whether it did: only where nothing waits, fewer jobs run than there are workers,
     /// and there are more workers than the core size or the pool is closed.
-    ///
-    /// ```
-    /// let mut rule = resil::rule::PoolRule::builder(1, 1).open()?;
-    /// assert!(!rule.idle_end());
-    /// # Ok::<(), resil::PoolError>(())
-    /// ```
     pub fn idle_end(&mut self) -> bool {
         // SAFETY: as in `submit`.
         unsafe { resil_pool_idle_end(self.handle, &raw mut self.handle) == 0 }
     }
 
     /// Closes the pool, and says whether it was open. Jobs accepted before are still picked.
-    ///
-    /// ```
-    /// let mut rule = resil::rule::PoolRule::builder(1, 1).open()?;
-    /// assert!(rule.close() && !rule.close());
-    /// # Ok::<(), resil::PoolError>(())
-    /// ```
     pub fn close(&mut self) -> bool {
         // SAFETY: as in `submit`.
         unsafe { resil_pool_close(self.handle, &raw mut self.handle) == 0 }
     }
 
     /// Whether the pool was closed.
-    ///
-    /// ```
-    /// let mut rule = resil::rule::PoolRule::builder(1, 1).open()?;
-    /// assert!(!rule.is_closed() && rule.close() && rule.is_closed());
-    /// # Ok::<(), resil::PoolError>(())
-    /// ```
     pub fn is_closed(&mut self) -> bool {
         self.counts().closed != 0
     }
 
     /// The numbers of this moment.
-    ///
-    /// ```
-    /// use resil::rule::{JobId, PoolRule};
-    ///
-    /// let mut rule = PoolRule::builder(1, 1).open()?;
-    /// rule.submit(JobId { caller: 1, number: 1 }, 7)?;
-    /// let numbers = rule.numbers();
-    /// assert_eq!((numbers.accepted, numbers.running, numbers.workers), (1, 1, 1));
-    /// # Ok::<(), resil::PoolError>(())
-    /// ```
     pub fn numbers(&mut self) -> PoolNumbers {
         self.counts().into()
     }
 
     /// How many of the last events are kept now: all there were, and at most as many as were asked for.
-    ///
-    /// ```
-    /// let mut rule = resil::rule::PoolRule::builder(1, 1).keep_events(9).open()?;
-    /// rule.close();
-    /// assert_eq!(rule.event_count(), 1);
-    /// # Ok::<(), resil::PoolError>(())
-    /// ```
     pub fn event_count(&mut self) -> usize {
         // SAFETY: as in `submit`.
         unsafe { resil_pool_event_count(self.handle, &raw mut self.handle) }
     }
 
     /// How many events came before those that are kept, and are lost.
-    ///
-    /// ```
-    /// let mut rule = resil::rule::PoolRule::builder(1, 1).open()?;
-    /// rule.close();
-    /// assert_eq!((rule.event_count(), rule.lost()), (0, 1));
-    /// # Ok::<(), resil::PoolError>(())
-    /// ```
     pub fn lost(&mut self) -> u64 {
         // SAFETY: as in `submit`.
         unsafe { resil_pool_lost(self.handle, &raw mut self.handle) }
     }
 
     /// One of the events that are kept, by its index from 0, oldest first.
-    ///
-    /// ```
-    /// let mut rule = resil::rule::PoolRule::builder(1, 1).keep_events(9).open()?;
-    /// rule.close();
-    /// assert_eq!((rule.event(0), rule.event(1)), (Some(resil::rule::Event::Close), None));
-    /// # Ok::<(), resil::PoolError>(())
-    /// ```
     pub fn event(&mut self, index: usize) -> Option<Event> {
         let mut event = PoolEvent::default();
         // SAFETY: as in `submit`; the event is this call's own.
@@ -376,13 +248,6 @@ impl PoolRule {
     }
 
     /// All events that are kept, oldest first.
-    ///
-    /// ```
-    /// let mut rule = resil::rule::PoolRule::builder(1, 1).keep_events(9).open()?;
-    /// rule.close();
-    /// assert_eq!(rule.last_events(), [resil::rule::Event::Close]);
-    /// # Ok::<(), resil::PoolError>(())
-    /// ```
     pub fn last_events(&mut self) -> Vec<Event> {
         (0..self.event_count())
             .filter_map(|index| self.event(index))

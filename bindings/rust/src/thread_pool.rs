@@ -74,12 +74,6 @@ impl ThreadPool {
     }
 
     /// Begins a pool of a core size from 1 to 64 and a greatest size from the core size to 64, in threads.
-    ///
-    /// ```
-    /// let pool = resil::ThreadPool::builder(1, 2).open()?;
-    /// assert_eq!(pool.numbers().capacity, 100);
-    /// # Ok::<(), resil::PoolError>(())
-    /// ```
     pub fn builder(core: u32, max: u32) -> ThreadPoolBuilder {
         ThreadPoolBuilder::new(core, max)
     }
@@ -119,14 +113,6 @@ impl ThreadPool {
     }
 
     /// The numbers of this moment.
-    ///
-    /// ```
-    /// let pool = resil::ThreadPool::builder(1, 1).open()?;
-    /// pool.submit(|| ())?.wait()?;
-    /// let numbers = pool.numbers();
-    /// assert_eq!(numbers.accepted, numbers.finished + u64::from(numbers.running + numbers.waiting));
-    /// # Ok::<(), Box<dyn std::error::Error>>(())
-    /// ```
     #[must_use]
     pub fn numbers(&self) -> PoolNumbers {
         self.crew.numbers()
@@ -160,12 +146,6 @@ impl ThreadPool {
     }
 
     /// The name of the pool, which is the beginning of its threads' names.
-    ///
-    /// ```
-    /// let pool = resil::ThreadPool::builder(1, 1).name("letters").open()?;
-    /// assert_eq!(pool.name(), "letters");
-    /// # Ok::<(), resil::PoolError>(())
-    /// ```
     #[must_use]
     pub fn name(&self) -> &str {
         &self.crew.kind.name
@@ -183,61 +163,23 @@ impl ThreadPool {
     ///
     /// In this order: `CoreOutOfRange` where the core size isn't from 1 to 64; `MaxOutOfRange` where the greatest size
     /// is below the core size, or above that at the opening.
-    ///
-    /// ```
-    /// let pool = resil::ThreadPool::builder(1, 8).open()?;
-    /// pool.resize(4, 4)?;
-    /// assert_eq!((pool.numbers().core, pool.numbers().max), (4, 4));
-    /// # Ok::<(), resil::PoolError>(())
-    /// ```
     pub fn resize(&self, core: u32, max: u32) -> Result<(), PoolError> {
         self.crew.resize(core, max)
     }
 
     /// Closes the pool: what is submitted from here on is refused. What was accepted still runs, and idle threads end.
-    ///
-    /// ```
-    /// let pool = resil::ThreadPool::builder(1, 1).open()?;
-    /// let job = pool.submit(|| 42)?;
-    /// pool.close();
-    /// assert!(pool.submit(|| 42).is_err());
-    /// assert_eq!(job.wait()?, 42);
-    /// # Ok::<(), Box<dyn std::error::Error>>(())
-    /// ```
     pub fn close(&self) {
         self.crew.close();
     }
 
     /// Closes the pool, and gives back the jobs that were accepted and haven't begun, oldest first. Those that have begun
     /// still run. In the pool's numbers a job that was given back is finished, and a join doesn't wait for it.
-    ///
-    /// ```
-    /// use std::sync::mpsc;
-    ///
-    /// let pool = resil::ThreadPool::builder(1, 1).open()?;
-    /// let (open, gate) = mpsc::channel::<()>();
-    /// let first = pool.submit(move || gate.recv().is_err())?;
-    /// let second = pool.submit(|| 42)?;
-    /// drop(pool.close_now());
-    /// assert!(second.wait().is_err());
-    /// drop(open);
-    /// assert!(first.wait()?);
-    /// # Ok::<(), Box<dyn std::error::Error>>(())
-    /// ```
     #[must_use]
     pub fn close_now(&self) -> Vec<Unstarted> {
         self.crew.close_now()
     }
 
     /// Whether the pool was closed.
-    ///
-    /// ```
-    /// let pool = resil::ThreadPool::builder(1, 1).open()?;
-    /// assert!(!pool.is_closed());
-    /// pool.close();
-    /// assert!(pool.is_closed());
-    /// # Ok::<(), resil::PoolError>(())
-    /// ```
     #[must_use]
     pub fn is_closed(&self) -> bool {
         self.crew.is_closed()
@@ -250,16 +192,6 @@ impl ThreadPool {
     /// runs, waits neither for itself nor for other jobs of this pool that wait so, and where the pool is closed, for the
     /// other threads. A job of another pool waits as any caller: jobs of two pools that join each other's pool wait for
     /// ever, and so does one that joins while a job waits for it. [`join_for`](ThreadPool::join_for) gives up in time.
-    ///
-    /// ```
-    /// let pool = resil::ThreadPool::builder(2, 2).open()?;
-    /// for job in 0..10 {
-    ///     drop(pool.submit(move || job)?);
-    /// }
-    /// pool.join();
-    /// assert_eq!(pool.numbers().finished, 10);
-    /// # Ok::<(), Box<dyn std::error::Error>>(())
-    /// ```
     pub fn join(&self) {
         self.crew.join();
     }
@@ -267,18 +199,6 @@ impl ThreadPool {
     /// Waits as [`join`](ThreadPool::join) does, for as long as this, and says whether it has come to its end;
     /// `Duration::MAX` is a wait without an end. Where the pool is closed, its threads have done all that they do for it
     /// then, but their thread-locals may still be about to be dropped.
-    ///
-    /// ```
-    /// use std::{sync::mpsc, time::Duration};
-    ///
-    /// let pool = resil::ThreadPool::builder(1, 1).open()?;
-    /// let (open, gate) = mpsc::channel::<()>();
-    /// drop(pool.submit(move || gate.recv().is_err())?);
-    /// assert!(!pool.join_for(Duration::from_millis(1)));
-    /// drop(open);
-    /// assert!(pool.join_for(Duration::MAX));
-    /// # Ok::<(), Box<dyn std::error::Error>>(())
-    /// ```
     #[must_use = "it says whether all is finished"]
     pub fn join_for(&self, limit: Duration) -> bool {
         self.crew.join_until(Instant::now().checked_add(limit))
@@ -286,14 +206,6 @@ impl ThreadPool {
 
     /// Closes the pool and lets it go: what was accepted is run by its threads, which end then, and nobody waits for
     /// them.
-    ///
-    /// ```
-    /// let pool = resil::ThreadPool::builder(1, 1).open()?;
-    /// let job = pool.submit(|| 42)?;
-    /// pool.detach();
-    /// assert_eq!(job.wait()?, 42);
-    /// # Ok::<(), Box<dyn std::error::Error>>(())
-    /// ```
     pub fn detach(mut self) {
         self.is_detached = true;
     }

@@ -205,7 +205,7 @@ fn a_chain_that_is_kept_is_called_by_many_threads() -> Checked {
             },
         )
         .inside(Arc::clone(&backend))
-        .retried(Arc::new(retry))
+        .retried(retry)
         .or_else(|error| match error {
             CallError::Failed("busy") => Ok(1),
             error => Err(error),

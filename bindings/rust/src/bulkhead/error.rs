@@ -34,10 +34,6 @@ impl fmt::Display for NoPermit {
 impl Error for NoPermit {}
 
 /// Why there is no bulkhead or no pass; where more than one holds, the first of these.
-///
-/// ```
-/// assert_eq!(resil::Bulkhead::new("backend", 65_536).err(), Some(resil::BulkheadError::TooManyPermits));
-/// ```
 #[derive(Debug, Clone, Copy, PartialEq, Eq)]
 #[non_exhaustive]
 pub enum BulkheadError {

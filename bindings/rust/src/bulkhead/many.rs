@@ -95,19 +95,6 @@ impl Bulkhead {
 /// Several permits that are awaited, or why there are none. [`Bulkhead::acquire_many`] makes it.
 ///
 /// It may be dropped at any time, as an [`Acquire`](crate::Acquire).
-///
-/// ```
-/// use std::pin::pin;
-/// use std::sync::Arc;
-/// use std::task::{Context, Poll, Waker};
-///
-/// let backend = Arc::new(resil::Bulkhead::new("backend", 2)?);
-/// let permits = pin!(backend.acquire_many(2)).poll(&mut Context::from_waker(Waker::noop()));
-/// assert_eq!(backend.available(), 0);
-/// drop(permits);
-/// assert_eq!(backend.available(), 2);
-/// # Ok::<(), resil::BulkheadError>(())
-/// ```
 #[must_use = "a future that isn't polled does nothing"]
 #[derive(Debug)]
 pub struct AcquireMany {

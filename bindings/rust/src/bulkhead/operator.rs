@@ -58,27 +58,12 @@ impl Bulkhead {
     }
 
     /// How many permits are owed: they are retired as they are given back.
-    ///
-    /// ```
-    /// let backend = resil::Bulkhead::new("backend", 1)?;
-    /// let permit = backend.enter()?;
-    /// assert_eq!((backend.shrink(1), backend.owed()), (0, 1));
-    /// # drop(permit);
-    /// # Ok::<(), Box<dyn std::error::Error>>(())
-    /// ```
     pub fn owed(&self) -> u32 {
         locked(&self.gate).owed
     }
 
     /// Puts at most so many permits back to use, and says how many: first it is no longer [owed](Bulkhead::owed) what was, then
     /// retired permits are free again, whichever thread has retired them.
-    ///
-    /// ```
-    /// let backend = resil::Bulkhead::new("backend", 3)?;
-    /// assert_eq!(backend.retire(2), 2);
-    /// assert_eq!((backend.raise(1), backend.retired()), (1, 1));
-    /// # Ok::<(), resil::BulkheadError>(())
-    /// ```
     pub fn raise(&self, count: u32) -> u32 {
         let mut row = locked(&self.gate);
         let cancelled = self.cancel(&mut row, count);
@@ -95,12 +80,6 @@ impl Bulkhead {
     }
 
     /// How many permits are retired.
-    ///
-    /// ```
-    /// let backend = resil::Bulkhead::new("backend", 3)?;
-    /// assert_eq!((backend.retire(2), backend.retired()), (2, 2));
-    /// # Ok::<(), resil::BulkheadError>(())
-    /// ```
     pub fn retired(&self) -> u32 {
         locked(&self.gate).retired()
     }

@@ -5,16 +5,6 @@ use std::fmt;
 use std::sync::Arc;
 
 /// A permit of a [`Bulkhead`], given back when it is dropped. It may go to another thread.
-///
-/// ```
-/// let backend = resil::Bulkhead::new("backend", 1)?;
-/// let permit = backend.enter()?;
-/// std::thread::scope(|scope| {
-///     scope.spawn(move || drop(permit));
-/// });
-/// assert_eq!(backend.available(), 1);
-/// # Ok::<(), Box<dyn std::error::Error>>(())
-/// ```
 #[must_use = "a permit that is dropped is given back at once"]
 pub struct Permit<'a> {
     bulkhead: &'a Bulkhead,
@@ -70,15 +60,6 @@ impl OwnedPermit {
     }
 
     /// Drops the permit without giving it back: it is held for good, and the bulkhead isn't kept for it.
-    ///
-    /// ```
-    /// use std::sync::Arc;
-    ///
-    /// let backend = Arc::new(resil::Bulkhead::new("backend", 2)?);
-    /// backend.enter_owned()?.forget();
-    /// assert_eq!((backend.available(), Arc::strong_count(&backend)), (1, 1));
-    /// # Ok::<(), Box<dyn std::error::Error>>(())
-    /// ```
     pub fn forget(mut self) {
         if let Some(place) = self.place.take() {
             self.bulkhead.seats.forget(place);

@@ -282,20 +282,6 @@ impl Bulkhead {
 /// A permit that is awaited, or why there is none. [`Bulkhead::acquire`] makes it.
 ///
 /// It may be dropped at any time: it leaves the row, and a permit that it was given goes to the next.
-///
-/// ```
-/// use std::pin::pin;
-/// use std::sync::Arc;
-/// use std::task::{Context, Poll, Waker};
-///
-/// let backend = Arc::new(resil::Bulkhead::new("backend", 1)?);
-/// let mut context = Context::from_waker(Waker::noop());
-/// let Poll::Ready(permit) = pin!(backend.acquire()).poll(&mut context) else {
-///     unreachable!("a permit is free");
-/// };
-/// assert_eq!(permit.map(drop), Ok(()));
-/// # Ok::<(), resil::BulkheadError>(())
-/// ```
 #[must_use = "a future that isn't polled does nothing"]
 pub struct Acquire {
     // None once it was ready.

@@ -4,31 +4,12 @@ use std::time::Duration;
 /// Which errors of a type a retry retries.
 ///
 /// Functions of a reference to the error are such tests: [`Retry::retry_if`](crate::Retry::retry_if) takes them.
-///
-/// ```
-/// let retry = resil::Retry::new().retry_if(|error: &&str| *error != "gone");
-/// let (mut attempts, outcome) = (retry.begin(), Err::<&u32, _>(&"gone"));
-/// assert!(retry.wait_after(&mut attempts, outcome).is_none());
-/// ```
 pub trait ErrorTest<E> {
     /// Whether the error is to be retried.
-    ///
-    /// ```
-    /// use resil::{ErrorTest, EveryError};
-    ///
-    /// assert!(EveryError.is_retried(&"no answer"));
-    /// assert!(!(|error: &&str| *error == "busy").is_retried(&"gone"));
-    /// ```
     fn is_retried(&self, error: &E) -> bool;
 
     /// How long to wait after this error of an attempt, which are numbered from 1; none where the retry's interval says
     /// it, as it does for each test but [`WaitBy`](crate::WaitBy).
-    ///
-    /// ```
-    /// use resil::{ErrorTest, EveryError};
-    ///
-    /// assert_eq!(EveryError.wait(&"no answer", 1), None);
-    /// ```
     #[inline]
     fn wait(&self, _error: &E, _attempt: u32) -> Option<Duration> {
         None
@@ -39,39 +20,16 @@ pub trait ErrorTest<E> {
 ///
 /// Functions of a reference to the value are such tests: [`Retry::retry_value_if`](crate::Retry::retry_value_if) takes
 /// them.
-///
-/// ```
-/// let retry = resil::Retry::new().retry_value_if(|answer: &u32| *answer == 503);
-/// let (mut attempts, outcome) = (retry.begin(), Ok::<_, &&str>(&503));
-/// assert!(retry.wait_after(&mut attempts, outcome).is_some());
-/// ```
 pub trait ValueTest<T> {
     /// Whether the value is to be retried.
-    ///
-    /// ```
-    /// use resil::{NoValue, ValueTest};
-    ///
-    /// assert!(!NoValue.is_retried(&0));
-    /// assert!((|answer: &u32| *answer == 0).is_retried(&0));
-    /// ```
     fn is_retried(&self, value: &T) -> bool;
 }
 
 /// The test of a retry that retries each error, of whatever type.
-///
-/// ```
-/// let retry: resil::Retry<resil::EveryError> = resil::Retry::new();
-/// # drop(retry);
-/// ```
 #[derive(Debug, Clone, Copy)]
 pub struct EveryError;
 
 /// The test of a retry that retries no value, of whatever type.
-///
-/// ```
-/// let retry: resil::Retry<resil::EveryError, resil::NoValue> = resil::Retry::new();
-/// # drop(retry);
-/// ```
 #[derive(Debug, Clone, Copy)]
 pub struct NoValue;
 
@@ -91,16 +49,6 @@ impl<E, F: Fn(&E) -> bool> ErrorTest<E> for F {
 
 /// A test of errors, and a function by which an error may say how long to wait. [`Retry::wait_by`](crate::Retry::wait_by)
 /// makes it.
-///
-/// ```
-/// use std::time::Duration;
-///
-/// // The error is the time that the neighbour has asked for.
-/// let retry = resil::Retry::new().wait_by(|asked: &Duration, _attempt| Some(*asked));
-/// let mut attempts = retry.begin();
-/// let outcome: Result<&u32, _> = Err(&Duration::from_millis(7));
-/// assert_eq!(retry.wait_after(&mut attempts, outcome), Some(Duration::from_millis(7)));
-/// ```
 #[derive(Debug, Clone, Copy)]
 pub struct WaitBy<Errors, F> {
     pub(super) test: Errors,

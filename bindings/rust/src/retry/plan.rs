@@ -20,13 +20,6 @@ struct More {
 }
 
 /// How far a call has come: for loops of one's own, as a policy of a client's. [`Retry::begin`](crate::Retry::begin) makes it.
-///
-/// ```
-/// let retry = resil::Retry::new();
-/// let (mut attempts, failed) = (retry.begin(), Err::<&u32, _>(&"busy"));
-/// assert!(retry.wait_after(&mut attempts, failed).is_some());
-/// assert_eq!(attempts.count(), 2);
-/// ```
 #[derive(Debug, Clone)]
 pub struct Attempts {
     // The attempt that was made last, from 1.
@@ -163,10 +156,6 @@ impl More {
 
 impl Attempts {
     /// The number of the attempt that was made last, from 1.
-    ///
-    /// ```
-    /// assert_eq!(resil::Retry::new().begin().count(), 1);
-    /// ```
     #[must_use]
     pub fn count(&self) -> u32 {
         self.attempt

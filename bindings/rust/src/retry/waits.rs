@@ -3,11 +3,6 @@ use super::plan::{Attempts, Plan};
 use std::time::Duration;
 
 /// The waits between the attempts of one call. [`Retry::waits`](crate::Retry::waits) makes it.
-///
-/// ```
-/// let whole: std::time::Duration = resil::Retry::new().attempts(3).waits().sum();
-/// assert_eq!(whole.as_millis(), 1_000);
-/// ```
 #[derive(Debug, Clone)]
 #[must_use = "an iterator does nothing by itself"]
 pub struct Waits<'a> {

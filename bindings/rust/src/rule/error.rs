@@ -3,13 +3,6 @@ use std::error::Error;
 use std::fmt;
 
 /// Why a pool wasn't made, or a call of it was refused; where more than one holds, the first of these. Nothing was changed.
-///
-/// ```
-/// use resil::{PoolError, ThreadPool};
-///
-/// let refused = ThreadPool::builder(2, 1).open().err();
-/// assert_eq!(refused, Some(PoolError::MaxOutOfRange));
-/// ```
 #[derive(Debug, Clone, Copy, PartialEq, Eq)]
 #[non_exhaustive]
 pub enum PoolError {

@@ -2,11 +2,6 @@
 use crate::pool::{PoolCounts, PoolEvent, PoolJob};
 
 /// The name of a job: its caller, and the number that the caller counts, from 1.
-///
-/// ```
-/// let first = resil::rule::JobId { caller: 1, number: 1 };
-/// assert_eq!(first, first.clone());
-/// ```
 #[derive(Debug, Clone, Copy, PartialEq, Eq, Hash)]
 pub struct JobId {
     /// Who submits, from 1.
@@ -16,14 +11,6 @@ pub struct JobId {
 }
 
 /// The answer to a submission.
-///
-/// ```
-/// use resil::{Reply, ThreadPool};
-///
-/// let pool = ThreadPool::builder(1, 1).open()?;
-/// assert_eq!(pool.submit(|| 42)?.reply(), Reply::Core);
-/// # Ok::<(), Box<dyn std::error::Error>>(())
-/// ```
 #[derive(Debug, Clone, Copy, PartialEq, Eq)]
 pub enum Reply {
     /// Accepted: a worker is started for it, since there were fewer than the core size.
@@ -53,15 +40,6 @@ impl Reply {
 }
 
 /// Where a picked job comes from.
-///
-/// ```
-/// use resil::rule::{JobId, Origin, PoolRule};
-///
-/// let mut rule = PoolRule::builder(1, 1).open()?;
-/// rule.submit(JobId { caller: 1, number: 1 }, 7)?;
-/// assert_eq!(rule.pick().map(|picked| picked.origin), Some(Origin::OwnStart));
-/// # Ok::<(), resil::PoolError>(())
-/// ```
 #[derive(Debug, Clone, Copy, PartialEq, Eq)]
 pub enum Origin {
     /// It has had a worker of its own since its submission.
@@ -71,17 +49,6 @@ pub enum Origin {
 }
 
 /// A job that was picked, by which it is finished.
-///
-/// ```
-/// use resil::rule::{JobId, PoolRule};
-///
-/// let mut rule = PoolRule::builder(1, 1).open()?;
-/// rule.submit(JobId { caller: 1, number: 1 }, 7)?;
-/// let picked = rule.pick().expect("a worker is started for it");
-/// assert_eq!(picked.work, 7);
-/// rule.finish(&picked)?;
-/// # Ok::<(), resil::PoolError>(())
-/// ```
 #[derive(Debug, Clone, Copy, PartialEq, Eq)]
 pub struct Picked {
     /// Its name.
@@ -109,16 +76,6 @@ impl Picked {
 }
 
 /// One event of a pool: what happened at one call.
-///
-/// ```
-/// use resil::rule::{Event, PoolRule};
-///
-/// let mut rule = PoolRule::builder(1, 2).keep_events(10).open()?;
-/// rule.resize(2, 2)?;
-/// rule.close();
-/// assert_eq!(rule.last_events(), [Event::Resized { core: 2, max: 2 }, Event::Close]);
-/// # Ok::<(), resil::PoolError>(())
-/// ```
 #[derive(Debug, Clone, Copy, PartialEq, Eq)]
 pub enum Event {
     /// A submission and its answer.
@@ -162,15 +119,6 @@ impl Event {
 }
 
 /// The numbers of a pool, all of one moment: `accepted = running + waiting + finished`.
-///
-/// ```
-/// let pool = resil::ThreadPool::builder(1, 2).queue(10).open()?;
-/// pool.submit(|| 42)?.wait()?;
-/// let numbers = pool.numbers();
-/// assert_eq!((numbers.core, numbers.max, numbers.capacity), (1, 2, 10));
-/// assert_eq!((numbers.accepted, numbers.finished, numbers.workers), (1, 1, 1));
-/// # Ok::<(), Box<dyn std::error::Error>>(())
-/// ```
 #[derive(Debug, Clone, Copy, PartialEq, Eq)]
 pub struct PoolNumbers {
     /// The core size now, in workers.

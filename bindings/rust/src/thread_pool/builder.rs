@@ -55,23 +55,12 @@ impl ThreadPoolBuilder {
     }
 
     /// The capacity of the queue, in jobs: 1 to 65,536, and 100 where none is named.
-    ///
-    /// ```
-    /// let pool = resil::ThreadPool::builder(1, 1).queue(7).open()?;
-    /// assert_eq!(pool.numbers().capacity, 7);
-    /// # Ok::<(), resil::PoolError>(())
-    /// ```
     pub fn queue(mut self, capacity: u32) -> Self {
         self.queue = capacity;
         self
     }
 
     /// How long an idle thread above the core size stays before it ends; 20 milliseconds where nothing is said.
-    ///
-    /// ```
-    /// let time = std::time::Duration::from_secs(60);
-    /// assert!(resil::ThreadPool::builder(1, 4).keep_alive(time).open().is_ok());
-    /// ```
     pub fn keep_alive(mut self, time: Duration) -> Self {
         self.kind.keep_alive = time;
         self
@@ -79,13 +68,6 @@ impl ThreadPoolBuilder {
 
     /// The name of the pool; `pool` where none is given. Its threads bear it with a number behind it, counted from 1 over
     /// all that are started. Linux shows the first 15 bytes.
-    ///
-    /// ```
-    /// let pool = resil::ThreadPool::builder(1, 1).name("letters").open()?;
-    /// let name = pool.submit(|| std::thread::current().name().map(str::to_owned))?;
-    /// assert_eq!(name.wait()?.as_deref(), Some("letters-1"));
-    /// # Ok::<(), Box<dyn std::error::Error>>(())
-    /// ```
     pub fn name(mut self, name: impl Into<String>) -> Self {
         self.kind.name = name.into();
         self
@@ -94,13 +76,6 @@ impl ThreadPoolBuilder {
     /// The size of each thread's stack, in bytes, which the system may round up; where none is named, that of
     /// [`std::thread::Builder::stack_size`]. Functions, what they call, and their answers lie on it. A thread whose stack
     /// can't be had can't be started.
-    ///
-    /// ```
-    /// let pool = resil::ThreadPool::builder(1, 1).stack_size(64 << 20).open()?;
-    /// let large = pool.submit(|| std::hint::black_box([1_u8; 4 << 20]).len())?;
-    /// assert_eq!(large.wait()?, 4 << 20);
-    /// # Ok::<(), Box<dyn std::error::Error>>(())
-    /// ```
     pub fn stack_size(mut self, bytes: usize) -> Self {
         // What is above can't be had, and couldn't be rounded up either.
         self.kind.stack_size = Some(bytes.min(isize::MAX as usize));
@@ -109,24 +84,6 @@ impl ThreadPoolBuilder {
 
     /// Has this observer told of the pool's jobs: of each that is accepted or refused, and when it begins and ends, by the
     /// thread that runs it.
-    ///
-    /// ```
-    /// use resil::{Observer, ThreadPool};
-    /// use std::sync::Arc;
-    /// use std::time::Duration;
-    ///
-    /// struct Log;
-    ///
-    /// impl Observer for Log {
-    ///     fn job_started(&self, pool: &str, wait: Duration) {
-    ///         println!("a job of {pool} has waited {wait:?}");
-    ///     }
-    /// }
-    ///
-    /// let pool = ThreadPool::builder(1, 1).name("letters").observed(Arc::new(Log)).open()?;
-    /// assert_eq!(pool.submit(|| 42)?.wait()?, 42);
-    /// # Ok::<(), Box<dyn std::error::Error>>(())
-    /// ```
     pub fn observed(mut self, observer: Arc<dyn Observer>) -> Self {
         self.observer = Some(observer);
         self
@@ -140,16 +97,6 @@ impl ThreadPoolBuilder {
     /// one that panicked or was given back, each idle end, each resize and the closing. Its time is read before the lock is taken,
     /// in microseconds since the opening, and never goes back. Where there are more events than that the record ends until the
     /// next call of `history`, whose text says how many are missing; the pool goes on.
-    ///
-    /// ```
-    /// let pool = resil::ThreadPool::builder(1, 1).record(10_000).open()?;
-    /// pool.submit(|| ())?.wait()?;
-    /// let history = pool.history().expect("the pool is recorded");
-    /// let events = history.lines().filter(|line| !line.starts_with('#')).skip(5);
-    /// let names: Vec<_> = events.filter_map(|event| event.split(',').next()).collect();
-    /// assert_eq!(names, ["submit", "finish"]);
-    /// # Ok::<(), Box<dyn std::error::Error>>(())
-    /// ```
     pub fn record(mut self, events: u32) -> Self {
         self.record = Some(events);
         self
@@ -170,13 +117,6 @@ impl ThreadPoolBuilder {
     /// 1 to 64; `MaxOutOfRange` where the greatest size isn't from the core size to 64; `QueueOutOfRange`; `Memory` where there is
     /// none for the library's pool, the record or the queue. What else is taken here and for each job, some hundred bytes, is taken as
     /// everywhere in Rust: the process ends where it can't be had.
-    ///
-    /// ```
-    /// use resil::{PoolError, ThreadPool};
-    ///
-    /// assert_eq!(ThreadPool::builder(0, 1).open().err(), Some(PoolError::CoreOutOfRange));
-    /// assert_eq!(ThreadPool::builder(1, 1).queue(0).open().err(), Some(PoolError::QueueOutOfRange));
-    /// ```
     pub fn open(self) -> Result<ThreadPool, PoolError> {
         if self.kind.name.contains('\0') {
             return Err(PoolError::NulInName);

@@ -5,15 +5,6 @@ use std::fmt;
 use std::sync::{Mutex, PoisonError};
 
 /// Why a job has no answer.
-///
-/// ```
-/// let pool = resil::ThreadPool::builder(1, 1).open()?;
-/// let answer = pool.submit(|| -> u32 { panic!("no answer") })?.wait();
-/// assert_eq!(answer.unwrap_err().to_string(), "the job panicked: no answer");
-/// // The worker lives on.
-/// assert_eq!(pool.submit(|| 42)?.wait()?, 42);
-/// # Ok::<(), Box<dyn std::error::Error>>(())
-/// ```
 #[derive(Debug)]
 #[non_exhaustive]
 pub enum JobError {
@@ -72,32 +63,12 @@ impl JobPanic {
     }
 
     /// The message, where the payload is one.
-    ///
-    /// ```
-    /// use resil::JobError;
-    ///
-    /// let pool = resil::ThreadPool::builder(1, 1).open()?;
-    /// let answer = pool.submit(|| -> u32 { panic!("no answer") })?.wait();
-    /// assert!(matches!(answer, Err(JobError::Panicked(panic)) if panic.message() == Some("no answer")));
-    /// # Ok::<(), Box<dyn std::error::Error>>(())
-    /// ```
     #[must_use]
     pub fn message(&self) -> Option<&str> {
         self.message.as_deref()
     }
 
     /// The payload, as for [`resume_unwind`](std::panic::resume_unwind).
-    ///
-    /// ```
-    /// use resil::JobError;
-    ///
-    /// let pool = resil::ThreadPool::builder(1, 1).open()?;
-    /// let answer = pool.submit(|| -> u32 { std::panic::panic_any(7) })?.wait();
-    /// let Err(JobError::Panicked(panic)) = answer else { unreachable!() };
-    /// let again = std::panic::catch_unwind(|| std::panic::resume_unwind(panic.into_payload()));
-    /// assert_eq!(again.unwrap_err().downcast_ref(), Some(&7));
-    /// # Ok::<(), Box<dyn std::error::Error>>(())
-    /// ```
     #[must_use]
     pub fn into_payload(self) -> Box<dyn Any + Send> {
         let payload = self.payload.into_inner();

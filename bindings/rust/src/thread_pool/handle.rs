@@ -40,15 +40,6 @@ impl<T> JobHandle<T> {
     }
 
     /// The reply to the submission: `Core`, `Queued` or `Extra`.
-    ///
-    /// ```
-    /// use resil::{Reply, ThreadPool};
-    ///
-    /// let pool = ThreadPool::builder(1, 1).open()?;
-    /// assert_eq!(pool.submit(|| ())?.reply(), Reply::Core);
-    /// assert_eq!(pool.submit(|| ())?.reply(), Reply::Queued);
-    /// # Ok::<(), Box<dyn std::error::Error>>(())
-    /// ```
     #[must_use]
     pub fn reply(&self) -> Reply {
         self.reply
@@ -60,12 +51,6 @@ impl<T> JobHandle<T> {
     ///
     /// `Panicked` where the function panicked; `Cancelled` where the pool was closed by
     /// [`close_now`](crate::ThreadPool::close_now) before the job began, and what that gave back was dropped.
-    ///
-    /// ```
-    /// let pool = resil::ThreadPool::builder(1, 1).open()?;
-    /// assert_eq!(pool.submit(|| 42)?.wait()?, 42);
-    /// # Ok::<(), Box<dyn std::error::Error>>(())
-    /// ```
     ///
     /// # Panics
     ///
@@ -85,18 +70,6 @@ impl<T> JobHandle<T> {
     /// # Errors
     ///
     /// The handle, where the answer isn't there by then. Inside, as [`wait`](JobHandle::wait).
-    ///
-    /// ```
-    /// use std::{sync::mpsc, time::Duration};
-    ///
-    /// let pool = resil::ThreadPool::builder(1, 1).open()?;
-    /// let (open, gate) = mpsc::channel::<u32>();
-    /// let job = pool.submit(move || gate.recv())?;
-    /// let job = job.wait_for(Duration::from_millis(1)).expect_err("the gate is closed");
-    /// open.send(42)?;
-    /// assert_eq!(job.wait_for(Duration::MAX).expect("the gate is open")??, 42);
-    /// # Ok::<(), Box<dyn std::error::Error>>(())
-    /// ```
     ///
     /// # Panics
     ///
@@ -119,14 +92,6 @@ impl<T> JobHandle<T> {
     }
 
     /// Whether the answer is there.
-    ///
-    /// ```
-    /// let pool = resil::ThreadPool::builder(1, 1).open()?;
-    /// let job = pool.submit(|| 42)?;
-    /// pool.join();
-    /// assert!(job.is_finished());
-    /// # Ok::<(), Box<dyn std::error::Error>>(())
-    /// ```
     #[must_use]
     pub fn is_finished(&self) -> bool {
         self.held.task().is_there()
@@ -134,18 +99,6 @@ impl<T> JobHandle<T> {
 }
 
 /// The answer, as [`wait`](JobHandle::wait) gives it.
-///
-/// ```
-/// use std::pin::pin;
-/// use std::task::{Context, Poll, Waker};
-///
-/// let pool = resil::ThreadPool::builder(1, 1).open()?;
-/// let mut job = pin!(pool.submit(|| 42)?);
-/// pool.join();
-/// let answer = job.as_mut().poll(&mut Context::from_waker(Waker::noop()));
-/// assert!(matches!(answer, Poll::Ready(Ok(42))));
-/// # Ok::<(), Box<dyn std::error::Error>>(())
-/// ```
 impl<T> Future for JobHandle<T> {
     type Output = Result<T, JobError>;
 

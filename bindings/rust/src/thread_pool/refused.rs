@@ -3,14 +3,6 @@ use std::error::Error;
 use std::fmt;
 
 /// Why a job is refused.
-///
-/// ```
-/// let pool = resil::ThreadPool::builder(1, 1).open()?;
-/// pool.close();
-/// let refused = pool.submit(|| 42).map(drop).map_err(|refused| refused.reason);
-/// assert_eq!(refused, Err(resil::Refusal::Closed));
-/// # Ok::<(), resil::PoolError>(())
-/// ```
 #[derive(Debug, Clone, Copy, PartialEq, Eq)]
 #[non_exhaustive]
 pub enum Refusal {
@@ -32,15 +24,6 @@ impl fmt::Display for Refusal {
 impl Error for Refusal {}
 
 /// A job that a pool refused: why, and its function, which wasn't called.
-///
-/// ```
-/// let pool = resil::ThreadPool::builder(1, 1).open()?;
-/// pool.close();
-/// let refused = pool.submit(|| 42).unwrap_err();
-/// assert_eq!(refused.to_string(), "the pool is closed");
-/// assert_eq!((refused.function)(), 42);
-/// # Ok::<(), resil::PoolError>(())
-/// ```
 pub struct Refused<F> {
     /// Why it was refused.
     pub reason: Refusal,

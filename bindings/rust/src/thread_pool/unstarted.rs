@@ -36,12 +36,6 @@ impl Unstarted {
 
     /// Calls the function on this thread, and hands its answer to the handle. It doesn't panic: where the function does,
     /// that is the answer.
-    ///
-    /// ```
-    /// let pool = resil::ThreadPool::builder(1, 1).open()?;
-    /// pool.close_now().into_iter().for_each(resil::Unstarted::run);
-    /// # Ok::<(), resil::PoolError>(())
-    /// ```
     pub fn run(mut self) {
         if let Some(work) = self.work.take() {
             work.run(&mut Absent);
