@@ -206,7 +206,8 @@ where
             this.call.set(Some(call));
         }
         let call = this.call.as_pin_mut();
-        call.expect("a call was polled after its answer").poll(context)
+        call.expect("a call was polled after its answer")
+            .poll(context)
     }
 }
 

@@ -66,16 +66,6 @@ fn it_is_ready_as_the_inner_service_is() -> Result<(), BulkheadError> {
 }
 
 #[test]
-fn an_answer_and_a_failure_are_handed_on() -> Result<(), BulkheadError> {
-    let (bulkhead, backend, mut service) = guarded(1)?;
-    assert_eq!(polled(service.call(Ok(42))), Poll::Ready(Ok(42)));
-    let failed = Poll::Ready(Err(CallError::Failed("no route")));
-    assert_eq!(polled(service.call(Err("no route"))), failed);
-    assert_eq!((backend.calls.get(), bulkhead.available()), (2, 1));
-    Ok(())
-}
-
-#[test]
 fn a_refused_call_does_not_reach_the_inner_service() -> Result<(), Box<dyn std::error::Error>> {
     let (bulkhead, backend, mut service) = guarded(2)?;
     let permits = [bulkhead.enter()?, bulkhead.enter()?];
@@ -103,15 +93,6 @@ fn all_services_of_a_layer_share_its_permits() -> Result<(), BulkheadError> {
     drop(calls);
     assert_eq!(bulkhead.available(), 3);
     Ok(())
-}
-
-#[test]
-fn an_error_goes_into_the_box_of_tower() {
-    let full = BoxError::from(CallError::<&str>::Full);
-    assert_eq!(full.to_string(), "the bulkhead is full");
-    assert_eq!(full.downcast_ref(), Some(&CallError::<&str>::Full));
-    let failed = BoxError::from(CallError::Failed(BoxError::from("no route")));
-    assert_eq!(failed.to_string(), "no route");
 }
 
 // The clock stands still while something can be done.

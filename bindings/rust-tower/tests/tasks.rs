@@ -3,7 +3,7 @@ use resil::Bulkhead;
 use resil_tower::{BulkheadLayer, CallError};
 use std::convert::Infallible;
 use std::sync::Arc;
-use std::sync::atomic::{AtomicU32, AtomicU64, Ordering};
+use std::sync::atomic::{AtomicU32, Ordering};
 use std::time::Duration;
 use tokio::task::{self, JoinSet};
 use tower::{BoxError, Layer, Service, ServiceExt, service_fn};
@@ -12,39 +12,13 @@ const PERMITS: u32 = 8;
 const TASKS: u64 = 64;
 const CALLS: u64 = 500;
 
-// What is inside now, and what came of all calls.
-#[derive(Default)]
-struct Counts {
-    inside: AtomicU32,
-    begun: AtomicU64,
-    answered: AtomicU64,
-    refused: AtomicU64,
-    given_up: AtomicU64,
-}
-
-// One call inside, counted out also where it is dropped.
-struct Inside(Arc<Counts>);
-
-impl Inside {
-    fn new(counts: Arc<Counts>) -> Inside {
-        counts.begun.fetch_add(1, Ordering::SeqCst);
-        let before = counts.inside.fetch_add(1, Ordering::SeqCst);
-        assert!(before < PERMITS, "{before} calls were inside");
-        Inside(counts)
-    }
-}
-
-impl Drop for Inside {
-    fn drop(&mut self) {
-        self.0.inside.fetch_sub(1, Ordering::SeqCst);
-    }
-}
-
-// Calls the service many times. Each fifth call is given up after so many steps of others as its number says.
-async fn calls<S>(mut service: S, counts: Arc<Counts>) -> Result<(), CallError<Infallible>>
+// Calls the service many times, and counts what was answered, refused and given up. Each fifth call is given up after so many steps of
+// others as its number says.
+async fn calls<S>(mut service: S) -> Result<[u64; 3], CallError<Infallible>>
 where
     S: Service<u64, Response = u64, Error = CallError<Infallible>>,
 {
+    let mut counts = [0; 3];
     for number in 0..CALLS {
         let call = service.ready().await?.call(number);
         let given_up = async {
@@ -58,25 +32,35 @@ where
             Some(call.await)
         };
         let count = match answer {
-            None => &counts.given_up,
-            Some(Err(CallError::Full)) => &counts.refused,
+            None => 2,
+            Some(Err(CallError::Full)) => 1,
             Some(answer) => {
                 assert_eq!(answer, Ok(number));
-                &counts.answered
+                0
             }
         };
-        count.fetch_add(1, Ordering::SeqCst);
+        counts[count] += 1;
     }
-    Ok(())
+    Ok(counts)
+}
+
+// One call inside, counted out also where it is dropped.
+struct Inside(Arc<AtomicU32>);
+
+impl Drop for Inside {
+    fn drop(&mut self) {
+        self.0.fetch_sub(1, Ordering::SeqCst);
+    }
 }
 
 #[tokio::test(flavor = "multi_thread", worker_threads = 4)]
 async fn no_permit_is_lost_or_made() -> Result<(), BoxError> {
     let bulkhead = Arc::new(Bulkhead::new("backend", PERMITS)?);
-    let counts = Arc::new(Counts::default());
-    let inner = Arc::clone(&counts);
+    let count = Arc::new(AtomicU32::new(0));
     let backend = service_fn(move |number: u64| {
-        let inside = Inside::new(Arc::clone(&inner));
+        let before = count.fetch_add(1, Ordering::SeqCst);
+        assert!(before < PERMITS, "{before} calls were inside");
+        let inside = Inside(Arc::clone(&count));
         async move {
             task::yield_now().await;
             drop(inside);
@@ -86,20 +70,16 @@ async fn no_permit_is_lost_or_made() -> Result<(), BoxError> {
     let service = BulkheadLayer::new(Arc::clone(&bulkhead)).layer(backend);
     let mut tasks = JoinSet::new();
     for _ in 0..TASKS {
-        tasks.spawn(calls(service.clone(), Arc::clone(&counts)));
+        tasks.spawn(calls(service.clone()));
     }
+    let mut sums = [0; 3];
     while let Some(ended) = tasks.join_next().await {
-        ended??;
+        for (sum, count) in sums.iter_mut().zip(ended??) {
+            *sum += count;
+        }
     }
-    let told = |count: &AtomicU64| count.load(Ordering::SeqCst);
-    let (answered, refused, given_up) = (
-        told(&counts.answered),
-        told(&counts.refused),
-        told(&counts.given_up),
-    );
-    assert_eq!(answered + refused + given_up, TASKS * CALLS);
-    assert!(answered > 0 && refused > 0 && given_up > 0);
-    assert!(told(&counts.begun) >= answered);
+    assert_eq!(sums.iter().sum::<u64>(), TASKS * CALLS);
+    assert!(sums.iter().all(|sum| *sum > 0), "{sums:?}");
     assert_eq!(bulkhead.available(), PERMITS);
     Ok(())
 }

@@ -1,13 +1,13 @@
 //! The layer that waits: when a service is ready, and where its permit goes at each step at which it may be dropped.
 mod common;
 
-use common::{Answer, Answers, Checked, all_are_made, context, is_idle, polled};
+use common::{Answers, Checked, all_are_made, context, is_idle, polled};
 use resil::Bulkhead;
 use resil_tower::{BulkheadLayer, BulkheadService};
 use std::error::Error;
 use std::panic::{AssertUnwindSafe, catch_unwind};
 use std::sync::Arc;
-use std::task::{Context, Poll};
+use std::task::Poll;
 use tower::{Layer, Service, ServiceExt};
 
 fn waiting(max: u32) -> Result<(Arc<Bulkhead>, BulkheadService<Answers>), Box<dyn Error>> {
@@ -85,47 +85,20 @@ fn a_call_is_dropped_at_each_step() -> Checked {
     Ok(())
 }
 
-/// Is never ready for a while, then fails, and then panics.
-#[derive(Default)]
-struct Unready(u32);
-
-impl Service<u32> for Unready {
-    type Response = u32;
-    type Error = &'static str;
-    type Future = Answer;
-
-    fn poll_ready(&mut self, _context: &mut Context<'_>) -> Poll<Result<(), &'static str>> {
-        self.0 += 1;
-        match self.0 {
-            1 | 2 => Poll::Pending,
-            3 => Poll::Ready(Err("no route")),
-            _ => panic!("out of order"),
-        }
-    }
-
-    fn call(&mut self, _number: u32) -> Answer {
-        unreachable!("it isn't ready")
-    }
-}
-
 #[test]
 fn a_permit_is_kept_while_the_inner_service_is_not_ready() -> Checked {
     let backend = Arc::new(Bulkhead::new("backend", 1)?);
-    // Dropped after so many looks: while it isn't ready, once it has failed, and behind a panic.
-    for looks in 1..=4 {
-        let mut service = BulkheadLayer::waiting(Arc::clone(&backend)).layer(Unready::default());
-        for _ in 1..looks {
-            let _unready = service.poll_ready(&mut context());
-            assert_eq!(backend.available(), 0);
-        }
-        let last = catch_unwind(AssertUnwindSafe(|| service.poll_ready(&mut context())));
-        assert_eq!(last.is_err(), looks == 4);
+    // Dropped while it isn't ready, once it has failed, and behind a panic.
+    for looks in [2, 1, Answers::PANICS] {
+        let mut service = BulkheadLayer::waiting(Arc::clone(&backend)).layer(Answers { looks });
+        let look = catch_unwind(AssertUnwindSafe(|| service.poll_ready(&mut context())));
+        assert_eq!(look.is_err(), looks == Answers::PANICS);
         assert_eq!(backend.available(), 0);
         drop(service);
         assert!(is_idle(&backend));
     }
     // A task that awaits it and is given up: `oneshot` has the service.
-    let service = BulkheadLayer::waiting(Arc::clone(&backend)).layer(Unready::default());
+    let service = BulkheadLayer::waiting(Arc::clone(&backend)).layer(Answers { looks: 2 });
     let mut call = Box::pin(service.oneshot(7));
     assert!(polled(call.as_mut()).is_pending() && backend.available() == 0);
     drop(call);

@@ -14,10 +14,16 @@ use tower::{Service, ServiceExt, service_fn};
 pub type Checked = Result<(), Box<dyn Error>>;
 pub type Answer = Pin<Box<dyn Future<Output = Result<u32, &'static str>> + Send>>;
 
-/// Answers with the number that it is asked by; 0 is never answered, and 1 panics in the call. After so many looks it is ready.
+/// Answers with the number that it is asked by; 0 is never answered, and 1 panics in the call. It is ready after half as many looks,
+/// or fails then where they are odd.
 #[derive(Clone, Debug)]
 pub struct Answers {
     pub looks: u32,
+}
+
+impl Answers {
+    /// In place of a number of looks: the first one panics.
+    pub const PANICS: u32 = u32::MAX;
 }
 
 impl Service<u32> for Answers {
@@ -29,6 +35,7 @@ impl Service<u32> for Answers {
         match self.looks {
             0 => return Poll::Ready(Ok(())),
             1 => return Poll::Ready(Err("no route")),
+            Answers::PANICS => panic!("out of order"),
             _ => self.looks -= 2,
         }
         Poll::Pending
