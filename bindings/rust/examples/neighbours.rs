@@ -10,10 +10,9 @@ mod picture;
 
 use resil::Bulkhead;
 use std::error::Error;
-use std::fmt;
 use std::io::{self, BufRead, BufReader, Read, Write};
 use std::net::{Ipv4Addr, Shutdown, SocketAddr, TcpListener, TcpStream};
-use std::sync::atomic::{AtomicBool, AtomicUsize, Ordering};
+use std::sync::atomic::{AtomicBool, Ordering};
 use std::sync::{Arc, Mutex, MutexGuard, PoisonError};
 use std::thread::{self, JoinHandle};
 use std::time::{Duration, Instant};
@@ -40,71 +39,29 @@ const STEADY: [(&str, u32, Duration); 2] = [
 ];
 const STEADY_PATIENCE: Duration = Duration::from_millis(500);
 
-/// What the callers of one neighbour met with.
-#[derive(Debug, Default)]
-pub struct Calls {
-    /// How many were answered by the neighbour.
-    pub answered: usize,
-    /// How many were refused by its bulkhead.
-    pub refused: usize,
-    /// How many had no answer when their caller gave up.
-    pub unanswered: usize,
-    /// How long each answer and refusal took.
-    pub times: Vec<Duration>,
+/// What one call met with.
+#[derive(Clone, Copy, Debug)]
+pub struct Met {
+    /// When it had its answer, or was given up.
+    at: Duration,
+    /// Whether it was for the slow neighbour.
+    slow: bool,
+    /// The status of the answer, where one came.
+    status: Option<u16>,
 }
 
-impl Calls {
-    fn count(&mut self, status: &io::Result<u16>, time: Duration) {
-        match status {
-            Ok(200) => self.answered += 1,
-            Ok(503) => self.refused += 1,
-            _ => self.unanswered += 1,
-        }
-        if matches!(status, Ok(200 | 503)) {
-            self.times.push(time);
-        }
+/// How many calls of a neighbour were answered by it, refused by its bulkhead, and given up by their callers.
+#[must_use]
+pub fn counts(all: &[Met], slow: bool) -> [usize; 3] {
+    let mut counts = [0; 3];
+    for met in all.iter().filter(|met| met.slow == slow) {
+        counts[match met.status {
+            Some(200) => 0,
+            Some(503) => 1,
+            _ => 2,
+        }] += 1;
     }
-
-    fn join(mut self, other: Calls) -> Calls {
-        self.answered += other.answered;
-        self.refused += other.refused;
-        self.unanswered += other.unanswered;
-        self.times.extend(other.times);
-        self.times.sort();
-        self
-    }
-
-    // The time that so many of a hundred don't exceed.
-    fn percentile(&self, percent: usize) -> Option<Duration> {
-        let index = (self.times.len() * percent).div_ceil(100);
-        self.times.get(index.saturating_sub(1)).copied()
-    }
-}
-
-impl fmt::Display for Calls {
-    fn fmt(&self, f: &mut fmt::Formatter<'_>) -> fmt::Result {
-        let (answered, refused, unanswered) = (self.answered, self.refused, self.unanswered);
-        write!(
-            f,
-            "{answered:3} answered, {refused:2} refused, {unanswered:2} unanswered"
-        )?;
-        match (self.percentile(50), self.percentile(99)) {
-            (Some(median), Some(most)) => {
-                let (median, most) = (median.as_secs_f64() * 1e3, most.as_secs_f64() * 1e3);
-                write!(f, "; median {median:.1} ms, 99th percentile {most:.1} ms")
-            }
-            _ => Ok(()),
-        }
-    }
-}
-
-/// One half: what the callers of the good and of the slow neighbour met with.
-#[derive(Debug)]
-pub struct Half {
-    /// Those of the good one.
-    pub good: Calls,
-    /// Those of the slow one.
-    pub slow: Calls,
+    counts
 }
 
 /// Listens on loopback, by so many threads, until it is stopped.
@@ -298,17 +255,41 @@ impl Backend {
     }
 }
 
-// Calls the server for a neighbour, so often one after the other while it is answered.
-fn call(server: SocketAddr, name: &str, count: usize, patience: Duration) -> Calls {
-    let mut calls = Calls::default();
-    for _ in 0..count {
-        let began = Instant::now();
-        calls.count(&ask(server, name, patience), began.elapsed());
-        if calls.unanswered > 0 {
-            break;
-        }
+/// Calls the server for a neighbour.
+#[derive(Clone, Copy)]
+struct Caller {
+    server: SocketAddr,
+    name: &'static str,
+    patience: Duration,
+    began: Instant,
+}
+
+impl Caller {
+    fn call(&self) -> Met {
+        let status = ask(self.server, self.name, self.patience).ok();
+        let slow = self.name == "slow";
+        let at = self.began.elapsed();
+        Met { at, slow, status }
     }
-    calls
+
+    // Calls so often, one after the other while it is answered.
+    fn call_often(&self, count: usize) -> Vec<Met> {
+        let mut all = vec![self.call()];
+        while all.len() < count && all.iter().all(|met| met.status.is_some()) {
+            all.push(self.call());
+        }
+        all
+    }
+
+    // Calls until the end of a half of the picture.
+    fn call_steadily(&self, pause: Duration) -> Vec<Met> {
+        let mut all = Vec::new();
+        while self.began.elapsed() < LENGTH {
+            all.push(self.call());
+            thread::sleep(pause);
+        }
+        all
+    }
 }
 
 // Waits until it is so.
@@ -328,19 +309,19 @@ fn until(is_so: impl Fn() -> bool) -> Result<(), Box<dyn Error>> {
 /// # Errors
 ///
 /// Whatever the sockets, the threads or the bulkheads are refused by.
-pub fn play(bulkheads: bool) -> Result<Half, Box<dyn Error>> {
+pub fn play(bulkheads: bool) -> Result<Vec<Met>, Box<dyn Error>> {
     let neighbours = Neighbours::start()?;
     neighbours.hang();
     let server = neighbours.server(bulkheads)?;
-    let address = server.address;
-    let refused = Arc::new(AtomicUsize::new(0));
+    let caller = |name, patience| Caller {
+        server: server.address,
+        name,
+        patience,
+        began: Instant::now(),
+    };
     let slow = [(); SLOW_CALLERS].map(|()| {
-        let refused = Arc::clone(&refused);
-        thread::spawn(move || {
-            let calls = call(address, "slow", 1, LIMIT);
-            refused.fetch_add(calls.refused, Ordering::SeqCst);
-            calls
-        })
+        let caller = caller("slow", LIMIT);
+        thread::spawn(move || caller.call_often(1))
     });
     // The good one's callers come once each slow call hangs, is refused or waits for a thread.
     let (hang, refusals) = if bulkheads {
@@ -348,34 +329,27 @@ pub fn play(bulkheads: bool) -> Result<Half, Box<dyn Error>> {
     } else {
         (THREADS, 0)
     };
-    until(|| neighbours.held() == hang && refused.load(Ordering::SeqCst) == refusals)?;
-    let patience = if bulkheads { LIMIT } else { PATIENCE };
-    let good = [(); GOOD_CALLERS]
-        .map(|()| thread::spawn(move || call(address, "good", GOOD_CALLS, patience)));
-    let good = joined(good)?;
+    let refused = || slow.iter().filter(|thread| thread.is_finished()).count();
+    until(|| neighbours.held() == hang && refused() == refusals)?;
+    let good = [(); GOOD_CALLERS].map(|()| {
+        let caller = caller("good", if bulkheads { LIMIT } else { PATIENCE });
+        thread::spawn(move || caller.call_often(GOOD_CALLS))
+    });
+    let mut all = joined(good)?;
     neighbours.stop();
-    let slow = joined(slow)?;
+    all.extend(joined(slow)?);
     server.stop();
-    Ok(Half { good, slow })
+    Ok(all)
 }
 
-fn joined<const N: usize>(threads: [JoinHandle<Calls>; N]) -> Result<Calls, Box<dyn Error>> {
-    threads
-        .into_iter()
-        .try_fold(Calls::default(), |all, thread| {
-            Ok(all.join(thread.join().map_err(|_| "a caller panicked")?))
-        })
-}
-
-/// What one call of a half of the picture met with.
-#[derive(Clone, Copy, Debug)]
-pub struct Met {
-    /// When it had its answer, or was given up.
-    at: Duration,
-    /// Whether it was for the slow neighbour.
-    slow: bool,
-    /// The status of the answer, where one came.
-    status: Option<u16>,
+fn joined(
+    callers: impl IntoIterator<Item = JoinHandle<Vec<Met>>>,
+) -> Result<Vec<Met>, Box<dyn Error>> {
+    let mut all = Vec::new();
+    for caller in callers {
+        all.extend(caller.join().map_err(|_| "a caller panicked")?);
+    }
+    Ok(all)
 }
 
 /// Plays a half of the picture: both neighbours are called all the time, and the slow one hangs for a while.
@@ -386,15 +360,20 @@ pub struct Met {
 pub fn play_steadily(bulkheads: bool) -> Result<Vec<Met>, Box<dyn Error>> {
     let neighbours = Neighbours::start()?;
     let server = neighbours.server(bulkheads)?;
-    let address = server.address;
     let began = Instant::now();
     let mut callers = Vec::new();
     for (name, count, pause) in STEADY {
+        let caller = Caller {
+            server: server.address,
+            name,
+            patience: STEADY_PATIENCE,
+            began,
+        };
         callers.extend((0..count).map(|index| {
             thread::spawn(move || {
                 // They don't all begin at once.
                 thread::sleep(pause * index / count);
-                call_steadily(address, name, pause, began)
+                caller.call_steadily(pause)
             })
         }));
     }
@@ -402,25 +381,10 @@ pub fn play_steadily(bulkheads: bool) -> Result<Vec<Met>, Box<dyn Error>> {
         thread::sleep(at.saturating_sub(began.elapsed()));
         step(&neighbours);
     }
-    let mut all = Vec::new();
-    for caller in callers {
-        all.extend(caller.join().map_err(|_| "a caller panicked")?);
-    }
+    let all = joined(callers)?;
     neighbours.stop();
     server.stop();
     Ok(all)
-}
-
-fn call_steadily(server: SocketAddr, name: &str, pause: Duration, began: Instant) -> Vec<Met> {
-    let mut all = Vec::new();
-    while began.elapsed() < LENGTH {
-        let status = ask(server, name, STEADY_PATIENCE).ok();
-        let at = began.elapsed();
-        let slow = name == "slow";
-        all.push(Met { at, slow, status });
-        thread::sleep(pause);
-    }
-    all
 }
 
 #[allow(dead_code, reason = "a test takes this file as a module")]
@@ -431,10 +395,14 @@ fn main() -> Result<(), Box<dyn Error>> {
         return Ok(());
     }
     for bulkheads in [false, true] {
-        let half = play(bulkheads)?;
+        let all = play(bulkheads)?;
         println!("{} bulkheads", if bulkheads { "with" } else { "without" });
-        println!("  good neighbour: {}", half.good);
-        println!("  slow neighbour: {}", half.slow);
+        for (name, slow) in [("good", false), ("slow", true)] {
+            let [answered, refused, unanswered] = counts(&all, slow);
+            println!(
+                "  {name} neighbour: {answered:3} answered, {refused:2} refused, {unanswered:2} unanswered"
+            );
+        }
     }
     Ok(())
 }
