@@ -1,8 +1,8 @@
 //! Bulkheads that are closed: for whom waits, for whom asks later, and for whom holds a permit.
 mod common;
 
-use common::{Checked, is_idle, polled};
-use resil::{Bulkhead, Closed, NoPermit, Observer, OwnedPermit};
+use common::{Checked, block_on, is_idle, polled};
+use resil::{Bulkhead, Closed, NoPermit, OwnedPermit};
 use std::pin::Pin;
 use std::sync::atomic::{AtomicU32, Ordering};
 use std::sync::{Arc, Weak};
@@ -119,32 +119,6 @@ fn a_waker_may_close_it() -> Checked {
     Ok(())
 }
 
-/// Counts refusals.
-#[derive(Default)]
-struct Refusals(AtomicU32);
-
-impl Observer for Refusals {
-    fn call_refused(&self, _bulkhead: &str) {
-        self.0.fetch_add(1, Ordering::SeqCst);
-    }
-}
-
-#[test]
-fn the_observer_is_told_of_each_refusal() -> Checked {
-    let refusals = Arc::new(Refusals::default());
-    let backend = Arc::new(Bulkhead::new("backend", 1)?.observed(refusals.clone()));
-    let permit = backend.enter()?;
-    let mut waits = backend.acquire();
-    assert!(polled(&mut waits).is_pending());
-    backend.close();
-    assert!(is_closed(&polled(&mut waits)) && backend.enter().is_err());
-    assert!(backend.enter_within(Duration::MAX).is_err());
-    assert!(is_closed(&polled(&mut backend.acquire())));
-    drop(permit);
-    assert_eq!(refusals.0.load(Ordering::SeqCst), 4);
-    Ok(())
-}
-
 // While threads go in and out of it by all ways.
 #[test]
 fn it_is_closed_in_the_middle_of_its_work() -> Checked {
@@ -159,15 +133,7 @@ fn it_is_closed_in_the_middle_of_its_work() -> Checked {
                             let refused = match kind % 3 {
                                 0 => backend.call(thread::yield_now).err(),
                                 1 => backend.enter_within(Duration::MAX).err(),
-                                _ => {
-                                    let mut permit = backend.acquire();
-                                    loop {
-                                        if let Poll::Ready(permit) = polled(&mut permit) {
-                                            break permit.err();
-                                        }
-                                        thread::yield_now();
-                                    }
-                                }
+                                _ => block_on(backend.acquire()).err(),
                             };
                             if refused == Some(Closed) {
                                 return true;

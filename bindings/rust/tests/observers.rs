@@ -22,16 +22,6 @@ struct Log {
 }
 
 impl Log {
-    fn write(&self, line: String) {
-        locked(&self.lines).push(line);
-    }
-
-    // With a time of it.
-    fn write_timed(&self, line: String, time: Duration) {
-        self.write(line);
-        locked(&self.times).push(time);
-    }
-
     // What was told since the last look.
     fn take(&self) -> Vec<String> {
         std::mem::take(&mut locked(&self.lines))
@@ -46,57 +36,31 @@ fn locked<T>(list: &Mutex<T>) -> MutexGuard<'_, T> {
     list.lock().unwrap_or_else(PoisonError::into_inner)
 }
 
+// Has a log write a line at each of these events, and keep a time of some.
+macro_rules! written {
+    ($($event:ident($($value:ident: $kind:ty),*) $line:literal $($time:ident)?;)*) => {
+        $(fn $event(&self, $($value: $kind),*) {
+            locked(&self.lines).push(format!($line));
+            $(locked(&self.times).push($time);)?
+        })*
+    };
+}
+
 impl Observer for Log {
-    fn call_permitted(&self, bulkhead: &str) {
-        self.write(format!("{bulkhead} permitted"));
-    }
-
-    fn call_refused(&self, bulkhead: &str) {
-        self.write(format!("{bulkhead} refused"));
-    }
-
-    fn call_finished(&self, bulkhead: &str, time: Duration) {
-        self.write_timed(format!("{bulkhead} finished"), time);
-    }
-
-    fn attempt_failed(&self, retry: &str, attempt: u32, wait: Duration) {
-        self.write(format!("{retry} {attempt} failed, {} ms", wait.as_millis()));
-    }
-
-    fn retry_succeeded(&self, retry: &str, attempts: u32) {
-        self.write(format!("{retry} succeeded after {attempts}"));
-    }
-
-    fn retry_exhausted(&self, retry: &str, attempts: u32) {
-        self.write(format!("{retry} exhausted after {attempts}"));
-    }
-
-    fn error_ignored(&self, retry: &str, attempts: u32) {
-        self.write(format!("{retry} ignored after {attempts}"));
-    }
-
-    fn retry_out_of_time(&self, retry: &str, attempts: u32) {
-        self.write(format!("{retry} out of time after {attempts}"));
-    }
-
-    fn job_accepted(&self, pool: &str, reply: Reply) {
-        self.write(format!("{pool} accepted {reply:?}"));
-    }
-
-    fn job_refused(&self, pool: &str, reason: Refusal) {
-        self.write(format!("{pool} refused {reason:?}"));
-    }
-
-    fn job_started(&self, pool: &str, wait: Duration) {
-        self.write_timed(format!("{pool} started"), wait);
-    }
-
-    fn job_finished(&self, pool: &str, time: Duration) {
-        self.write_timed(format!("{pool} finished"), time);
-    }
-
-    fn job_panicked(&self, pool: &str, time: Duration) {
-        self.write_timed(format!("{pool} panicked"), time);
+    written! {
+        call_permitted(bulkhead: &str) "{bulkhead} permitted";
+        call_refused(bulkhead: &str) "{bulkhead} refused";
+        call_finished(bulkhead: &str, time: Duration) "{bulkhead} finished" time;
+        attempt_failed(retry: &str, attempt: u32, wait: Duration) "{retry} {attempt} failed, {wait:?}";
+        retry_succeeded(retry: &str, attempts: u32) "{retry} succeeded after {attempts}";
+        retry_exhausted(retry: &str, attempts: u32) "{retry} exhausted after {attempts}";
+        error_ignored(retry: &str, attempts: u32) "{retry} ignored after {attempts}";
+        retry_out_of_time(retry: &str, attempts: u32) "{retry} out of time after {attempts}";
+        job_accepted(pool: &str, reply: Reply) "{pool} accepted {reply:?}";
+        job_refused(pool: &str, reason: Refusal) "{pool} refused {reason:?}";
+        job_started(pool: &str, wait: Duration) "{pool} started" wait;
+        job_finished(pool: &str, time: Duration) "{pool} finished" time;
+        job_panicked(pool: &str, time: Duration) "{pool} panicked" time;
     }
 }
 
@@ -118,7 +82,7 @@ fn each_way_to_a_permit_is_told() -> Checked {
         |b| b.enter_within(LIMIT).is_ok(),
         |b| b.enter_owned().is_ok(),
         |b| b.enter_owned_within(LIMIT).is_ok(),
-        |b| polled(&mut b.acquire()).is_ready(),
+        |b| matches!(polled(&mut b.acquire()), Poll::Ready(Ok(_))),
     ];
     for is_permitted in ways {
         assert!(is_permitted(&b));
@@ -134,6 +98,15 @@ fn each_way_to_a_permit_is_told() -> Checked {
     permit.forget();
     assert!(log.take().is_empty());
     assert_eq!(b.available(), 0);
+    let mut waits = b.acquire();
+    assert!(polled(&mut waits).is_pending());
+    b.close();
+    assert!(polled(&mut waits).is_ready());
+    assert_eq!(log.take(), ["b refused"]);
+    for is_permitted in ways {
+        assert!(!is_permitted(&b));
+        assert_eq!(log.take(), ["b refused"]);
+    }
     Ok(())
 }
 
@@ -266,31 +239,29 @@ impl Asks {
     }
 }
 
+// Has it ask at each of these events.
+macro_rules! asked {
+    ($($event:ident($($kind:ty)?);)*) => {
+        $(fn $event(&self, _: &str $(, _: $kind)?) {
+            self.ask();
+        })*
+    };
+}
+
 impl Observer for Asks {
     fn of_bulkhead(&self, _: &str) -> Option<Arc<dyn Observer>> {
         self.ask();
         None
     }
-    fn call_permitted(&self, _: &str) {
-        self.ask();
-    }
-    fn call_refused(&self, _: &str) {
-        self.ask();
-    }
-    fn call_finished(&self, _: &str, _: Duration) {
-        self.ask();
-    }
-    fn job_accepted(&self, _: &str, _: Reply) {
-        self.ask();
-    }
-    fn job_refused(&self, _: &str, _: Refusal) {
-        self.ask();
-    }
-    fn job_started(&self, _: &str, _: Duration) {
-        self.ask();
-    }
-    fn job_finished(&self, _: &str, _: Duration) {
-        self.ask();
+
+    asked! {
+        call_permitted();
+        call_refused();
+        call_finished(Duration);
+        job_accepted(Reply);
+        job_refused(Refusal);
+        job_started(Duration);
+        job_finished(Duration);
     }
 }
 
@@ -347,22 +318,6 @@ fn a_registry_has_its_bulkheads_observed() -> Checked {
         "two finished",
     ];
     assert_eq!(log.take(), wanted);
-    // Whoever asks first makes it, once.
-    let asked: Vec<_> = thread::scope(|scope| {
-        let asks: Vec<_> = (0..8)
-            .map(|_| scope.spawn(|| registry.bulkhead("three")))
-            .collect();
-        asks.into_iter()
-            .map(thread::ScopedJoinHandle::join)
-            .collect()
-    });
-    let three = registry.bulkhead("three")?;
-    for bulkhead in asked {
-        let Ok(Ok(bulkhead)) = bulkhead else {
-            return Err("a thread has no bulkhead".into());
-        };
-        assert!(Arc::ptr_eq(&three, &bulkhead));
-    }
     Ok(())
 }
 
@@ -384,7 +339,7 @@ fn each_end_of_a_retry_is_told() {
         retry().call(|| outcomes.next().unwrap_or(Err("none"))),
         Ok(42)
     );
-    let failed = ["r 1 failed, 7 ms", "r 2 failed, 7 ms"];
+    let failed = ["r 1 failed, 7ms", "r 2 failed, 7ms"];
     assert_eq!(log.take(), [&failed[..], &["r succeeded after 3"]].concat());
     assert_eq!(retry().call(|| Ok::<_, &str>(0)), Ok(0));
     assert_eq!(log.take(), [&failed[..], &["r exhausted after 3"]].concat());
@@ -393,7 +348,7 @@ fn each_end_of_a_retry_is_told() {
         retry().call(|| outcomes.next().unwrap_or(Ok(1))),
         Err("gone")
     );
-    assert_eq!(log.take(), ["r 1 failed, 7 ms", "r ignored after 2"]);
+    assert_eq!(log.take(), ["r 1 failed, 7ms", "r ignored after 2"]);
     let late = retry().within(Duration::from_millis(6));
     assert_eq!(late.call(|| Err("busy")), Err("busy"));
     assert_eq!(log.take(), ["r out of time after 1"]);
@@ -411,7 +366,7 @@ fn retries_of_futures_and_loops_of_ones_own_are_told() {
         |_wait| std::future::ready(()),
     ));
     assert_eq!(polled(&mut { call }), Poll::Ready(Err("busy")));
-    let wanted = ["r 1 failed, 500 ms", "r exhausted after 2"];
+    let wanted = ["r 1 failed, 500ms", "r exhausted after 2"];
     assert_eq!(log.take(), wanted);
     let mut attempts = retry.begin();
     while retry
@@ -544,7 +499,7 @@ fn several_observers_are_all_told() -> Checked {
     none.retry_out_of_time("r", 4);
     none.job_panicked("p", Duration::ZERO);
     let wanted = [
-        "r 1 failed, 0 ms",
+        "r 1 failed, 0ns",
         "r exhausted after 2",
         "r ignored after 3",
         "r out of time after 4",
