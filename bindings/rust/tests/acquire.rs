@@ -1,16 +1,15 @@
 //! Permits that are awaited: the row of those who await, tasks that are dropped, and threads that wait beside them.
 mod common;
 
-use common::{Caller, Checked, block_on, is_idle, poll_by};
+use common::{Caller, Checked, is_idle, poll_by};
 use resil::{Acquire, Bulkhead, OwnedPermit};
 use std::error::Error;
 use std::panic::{AssertUnwindSafe, catch_unwind};
 use std::ptr;
-use std::sync::atomic::{AtomicBool, AtomicU32, Ordering};
-use std::sync::{Arc, Barrier};
+use std::sync::Arc;
+use std::sync::atomic::{AtomicBool, Ordering};
 use std::task::{Context, Poll, RawWaker, RawWakerVTable, Waker};
 use std::thread;
-use std::time::Duration;
 
 /// A permit that is awaited, and who is woken by it.
 struct Awaited {
@@ -45,16 +44,6 @@ impl Awaited {
     fn woken(&self) -> u32 {
         self.caller.woken()
     }
-}
-
-#[test]
-fn a_free_permit_is_there_at_once() -> Checked {
-    let backend = Arc::new(Bulkhead::new("backend", 2)?);
-    let permits = [block_on(backend.acquire())?, block_on(backend.acquire())?];
-    assert_eq!((backend.available(), backend.numbers().waiting), (0, 0));
-    drop(permits);
-    assert!(is_idle(&backend));
-    Ok(())
 }
 
 #[test]
@@ -176,56 +165,6 @@ fn a_permit_that_is_awaited_keeps_its_bulkhead() -> Checked {
     drop(backend);
     drop(permit);
     awaited.poll().ok_or("it has no permit")?.forget();
-    Ok(())
-}
-
-// Threads and tasks wait for the permits of one bulkhead, some give up or are dropped, and others don't wait.
-#[test]
-fn tasks_and_threads_wait_side_by_side() -> Checked {
-    const ROUNDS: u32 = 400;
-    let backend = Arc::new(Bulkhead::new("backend", 2)?);
-    let inside = AtomicU32::new(0);
-    let all = Barrier::new(10);
-    let goes_in = |_permit: &dyn Send| {
-        assert!(inside.fetch_add(1, Ordering::SeqCst) < 2);
-        thread::yield_now();
-        inside.fetch_sub(1, Ordering::SeqCst);
-    };
-    let entered = thread::scope(|scope| {
-        let threads: Vec<_> = (0..10)
-            .map(|kind| {
-                let (backend, goes_in, all) = (&backend, &goes_in, &all);
-                scope.spawn(move || -> Option<u32> {
-                    all.wait();
-                    let mut entered = 0;
-                    for round in 0..ROUNDS {
-                        match kind {
-                            0..4 => goes_in(&block_on(backend.acquire()).ok()?),
-                            4..6 => goes_in(&backend.enter_within(Duration::MAX).ok()?),
-                            6 => {
-                                let limit = Duration::from_micros(u64::from(round));
-                                drop(backend.enter_within(limit));
-                            }
-                            7 => drop(backend.enter()),
-                            _ => {
-                                let mut awaited = Awaited::new(backend);
-                                drop(awaited.poll());
-                                thread::yield_now();
-                            }
-                        }
-                        entered += u32::from(kind < 6);
-                    }
-                    Some(entered)
-                })
-            })
-            .collect();
-        let entered = threads
-            .into_iter()
-            .map(|thread| thread.join().ok().flatten());
-        entered.sum::<Option<u32>>()
-    });
-    assert_eq!(entered, Some(6 * ROUNDS));
-    assert!(is_idle(&backend));
     Ok(())
 }
 

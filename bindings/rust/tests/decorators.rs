@@ -60,53 +60,6 @@ fn a_permit_is_held_over_all_attempts_of_a_retry_inside() -> Checked {
 }
 
 #[test]
-fn a_test_of_errors_sees_a_refusal() -> Checked {
-    let closed = Bulkhead::new("closed", 0)?;
-    let waits = Cell::new(0);
-    let retry = Retry::new()
-        .retry_if(|error: &CallError<&str>| *error != CallError::Full)
-        .pause_by(|_| waits.set(waits.get() + 1));
-    let refused = Decorators::of(|| Ok(7))
-        .inside(&closed)
-        .retried(&retry)
-        .call();
-    assert_eq!((refused, waits.take()), (Err(CallError::Full), 0));
-    let failed = Decorators::of(|| Err::<u32, _>("no"))
-        .retried(&retry)
-        .call();
-    assert_eq!((failed, waits.take()), (Err(CallError::Failed("no")), 2));
-    Ok(())
-}
-
-#[test]
-fn two_bulkheads_nest_nothing() -> Checked {
-    let [outer, inner] = [Bulkhead::new("outer", 1)?, Bulkhead::new("inner", 0)?];
-    let chain = Decorators::of(|| Err::<u32, _>(7))
-        .inside(&inner)
-        .inside(&outer);
-    let answer: Result<u32, CallError<i32>> = { chain }.call();
-    assert_eq!((answer, outer.available()), (Err(CallError::Full), 1));
-    Ok(())
-}
-
-#[test]
-fn a_retry_outside_of_a_fallback_sees_what_it_makes() {
-    let retry = Retry::new()
-        .pause_by(|_| ())
-        .retry_value_if(|value: &u32| *value == 0);
-    let mut calls = 0;
-    let mut chain = Decorators::of(|| {
-        calls += 1;
-        if calls < 3 { Err("no") } else { Ok(7) }
-    })
-    .or_else(|_| Ok(0))
-    .retried(&retry);
-    assert_eq!(chain.call(), Ok(7));
-    drop(chain);
-    assert_eq!(calls, 3);
-}
-
-#[test]
 fn a_panic_gives_the_permits_back() -> Checked {
     let backend = Bulkhead::new("backend", 2)?;
     let retry = Retry::new().pause_by(|_| unreachable!("{NOT_CALLED}"));

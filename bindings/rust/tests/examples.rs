@@ -40,42 +40,6 @@ fn each_runs() -> Checked {
     examples.into_iter().try_for_each(|main| main())
 }
 
-// Lines without the space around them.
-fn trimmed(text: &str) -> String {
-    text.lines()
-        .map(|line| line.trim().to_owned() + "\n")
-        .collect()
-}
-
-#[test]
-fn the_guide_shows_what_runs() -> Checked {
-    let root = Path::new(env!("CARGO_MANIFEST_DIR"));
-    let guide = fs::read_to_string(root.join("../../docs/GUIDE.md"))?;
-    let chapter = guide
-        .split("\n## ")
-        .find(|chapter| chapter.starts_with("Rust by rustc\n"));
-    let chapter = chapter.ok_or("the guide has no chapter for rustc")?;
-    let examples = fs::read_dir(root.join("examples"))?;
-    let paths = examples.map(|entry| Ok(entry?.path()));
-    let paths = paths.collect::<Result<Vec<_>, std::io::Error>>()?;
-    let files = paths.iter().filter(|path| path.is_file());
-    let examples = files.map(|path| Ok(trimmed(&fs::read_to_string(path)?)));
-    let examples = examples.collect::<Result<Vec<_>, std::io::Error>>()?;
-    let blocks = chapter.split("```rust\n").skip(1);
-    let blocks: Vec<_> = blocks
-        .filter_map(|block| block.split("```").next())
-        .collect();
-    for block in &blocks {
-        let lines = trimmed(block);
-        assert!(
-            examples.iter().any(|text| text.contains(&lines)),
-            "no example has:\n{block}"
-        );
-    }
-    assert!(!blocks.is_empty());
-    Ok(())
-}
-
 // The calls and names that a code has: each word before a bracket, and the whole of one without brackets.
 fn names(code: &str) -> Vec<&str> {
     let mut parts: Vec<_> = code.split('(').collect();

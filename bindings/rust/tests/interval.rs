@@ -12,32 +12,6 @@ fn waits(interval: Interval, count: u32) -> Vec<u128> {
 }
 
 #[test]
-fn one_wait_is_the_same_after_each_attempt() {
-    assert_eq!(waits(Interval::fixed(500 * MS), 3), [500; 3]);
-    assert_eq!(waits(Interval::fixed(Duration::ZERO), 2), [0, 0]);
-    assert_eq!(
-        Interval::fixed(Interval::LONGEST).after(u32::MAX),
-        Interval::LONGEST
-    );
-}
-
-#[test]
-fn a_wait_grows_and_is_truncated_at_each_step() -> Result<(), IntervalError> {
-    let growing = Interval::exponential(500 * MS, (3, 2), Interval::LONGEST)?;
-    assert_eq!(waits(growing, 5), [500, 750, 1_125, 1_687, 2_530]);
-    let capped = Interval::exponential(500 * MS, (3, 2), 2_000 * MS)?;
-    assert_eq!(waits(capped, 6), [500, 750, 1_125, 1_687, 2_000, 2_000]);
-    let kept = Interval::exponential(MS, (3, 2), 100 * MS)?;
-    assert_eq!(waits(kept, 4), [1; 4]);
-    let steep = Interval::exponential(MS, (1_000, 1), Interval::LONGEST)?;
-    let steep = waits(steep, 5);
-    assert_eq!(steep, [1, 1_000, 1_000_000, 1_000_000_000, 31_536_000_000]);
-    let never = Interval::exponential(Duration::ZERO, (2, 1), Duration::ZERO)?;
-    assert_eq!(never.after(1_000), Duration::ZERO);
-    Ok(())
-}
-
-#[test]
 fn durations_are_truncated_to_milliseconds() -> Result<(), IntervalError> {
     let just_below = Duration::from_nanos(1_999_999);
     assert_eq!(Interval::fixed(just_below), Interval::fixed(MS));

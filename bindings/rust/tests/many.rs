@@ -1,7 +1,7 @@
 //! Several permits at a time: all or none, in the row's order, beside those who ask for one.
 mod common;
 
-use common::{Caller, Checked, is_idle, poll_by, polled};
+use common::{Caller, Checked, block_on, is_idle, poll_by, polled};
 use resil::{AcquireMany, Bulkhead, Closed, Full, NoPermit, Observer, OwnedPermit};
 use std::error::Error;
 use std::panic::{AssertUnwindSafe, catch_unwind};
@@ -214,7 +214,7 @@ fn each_permit_is_told_and_none_is_lost_by_an_observer() -> Checked {
     Ok(())
 }
 
-// Threads and tasks, for one permit and for many; neither kind starves the other.
+// Threads and tasks wait for one permit and for many, some give up or are dropped, and others don't wait; no kind starves another.
 #[test]
 fn many_and_one_are_awaited_side_by_side() -> Checked {
     const ROUNDS: u32 = 200;
@@ -225,50 +225,40 @@ fn many_and_one_are_awaited_side_by_side() -> Checked {
         thread::yield_now();
         inside.fetch_sub(count, Ordering::SeqCst);
     };
-    thread::scope(|scope| {
-        let threads: Vec<_> = (0..12)
-            .map(|kind| {
-                let (backend, goes_in) = (&backend, &goes_in);
-                scope.spawn(move || -> Result<(), NoPermit> {
-                    for round in 0..ROUNDS {
-                        match kind % 6 {
-                            0 => drop(backend.enter_many(3).map(|_permits| goes_in(3))),
-                            1 => drop(backend.call(|| goes_in(1))),
-                            2 => drop(
-                                backend
-                                    .enter_within(Duration::MAX)
-                                    .map(|_permit| goes_in(1))?,
-                            ),
-                            3 => {
-                                // Dropped at whatever moment.
-                                let mut many = backend.acquire_many(4);
-                                if polled(&mut many).is_pending() {
-                                    thread::yield_now();
-                                }
-                            }
-                            _ => {
-                                let count = 1 + (round + kind) % 4;
-                                let mut many = backend.acquire_many(count);
-                                loop {
-                                    if let Poll::Ready(permits) = polled(&mut many) {
-                                        let _permits = permits?;
-                                        goes_in(count);
-                                        break;
-                                    }
-                                    thread::yield_now();
-                                }
-                            }
-                        }
-                    }
-                    Ok(())
-                })
-            })
-            .collect();
-        for thread in threads {
-            thread.join().map_err(|_| "it panics")??;
+    let goes = |kind: u32, round: u32| match kind % 8 {
+        0 => backend.enter_many(3).map(|_permits| goes_in(3)),
+        1 => backend.call(|| goes_in(1)),
+        2 => {
+            let limit = Duration::from_micros(round.into());
+            backend.enter_within(limit).map(|_permit| goes_in(1))
         }
-        Ok::<(), Box<dyn Error>>(())
-    })?;
+        3 => {
+            // Dropped at whatever moment.
+            let mut many = backend.acquire_many(4);
+            if polled(&mut many).is_pending() {
+                thread::yield_now();
+            }
+            Ok(())
+        }
+        4 => {
+            let permit = backend.enter_within(Duration::MAX);
+            permit.map(|_permit| goes_in(1))
+        }
+        5 => block_on(backend.acquire()).map(|_permit| goes_in(1)),
+        _ => {
+            let count = 1 + (round + kind) % 4;
+            block_on(backend.acquire_many(count)).map(|_permits| goes_in(count))
+        }
+    };
+    thread::scope(|scope| {
+        for kind in 0..16 {
+            let goes = &goes;
+            scope.spawn(move || {
+                let is_in = |round| goes(kind, round).is_ok() || kind % 8 < 3;
+                assert!((0..ROUNDS).all(is_in));
+            });
+        }
+    });
     assert!(is_idle(&backend) && polled(&mut backend.acquire_many(4)).is_ready());
     Ok(())
 }

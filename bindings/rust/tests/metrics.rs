@@ -230,6 +230,7 @@ fn a_name_is_removed() -> Checked {
     assert_eq!(backend.call(|| 7), Ok(7));
     let text = metrics.text(&[], &[]);
     assert!(!text.contains("name=\"one\"") && text.contains("name=\"other\""));
+    assert!(metrics.remove("other") && metrics.text(&[], &[]).is_empty());
     let again = Bulkhead::new("one", 1)?.observed(metrics.clone());
     assert_eq!(again.call(|| 7), Ok(7));
     let line = "resil_bulkhead_calls_total{kind=\"permitted\",name=\"one\"} 1\n";

@@ -5,7 +5,7 @@ use common::{Checked, PATIENCE, gated, in_time, until, wait_at};
 use resil::{JobError, JobHandle, ThreadPool};
 use std::cell::RefCell;
 use std::error::Error;
-use std::sync::atomic::{AtomicBool, AtomicU32, Ordering};
+use std::sync::atomic::{AtomicU32, Ordering};
 use std::sync::mpsc::{self, Sender};
 use std::sync::{Arc, Barrier};
 use std::thread::{self, JoinHandle};
@@ -137,33 +137,6 @@ fn a_thread_that_goes_while_its_pool_is_open_is_the_last_owner() -> Checked {
     drop(gate);
     told.recv_timeout(PATIENCE)?;
     assert!(first.is_finished() && second.is_finished());
-    Ok(())
-}
-
-// Each job submits the next one and counts it before it ends, so the pool is never quiet, and what a join waits for counts one more.
-fn keep_busy(pool: &Arc<ThreadPool>, stop: &Arc<AtomicBool>, submitted: &Arc<AtomicU32>) {
-    if stop.load(Ordering::SeqCst) {
-        return;
-    }
-    let (inner, stop, count) = (Arc::clone(pool), Arc::clone(stop), Arc::clone(submitted));
-    let next = pool.submit(move || keep_busy(&inner, &stop, &count));
-    assert!(next.is_ok());
-    submitted.fetch_add(1, Ordering::SeqCst);
-}
-
-#[test]
-fn a_join_returns_under_a_steady_load() -> Checked {
-    let pool = Arc::new(ThreadPool::builder(2, 2).open()?);
-    let (stop, submitted) = (Arc::default(), Arc::default());
-    keep_busy(&pool, &stop, &submitted);
-    for _ in 0..20 {
-        let before = submitted.load(Ordering::SeqCst);
-        let joins = Arc::clone(&pool);
-        joined(thread::spawn(move || joins.join()))?.map_err(|_| "it panicked")?;
-        assert!(submitted.load(Ordering::SeqCst) > before);
-    }
-    stop.store(true, Ordering::SeqCst);
-    pool.join();
     Ok(())
 }
 
@@ -376,41 +349,5 @@ fn nothing_is_lost_by_a_close_at_once() -> Checked {
         assert_eq!(numbers.finished, numbers.accepted);
         assert_eq!(numbers.accepted, u64::from(counts.0) + cancelled as u64);
     }
-    Ok(())
-}
-
-#[test]
-fn panics_come_at_once() -> Checked {
-    let pool = ThreadPool::builder(4, 4).open()?;
-    let all = Arc::new(Barrier::new(4));
-    for _ in 0..20 {
-        let jobs = [(); 4].map(|()| {
-            let all = Arc::clone(&all);
-            pool.submit(move || -> u32 {
-                all.wait();
-                std::panic::panic_any(7)
-            })
-        });
-        for job in jobs {
-            let answer = job.map_err(|refused| refused.reason)?.wait();
-            let Err(JobError::Panicked(panic)) = answer else {
-                return Err("it didn't panic".into());
-            };
-            assert_eq!(panic.into_payload().downcast_ref(), Some(&7));
-        }
-    }
-    let numbers = pool.numbers();
-    assert_eq!((numbers.workers, numbers.finished), (4, 80));
-    Ok(())
-}
-
-#[test]
-fn an_error_of_a_job_goes_into_any_error() -> Checked {
-    fn asked(pool: &ThreadPool) -> Result<u32, Box<dyn Error + Send + Sync>> {
-        Ok(pool.submit(|| -> u32 { panic!("out of paper") })?.wait()?)
-    }
-    let pool = ThreadPool::builder(1, 1).open()?;
-    let said = asked(&pool).map_err(|error| error.to_string());
-    assert_eq!(said, Err("the job panicked: out of paper".to_owned()));
     Ok(())
 }

@@ -126,48 +126,6 @@ fn a_shrunk_pool_is_closed() -> Checked {
     Ok(())
 }
 
-// Sizes go up and down while jobs come and go, and nothing is lost.
-#[test]
-fn sizes_change_under_load() -> Checked {
-    let pool = ThreadPool::builder(1, 8)
-        .queue(16)
-        .keep_alive(Duration::ZERO)
-        .open()?;
-    thread::scope(|scope| {
-        let callers = [(); 6].map(|()| {
-            scope.spawn(|| {
-                let mut counts = (0, 0);
-                for _ in 0..2_000 {
-                    match pool.submit(|| 1) {
-                        Ok(job) => counts.0 += job.wait().unwrap_or(0),
-                        Err(_) => counts.1 += 1,
-                    }
-                }
-                counts
-            })
-        });
-        for (core, max) in (1..=8).flat_map(|max| [(1, max), (max, max)]).cycle() {
-            assert_eq!(pool.resize(core, max), Ok(()));
-            if callers
-                .iter()
-                .all(std::thread::ScopedJoinHandle::is_finished)
-            {
-                break;
-            }
-            thread::yield_now();
-        }
-        let mut counts = (0, 0);
-        for caller in callers {
-            let (answered, refused) = caller.join().unwrap_or_default();
-            counts = (counts.0 + answered, counts.1 + refused);
-        }
-        let numbers = pool.numbers();
-        assert_eq!((numbers.finished, numbers.refused), counts);
-        assert_eq!(counts.0 + counts.1, 12_000);
-    });
-    Ok(())
-}
-
 #[test]
 fn threads_have_numbers() -> Checked {
     let pool = ThreadPool::builder(3, 3).name("letters").open()?;

@@ -10,31 +10,6 @@ use std::thread;
 const THREADS: usize = 64;
 
 #[test]
-fn configurations_and_instances_have_names() -> Checked {
-    let registry = BulkheadRegistry::new(25);
-    assert_eq!(registry.add_config("small", 2), Ok(()));
-    assert_eq!(
-        registry.add_config("small", 3),
-        Err(RegistryError::NameTaken)
-    );
-    assert_eq!(
-        registry.add_config("default", 1),
-        Err(RegistryError::ReservedName)
-    );
-    let first = registry.bulkhead("a")?;
-    let second = registry.bulkhead_with("b", "small")?;
-    assert_eq!((first.name(), first.max()), ("a", 25));
-    assert_eq!((second.name(), second.max()), ("b", 2));
-    let unknown = registry.bulkhead_with("c", "none").err();
-    assert_eq!(unknown, Some(RegistryError::NoSuchConfig));
-    // A name that is there keeps its configuration, and another one isn't looked up.
-    assert!(Arc::ptr_eq(&first, &registry.bulkhead_with("a", "none")?));
-    assert!(Arc::ptr_eq(&second, &registry.bulkhead("b")?));
-    assert_eq!(registry.bulkhead_with("d", "default")?.max(), 25);
-    Ok(())
-}
-
-#[test]
 fn a_name_is_1_to_64_bytes_of_some() {
     let registry = BulkheadRegistry::new(1);
     let longest = "n".repeat(64);

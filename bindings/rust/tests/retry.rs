@@ -1,17 +1,13 @@
 //! Retries: which outcomes are tried again, how often and after which waits.
 use resil::{Interval, Retry};
 use std::cell::{Cell, RefCell};
-use std::panic::{AssertUnwindSafe, catch_unwind};
+use std::panic::catch_unwind;
 use std::pin::{Pin, pin};
-use std::sync::Mutex;
-use std::sync::atomic::{AtomicU32, Ordering};
 use std::task::{Context, Poll, Waker};
 use std::thread;
 use std::time::{Duration, Instant};
 
 const MS: Duration = Duration::from_millis(1);
-
-fn is_send_and_sync<T: Send + Sync>(_: &T) {}
 
 // Calls by a retry that writes its waits down, and gives the answer, the number of calls and the waits in milliseconds.
 fn tried<T>(
@@ -41,17 +37,6 @@ fn errors_are_retried_while_attempts_are_left() {
     assert_eq!(tried(once, failing), (Err("no"), 1, vec![]));
     let second = |call| if call == 2 { Ok(call) } else { Err("no") };
     assert_eq!(tried(Retry::new(), second), (Ok(2), 2, vec![500]));
-}
-
-#[test]
-fn the_last_outcome_is_the_answer() {
-    let errors = ["first", "second", "third"];
-    let answer = tried(Retry::new(), |call| Err::<(), _>(errors[call as usize - 1]));
-    assert_eq!(answer.0, Err("third"));
-    let retry = Retry::new()
-        .interval(Interval::fixed(Duration::ZERO))
-        .retry_value_if(|value: &i32| *value == 0);
-    assert_eq!(retry.call(|| Ok::<_, String>(0)), Ok(0));
 }
 
 #[test]
@@ -107,57 +92,6 @@ fn attempts_outside_of_the_range_panic() {
         let said = format!("a retry has 1 to 1,000 attempts, and not {count}");
         assert_eq!(panic.downcast_ref(), Some(&said));
     }
-}
-
-#[test]
-fn one_retry_serves_calls_of_all_types() {
-    let retry = Retry::new().pause_by(|_| ());
-    let text = String::from("text");
-    assert_eq!(
-        retry.call(|| Ok::<&str, std::fmt::Error>(&text)),
-        Ok("text")
-    );
-    assert_eq!(retry.call(|| "x".parse::<u8>()).ok(), None);
-    let refused: Result<Vec<u8>, Box<dyn std::error::Error>> = retry.call(|| Err("no".into()));
-    assert!(refused.is_err());
-}
-
-#[test]
-fn threads_share_a_retry() {
-    let waits = Mutex::new(Vec::new());
-    let retry = Retry::new().pause_by(|wait| waits.lock().expect("no panic").push(wait));
-    is_send_and_sync(&Retry::new().jitter_seeded(7));
-    is_send_and_sync(&retry);
-    let calls = AtomicU32::new(0);
-    thread::scope(|scope| {
-        for thread in 0..8 {
-            let (retry, calls) = (&retry, &calls);
-            scope.spawn(move || {
-                let answer = retry.call(|| {
-                    calls.fetch_add(1, Ordering::Relaxed);
-                    Err::<(), _>(thread)
-                });
-                assert_eq!(answer, Err(thread));
-            });
-        }
-    });
-    assert_eq!(calls.into_inner(), 8 * 3);
-    assert_eq!(waits.lock().expect("no panic").len(), 8 * 2);
-}
-
-#[test]
-fn a_panic_is_no_outcome() {
-    let retry = Retry::new().pause_by(|_| ());
-    let mut calls = 0;
-    let call = AssertUnwindSafe(|| {
-        retry.call(|| -> Result<(), &str> {
-            calls += 1;
-            panic!("out of paper")
-        })
-    });
-    assert!(catch_unwind(call).is_err());
-    assert_eq!(calls, 1);
-    assert_eq!(retry.call(|| Ok::<_, &str>(7)), Ok(7));
 }
 
 #[test]

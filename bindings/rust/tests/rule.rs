@@ -1,20 +1,8 @@
-//! The rule of a pool, by one thread and by four behind a lock.
-use resil::rule::{Event, JobId, Origin, Picked, PoolError, PoolNumbers, PoolRule, Reply};
-use std::sync::Mutex;
-use std::thread;
-
-const JOBS: u64 = 5_000;
+//! The rule of a pool. Its histories are those of the program's cases, in `replay.rs`.
+use resil::rule::{Event, JobId, Origin, Picked, PoolError, PoolRule, Reply};
 
 fn job(number: u64) -> JobId {
     JobId { caller: 1, number }
-}
-
-fn is_send<T: Send>() {}
-
-fn works(rule: &mut PoolRule) -> Vec<u64> {
-    std::iter::from_fn(|| rule.pick())
-        .map(|picked| picked.work)
-        .collect()
 }
 
 #[test]
@@ -119,29 +107,6 @@ fn a_job_is_finished_at_its_place() -> Result<(), PoolError> {
 }
 
 #[test]
-fn numbers_are_of_one_moment() -> Result<(), PoolError> {
-    let mut rule = PoolRule::builder(1, 2).queue(1).open()?;
-    for number in 1..=4 {
-        rule.submit(job(number), 0)?;
-    }
-    let first = rule.pick().ok_or(PoolError::NotOut)?;
-    rule.finish(&first)?;
-    let wanted = PoolNumbers {
-        core: 1,
-        max: 2,
-        capacity: 1,
-        workers: 2,
-        running: 1,
-        waiting: 1,
-        accepted: 3,
-        refused: 1,
-        finished: 1,
-    };
-    assert_eq!(rule.numbers(), wanted);
-    Ok(())
-}
-
-#[test]
 fn the_last_events_are_kept() -> Result<(), PoolError> {
     let mut rule = PoolRule::builder(1, 1).keep_events(2).open()?;
     for number in 1..=3 {
@@ -149,76 +114,5 @@ fn the_last_events_are_kept() -> Result<(), PoolError> {
     }
     let wanted = [2, 3].map(|number| Event::Submit(job(number), Reply::Queued));
     assert_eq!((rule.last_events(), rule.lost()), (wanted.to_vec(), 1));
-    Ok(())
-}
-
-#[test]
-fn new_sizes_decide_what_comes_after_them() -> Result<(), PoolError> {
-    let mut rule = PoolRule::builder(1, 2).queue(1).keep_events(100).open()?;
-    for (number, reply) in (1..).zip([Reply::Core, Reply::Queued, Reply::Extra]) {
-        assert_eq!(rule.submit(job(number), number)?, reply);
-    }
-    let out: Vec<_> = std::iter::from_fn(|| rule.pick()).collect();
-    rule.resize(1, 1)?;
-    assert_eq!(rule.submit(job(4), 4)?, Reply::Full);
-    rule.finish(&out[0])?;
-    let second = rule.pick().ok_or(PoolError::NotOut)?;
-    rule.finish(&second)?;
-    rule.finish(&out[1])?;
-    assert!(rule.idle_end() && !rule.idle_end());
-    rule.resize(2, 2)?;
-    assert_eq!(rule.submit(job(5), 5)?, Reply::Core);
-    let before = rule.last_events();
-    for (core, max) in [(2, 3), (2, 1)] {
-        assert_eq!(rule.resize(core, max), Err(PoolError::MaxOutOfRange));
-    }
-    for (core, max) in [(0, 1), (65, 65)] {
-        assert_eq!(rule.resize(core, max), Err(PoolError::CoreOutOfRange));
-    }
-    assert_eq!(rule.last_events(), before);
-    assert_eq!(rule.event(3), Some(Event::Resized { core: 1, max: 1 }));
-    assert!(rule.close());
-    rule.resize(1, 2)?;
-    assert_eq!(rule.event(13), Some(Event::Resized { core: 1, max: 2 }));
-    assert_eq!(works(&mut rule), [5]);
-    Ok(())
-}
-
-// Submits the caller's jobs and works off what there is, as a thread of a service would.
-fn serve(rule: &Mutex<PoolRule>, caller: u16) -> Result<u64, PoolError> {
-    let lock = || rule.lock().map_err(|_| PoolError::NotOut);
-    let mut ran = 0;
-    for number in 1..=JOBS {
-        lock()?.submit(JobId { caller, number }, number)?;
-        let picked = lock()?.pick();
-        if let Some(picked) = picked {
-            assert_eq!(picked.work, picked.id.number);
-            ran += 1;
-            lock()?.finish(&picked)?;
-        }
-    }
-    Ok(ran)
-}
-
-#[test]
-fn four_threads_share_a_rule() -> Result<(), PoolError> {
-    is_send::<PoolRule>();
-    let rule = Mutex::new(PoolRule::builder(2, 4).queue(8).callers(4).open()?);
-    let ran: u64 = thread::scope(|scope| {
-        let rule = &rule;
-        let threads = [1, 2, 3, 4].map(|caller| scope.spawn(move || serve(rule, caller)));
-        let served = threads.map(|thread| thread.join().unwrap_or(Err(PoolError::NotOut)));
-        served.into_iter().sum::<Result<u64, PoolError>>()
-    })?;
-    let mut rule = rule.into_inner().map_err(|_| PoolError::NotOut)?;
-    let mut left = 0;
-    while let Some(picked) = rule.pick() {
-        left += 1;
-        rule.finish(&picked)?;
-    }
-    let numbers = rule.numbers();
-    assert_eq!(numbers.accepted + numbers.refused, 4 * JOBS);
-    assert_eq!(numbers.finished, numbers.accepted);
-    assert_eq!(ran + left, numbers.accepted);
     Ok(())
 }

@@ -1,7 +1,7 @@
 //! Fewer permits while calls are under way and others wait: what is free is retired, and the rest is owed.
 mod common;
 
-use common::{Checked, PATIENCE, until};
+use common::{Checked, PATIENCE, block_on, until};
 use resil::{Acquire, Bulkhead, OwnedPermit};
 use std::sync::Arc;
 use std::sync::atomic::{AtomicBool, AtomicU32, Ordering};
@@ -112,16 +112,7 @@ fn an_operator_shrinks_under_load() -> Checked {
                     match kind % 3 {
                         0 => drop(backend.call(goes_in)),
                         1 => drop(backend.enter_within(PATIENCE).map(|_permit| goes_in())),
-                        _ => {
-                            let mut waits = backend.acquire();
-                            while !is_over.load(Ordering::SeqCst) {
-                                if let Some(_permit) = polled(&mut waits) {
-                                    goes_in();
-                                    break;
-                                }
-                                thread::yield_now();
-                            }
-                        }
+                        _ => drop(block_on(backend.acquire()).map(|_permit| goes_in())),
                     }
                 }
             });

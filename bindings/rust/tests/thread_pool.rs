@@ -15,17 +15,6 @@ fn is_send_and_sync<T: Send + Sync>() {}
 fn is_unwind_safe<T: UnwindSafe + RefUnwindSafe>() {}
 
 #[test]
-fn answers_come_back() -> Checked {
-    let pool = ThreadPool::builder(2, 4).queue(100).open()?;
-    let jobs = (1..=100).map(|n| pool.submit(move || n * n));
-    let jobs = jobs.collect::<Result<Vec<_>, _>>()?;
-    let answers = jobs.into_iter().map(JobHandle::wait);
-    let wanted: Vec<_> = (1..=100).map(|n| n * n).collect();
-    assert_eq!(answers.collect::<Result<Vec<_>, _>>()?, wanted);
-    Ok(())
-}
-
-#[test]
 fn a_full_pool_gives_the_function_back() -> Checked {
     let pool = ThreadPool::builder(1, 1).queue(1).open()?;
     let (gate, first) = gated(&pool)?;
@@ -339,16 +328,6 @@ fn a_dropped_pool_runs_what_waits() -> Checked {
     drop(pool);
     assert!(first.is_finished());
     assert_eq!(ran.load(Ordering::SeqCst), 500);
-    Ok(())
-}
-
-#[test]
-fn a_job_submits_to_its_own_pool() -> Checked {
-    let pool = Arc::new(ThreadPool::builder(1, 1).open()?);
-    let inner = Arc::clone(&pool);
-    let job = pool.submit(move || inner.submit(|| 42).map(|job| (job.reply(), job)))?;
-    let (reply, job) = job.wait()?.map_err(|refused| refused.reason)?;
-    assert_eq!((reply, job.wait()?), (Reply::Queued, 42));
     Ok(())
 }
 
