@@ -18,30 +18,6 @@ impl BulkheadLayer {
     /// A call waits as long as there is no permit, unless its future is dropped, as by tower's `Timeout` outside, or the layer is
     /// told [how long](QueueingLayer::longest) a call may wait, or [how many](QueueingLayer::most_waiting). The inner service is
     /// asked whether it is ready once there is a permit, so each call has a copy of it.
-    ///
-    /// ```
-    /// use resil::Bulkhead;
-    /// use resil_tower::{BulkheadLayer, CallError};
-    /// use std::{convert::Infallible, sync::Arc, time::Duration};
-    /// use tower::{BoxError, Service, ServiceBuilder, ServiceExt, service_fn};
-    ///
-    /// # #[tokio::main(flavor = "current_thread")]
-    /// # async fn main() -> Result<(), BoxError> {
-    /// let backend = Arc::new(Bulkhead::new("backend", 1)?);
-    /// let queueing = BulkheadLayer::queueing(Arc::clone(&backend))
-    ///     .longest(Duration::from_millis(5), tokio::time::sleep)
-    ///     .most_waiting(100);
-    /// let mut answers = ServiceBuilder::new()
-    ///     .layer(queueing)
-    ///     .service(service_fn(async |number: u32| Ok::<u32, Infallible>(number + 1)));
-    ///
-    /// let permit = backend.enter()?;
-    /// assert_eq!(answers.ready().await?.call(41).await, Err(CallError::Full));
-    /// drop(permit);
-    /// assert_eq!(answers.ready().await?.call(41).await, Ok(42));
-    /// # Ok(())
-    /// # }
-    /// ```
     pub fn queueing(bulkhead: Arc<Bulkhead>) -> QueueingLayer {
         QueueingLayer {
             bulkhead,

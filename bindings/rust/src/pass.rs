@@ -58,16 +58,6 @@ fn made(answer: u8, out: Handle) -> Result<Pass, BulkheadError> {
 ///
 /// A [`Bulkhead`](crate::Bulkhead) keeps passes for its callers; a thread that has a pass of its own spares the lock
 /// of these. A pass that is dropped raises all that it has retired and gives back all that it holds.
-///
-/// ```
-/// let mut mine = resil::pass::Pass::new(1)?;
-/// let mut other = mine.split()?;
-/// let permit = mine.enter()?;
-/// assert_eq!(other.call(|| 7), Err(resil::Full));
-/// drop(permit);
-/// assert_eq!(other.call(|| 7), Ok(7));
-/// # Ok::<(), Box<dyn std::error::Error>>(())
-/// ```
 pub struct Pass {
     handle: Handle,
 }

@@ -89,19 +89,6 @@ impl<Errors, Values, Pause> Retry<Errors, Values, Pause> {
     /// Retries the errors that this test holds of, and no others. It takes the place of an earlier test of errors, and of
     /// what was said by [`wait_by`](Retry::wait_by).
     ///
-    /// ```
-    /// use resil::Retry;
-    /// use std::io::{Error, ErrorKind};
-    ///
-    /// let retry = Retry::new().retry_if(|error: &Error| error.kind() == ErrorKind::TimedOut);
-    /// let mut calls = 0;
-    /// let answer: Result<(), _> = retry.call(|| {
-    ///     calls += 1;
-    ///     Err(Error::from(ErrorKind::NotFound))
-    /// });
-    /// assert_eq!((answer.is_err(), calls), (true, 1));
-    /// ```
-    ///
     /// The type of a retry names its tests. Where it is to be written out, a test is a function pointer:
     ///
     /// ```
@@ -156,23 +143,6 @@ impl<Errors, Values, Pause> Retry<Errors, Values, Pause> {
     /// Asks the error of each attempt that another one follows how long to wait, as where an answer says when to come
     /// again. Where it answers none, the interval says it, with the jitter; what the error says is taken as it is. The
     /// function is given the attempt's number, from 1.
-    ///
-    /// ```
-    /// use resil::Retry;
-    /// use std::time::Duration;
-    ///
-    /// struct Busy {
-    ///     retry_after: Option<Duration>,
-    /// }
-    ///
-    /// let seven = Some(Duration::from_secs(7));
-    /// let mut answers = [seven, None].into_iter();
-    /// let retry = Retry::new()
-    ///     .wait_by(|error: &Busy, _attempt| error.retry_after)
-    ///     .pause_by(|wait| assert!(wait.as_millis() == 7_000 || wait.as_millis() == 500));
-    /// let answer = retry.call(|| answers.next().map_or(Ok(42), |retry_after| Err(Busy { retry_after })));
-    /// assert_eq!(answer.ok(), Some(42));
-    /// ```
     pub fn wait_by<E, F>(self, wait: F) -> Retry<WaitBy<Errors, F>, Values, Pause>
     where
         F: Fn(&E, u32) -> Option<Duration>,

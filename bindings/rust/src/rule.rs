@@ -1,13 +1,4 @@
 //! The rule of a pool, for those who have threads of their own: which submissions are accepted, and which job is next.
-//!
-//! ```
-//! use resil::rule::{JobId, PoolRule, Reply};
-//!
-//! let mut rule = PoolRule::builder(1, 2).queue(1).open()?;
-//! assert_eq!(rule.submit(JobId { caller: 1, number: 1 }, 7)?, Reply::Core);
-//! assert_eq!(rule.pick().map(|picked| picked.work), Some(7));
-//! # Ok::<(), resil::rule::PoolError>(())
-//! ```
 mod error;
 mod event;
 

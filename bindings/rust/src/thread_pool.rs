@@ -85,22 +85,6 @@ impl ThreadPool {
     ///
     /// `Closed` where the pool is closed, and else `Full` where the queue is full and there are as many threads as the
     /// greatest size; with the function, which wasn't called.
-    ///
-    /// ```
-    /// use resil::{Refusal, ThreadPool};
-    /// use std::sync::mpsc;
-    ///
-    /// let pool = ThreadPool::builder(1, 1).queue(1).open()?;
-    /// let (open, gate) = mpsc::channel::<()>();
-    /// let first = pool.submit(move || gate.recv().is_err())?;
-    /// let second = pool.submit(|| false)?;
-    /// let refused = pool.submit(|| 42).unwrap_err();
-    /// assert_eq!(refused.reason, Refusal::Full);
-    /// drop(open);
-    /// assert!(first.wait()? && !second.wait()?);
-    /// assert_eq!(pool.submit(refused.function)?.wait()?, 42);
-    /// # Ok::<(), Box<dyn std::error::Error>>(())
-    /// ```
     pub fn submit<T, F>(&self, function: F) -> Result<JobHandle<T>, Refused<F>>
     where
         T: Send + 'static,
@@ -128,18 +112,6 @@ impl ThreadPool {
     /// caller 2 with its finish. Where more jobs wait than the record has room for, it is empty up to the next call.
     ///
     /// The last events of a pool come by `close`, `join` and then this. Its text is written by this thread, without the lock.
-    ///
-    /// ```
-    /// let pool = resil::ThreadPool::builder(1, 2).queue(5).record(10_000).open()?;
-    /// pool.submit(|| ())?.wait()?;
-    /// pool.close();
-    /// pool.join();
-    /// let history = pool.history().expect("the pool is recorded");
-    /// let head = "core = 1\nmax = 2\nqueue = 5\n---\nevent,caller,number,reply,core,max,at\n";
-    /// let (_, events) = history.split_once(head).expect("it has its head");
-    /// assert!(events.starts_with("submit,1,1,core,,,") && events.contains("\nidle,,,,,,"));
-    /// # Ok::<(), Box<dyn std::error::Error>>(())
-    /// ```
     #[must_use]
     pub fn history(&self) -> Option<String> {
         self.crew.history()

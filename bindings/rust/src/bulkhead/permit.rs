@@ -32,17 +32,6 @@ impl fmt::Debug for Permit<'_> {
 }
 
 /// A permit that keeps its [`Bulkhead`], given back when it is dropped. It goes into a thread, a future or a service.
-///
-/// ```
-/// use std::sync::Arc;
-///
-/// let backend = Arc::new(resil::Bulkhead::new("backend", 2)?);
-/// let permits = [backend.enter_owned()?, backend.enter_owned()?];
-/// assert!(backend.enter_owned().is_err());
-/// drop(permits);
-/// assert_eq!(backend.available(), 2);
-/// # Ok::<(), Box<dyn std::error::Error>>(())
-/// ```
 #[must_use = "a permit that is dropped is given back at once"]
 pub struct OwnedPermit {
     bulkhead: Arc<Bulkhead>,

@@ -302,36 +302,12 @@ impl Acquire {
     }
 
     /// The same, which doesn't wait where so many calls wait already, threads among them: then it is refused at once, by `Full`.
-    ///
-    /// ```
-    /// use std::pin::pin;
-    /// use std::sync::Arc;
-    /// use std::task::{Context, Poll, Waker};
-    ///
-    /// let backend = Arc::new(resil::Bulkhead::new("backend", 1)?);
-    /// let permit = backend.enter()?;
-    /// let mut context = Context::from_waker(Waker::noop());
-    /// let mut first = pin!(backend.acquire().most_waiting(1));
-    /// assert!(first.as_mut().poll(&mut context).is_pending());
-    /// let second = pin!(backend.acquire().most_waiting(1)).poll(&mut context);
-    /// assert!(matches!(second, Poll::Ready(Err(resil::Full))));
-    /// # drop(permit);
-    /// # Ok::<(), Box<dyn std::error::Error>>(())
-    /// ```
     pub fn most_waiting(mut self, most: usize) -> Acquire {
         self.most_waiting = most;
         self
     }
 
     /// Leaves the row as a drop does, and tells the bulkhead's observer that a call was refused, by `Full`.
-    ///
-    /// ```
-    /// use std::sync::Arc;
-    ///
-    /// let backend = Arc::new(resil::Bulkhead::new("backend", 1)?);
-    /// assert_eq!(backend.acquire().give_up(), resil::Full);
-    /// # Ok::<(), resil::BulkheadError>(())
-    /// ```
     pub fn give_up(&mut self) -> NoPermit {
         if let Some(own) = self.bulkhead.take() {
             own.leave(mem::take(&mut self.tickets));

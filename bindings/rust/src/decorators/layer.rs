@@ -9,18 +9,6 @@ use std::time::Duration;
 ///
 /// `Arguments` are those of the function: `()`, or `(T,)` of one that is called with a `T`. This crate alone has such types. A
 /// function that takes or gives a chain says by this trait what the chain gives:
-///
-/// ```
-/// use resil::{Bulkhead, Decorators, Layer};
-///
-/// fn price<L: Layer<Value = u32>>(chain: Decorators<L>, bulkhead: &Bulkhead) -> Option<u32> {
-///     chain.inside(bulkhead).call().ok()
-/// }
-///
-/// let backend = Bulkhead::new("backend", 1)?;
-/// assert_eq!(price(Decorators::of(|| Ok::<_, String>(42)), &backend), Some(42));
-/// # Ok::<(), resil::BulkheadError>(())
-/// ```
 pub trait Layer<Arguments = ()>: Sealed {
     /// What a call gives.
     type Value;

@@ -14,18 +14,6 @@ use std::time::{Duration, Instant};
 const KEEP_ALIVE: Duration = Duration::from_millis(20);
 
 /// The sizes of a [`ThreadPool`] that is to be opened, and what its threads are like.
-///
-/// ```
-/// use std::time::Duration;
-///
-/// let letters = resil::ThreadPool::builder(2, 8)
-///     .queue(50)
-///     .keep_alive(Duration::from_secs(5))
-///     .name("letters")
-///     .open()?;
-/// assert_eq!(letters.name(), "letters");
-/// # Ok::<(), resil::PoolError>(())
-/// ```
 #[derive(Clone)]
 #[must_use]
 pub struct ThreadPoolBuilder {

@@ -35,17 +35,6 @@ impl fmt::Display for JobError {
 impl Error for JobError {}
 
 /// A panic of a job's function, with its payload.
-///
-/// ```
-/// use resil::JobError;
-///
-/// let pool = resil::ThreadPool::builder(1, 1).open()?;
-/// let answer = pool.submit(|| -> u32 { std::panic::panic_any(7) })?.wait();
-/// let Err(JobError::Panicked(panic)) = answer else { unreachable!() };
-/// assert_eq!(panic.message(), None);
-/// assert_eq!(panic.into_payload().downcast_ref(), Some(&7));
-/// # Ok::<(), Box<dyn std::error::Error>>(())
-/// ```
 pub struct JobPanic {
     message: Option<String>,
     // A payload may go to another thread, but not be shared: so it is reached by its owner alone.

@@ -15,14 +15,6 @@ use std::time::{Duration, Instant};
 /// A job that waits for another job of its own pool keeps its worker meanwhile. Where all workers wait so, none is left
 /// to run what they wait for, and nothing moves: neither does it where jobs wait for each other, or a job for its caller
 /// while that waits for the job. [`wait_for`](JobHandle::wait_for) gives up in time.
-///
-/// ```
-/// let pool = resil::ThreadPool::builder(2, 2).open()?;
-/// let squares: Vec<_> = (1..=4).map(|n| pool.submit(move || n * n)).collect::<Result<_, _>>()?;
-/// let sum: u32 = squares.into_iter().map(|square| square.wait()).sum::<Result<_, _>>()?;
-/// assert_eq!(sum, 30);
-/// # Ok::<(), Box<dyn std::error::Error>>(())
-/// ```
 #[must_use = "a job runs without its handle, but its answer is lost"]
 pub struct JobHandle<T> {
     reply: Reply,
