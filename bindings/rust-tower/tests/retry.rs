@@ -3,7 +3,7 @@
 mod common;
 
 use common::{Checked, polled};
-use resil::{Bulkhead, CallError, Interval, Observer, Retry};
+use resil::{Bulkhead, CallError, Interval, Retry};
 use resil_tower::{BulkheadLayer, RetryPolicy};
 use std::future::{self, Future};
 use std::pin::Pin;
@@ -275,37 +275,5 @@ async fn tasks_that_are_aborted_leave_nothing_behind() -> Checked {
     drop(service);
     assert_eq!((bulkhead.available(), bulkhead.numbers().waiting), (3, 0));
     assert_eq!(backend.counts().1, 0);
-    Ok(())
-}
-
-#[tokio::test(start_paused = true)]
-async fn its_observer_is_told() -> Checked {
-    #[derive(Default)]
-    struct Counts([AtomicU32; 3]);
-    impl Observer for Counts {
-        fn attempt_failed(&self, _: &str, _: u32, wait: Duration) {
-            assert_eq!(wait, WAIT);
-            self.0[0].fetch_add(1, Ordering::SeqCst);
-        }
-        fn retry_exhausted(&self, _: &str, attempts: u32) {
-            self.0[1].fetch_add(attempts, Ordering::SeqCst);
-        }
-        fn retry_succeeded(&self, _: &str, attempts: u32) {
-            self.0[2].fetch_add(attempts, Ordering::SeqCst);
-        }
-    }
-    let counts = Arc::new(Counts::default());
-    for steps in [&[BUSY][..], &[BUSY, Step::Answers(Ok(42))]] {
-        let policy = RetryPolicy::new(retry().observed("r", counts.clone()), tokio::time::sleep);
-        let mut service = ServiceBuilder::new()
-            .retry(policy)
-            .service(Backend::new(steps));
-        let _answer = service.ready().await?.call(1).await;
-    }
-    let told = counts
-        .0
-        .each_ref()
-        .map(|count| count.load(Ordering::SeqCst));
-    assert_eq!(told, [3, 3, 2]);
     Ok(())
 }

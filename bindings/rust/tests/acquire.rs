@@ -1,14 +1,14 @@
 //! Permits that are awaited: the row of those who await, tasks that are dropped, and threads that wait beside them.
 mod common;
 
-use common::{Caller, Checked, is_idle, poll_by};
+use common::{Caller, Checked, is_idle, look, poll_by, polled};
 use resil::{Acquire, Bulkhead, OwnedPermit};
 use std::error::Error;
 use std::panic::{AssertUnwindSafe, catch_unwind};
 use std::ptr;
 use std::sync::Arc;
 use std::sync::atomic::{AtomicBool, Ordering};
-use std::task::{Context, Poll, RawWaker, RawWakerVTable, Waker};
+use std::task::{RawWaker, RawWakerVTable, Waker};
 use std::thread;
 
 /// A permit that is awaited, and who is woken by it.
@@ -35,10 +35,7 @@ impl Awaited {
     }
 
     fn poll(&mut self) -> Option<OwnedPermit> {
-        match poll_by(&mut self.permit, &self.caller) {
-            Poll::Ready(permit) => permit.ok(),
-            Poll::Pending => None,
-        }
+        poll_by(&mut self.permit, &self.caller)?.ok()
     }
 
     fn woken(&self) -> u32 {
@@ -183,22 +180,19 @@ fn a_waker_that_panics_leaves_no_place_in_the_row() -> Checked {
     let backend = Arc::new(Bulkhead::new("backend", 1)?);
     let permit = backend.enter()?;
     let waker = waker_that_panics();
-    let mut context = Context::from_waker(&waker);
-    let mut quiet = Context::from_waker(Waker::noop());
-    let mut first = Box::pin(backend.acquire());
-    let polls = AssertUnwindSafe(|| first.as_mut().poll(&mut context).is_pending());
-    assert!(catch_unwind(polls).is_err());
-    assert_eq!(backend.numbers().waiting, 0);
-    assert!(first.as_mut().poll(&mut quiet).is_pending());
-    let polls = AssertUnwindSafe(|| first.as_mut().poll(&mut context).is_pending());
-    assert!(catch_unwind(polls).is_err());
-    assert_eq!(backend.numbers().waiting, 1);
-    let mut second = Box::pin(backend.acquire());
-    assert!(second.as_mut().poll(&mut quiet).is_pending());
+    let (mut first, mut second) = (backend.acquire(), backend.acquire());
+    // Before it stands in the row, and while it does.
+    for waiting in 0..2 {
+        let looks = AssertUnwindSafe(|| look(&mut first, &waker).is_some());
+        assert!(catch_unwind(looks).is_err());
+        assert_eq!(backend.numbers().waiting, waiting);
+        assert!(polled(&mut first).is_none());
+    }
+    assert!(polled(&mut second).is_none());
     drop(permit);
     // It has been given the permit, and hands it on.
     drop(first);
-    assert!(second.as_mut().poll(&mut quiet).is_ready());
+    assert!(polled(&mut second).is_some());
     assert!(is_idle(&backend));
     Ok(())
 }
@@ -206,7 +200,6 @@ fn a_waker_that_panics_leaves_no_place_in_the_row() -> Checked {
 #[test]
 fn a_permit_that_is_passed_on_is_never_free() -> Checked {
     let backend = Arc::new(Bulkhead::new("backend", 1)?);
-    let mut quiet = Context::from_waker(Waker::noop());
     let mut held = vec![backend.enter_owned()?];
     let is_over = AtomicBool::new(false);
     thread::scope(|scope| {
@@ -218,18 +211,16 @@ fn a_permit_that_is_passed_on_is_never_free() -> Checked {
             }
             entered
         });
-        let mut next = Box::pin(backend.acquire());
-        let mut is_in_order = next.as_mut().poll(&mut quiet).is_pending();
+        let mut next = backend.acquire();
+        let mut is_in_order = polled(&mut next).is_none();
         for _ in 0..2_000 {
             // While one waits the other one gives its permit back.
             held.clear();
-            let polled = next.as_mut().poll(&mut quiet);
-            is_in_order &= polled.is_ready();
-            if let Poll::Ready(Ok(permit)) = polled {
-                held.push(permit);
-            }
-            next = Box::pin(backend.acquire());
-            is_in_order &= next.as_mut().poll(&mut quiet).is_pending();
+            let given = polled(&mut next);
+            is_in_order &= given.is_some();
+            held.extend(given.and_then(Result::ok));
+            next = backend.acquire();
+            is_in_order &= polled(&mut next).is_none();
         }
         is_over.store(true, Ordering::SeqCst);
         let entered = barges.join().map_err(|_| "it panicked")?;

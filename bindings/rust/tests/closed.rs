@@ -2,18 +2,17 @@
 mod common;
 
 use common::{Checked, block_on, is_idle, polled};
-use resil::{Bulkhead, Closed, NoPermit, OwnedPermit};
+use resil::{Acquire, Bulkhead, Closed};
 use std::pin::Pin;
 use std::sync::atomic::{AtomicU32, Ordering};
 use std::sync::{Arc, Weak};
-use std::task::{Context, Poll, Wake, Waker};
+use std::task::{Context, Wake, Waker};
 use std::thread;
 use std::time::Duration;
 
-type Asked = Poll<Result<OwnedPermit, NoPermit>>;
-
-fn is_closed(asked: &Asked) -> bool {
-    matches!(asked, Poll::Ready(Err(Closed)))
+// Whether it is told so.
+fn is_closed(waits: &mut Acquire) -> bool {
+    polled(waits).and_then(Result::err) == Some(Closed)
 }
 
 #[test]
@@ -30,7 +29,7 @@ fn who_asks_later_is_told() -> Checked {
         backend.enter_owned_within(Duration::ZERO).err(),
         Some(Closed)
     );
-    assert!(is_closed(&polled(&mut backend.acquire())));
+    assert!(is_closed(&mut backend.acquire()));
     // A second time.
     backend.close();
     assert_eq!(backend.enter().err(), Some(Closed));
@@ -43,7 +42,7 @@ fn who_waits_is_told_at_once() -> Checked {
     let backend = Arc::new(Bulkhead::new("backend", 1)?);
     let permit = backend.enter()?;
     let mut row = [(); 3].map(|()| backend.acquire());
-    assert!(row.iter_mut().all(|one| polled(one).is_pending()));
+    assert!(row.iter_mut().all(|one| polled(one).is_none()));
     let threads = thread::scope(|scope| {
         let threads = [(); 2].map(|()| scope.spawn(|| backend.enter_within(Duration::MAX).err()));
         while backend.numbers().waiting < 5 {
@@ -53,7 +52,7 @@ fn who_waits_is_told_at_once() -> Checked {
         threads.map(|thread| thread.join().ok().flatten())
     });
     assert_eq!(threads, [Some(Closed); 2]);
-    assert!(row.iter_mut().all(|one| is_closed(&polled(one))));
+    assert!(row.iter_mut().all(is_closed));
     assert_eq!((backend.available(), backend.numbers().waiting), (0, 0));
     // Who has a permit gives it back as ever.
     drop(permit);
@@ -66,12 +65,11 @@ fn who_was_given_a_permit_has_it() -> Checked {
     let backend = Arc::new(Bulkhead::new("backend", 1)?);
     let permit = backend.enter()?;
     let (mut first, mut second) = (backend.acquire(), backend.acquire());
-    assert!(polled(&mut first).is_pending() && polled(&mut second).is_pending());
+    assert!(polled(&mut first).is_none() && polled(&mut second).is_none());
     drop(permit);
     backend.close();
     let given = polled(&mut first);
-    assert!(matches!(given, Poll::Ready(Ok(_))));
-    assert!(is_closed(&polled(&mut second)));
+    assert!(matches!(given, Some(Ok(_))) && is_closed(&mut second));
     assert_eq!(backend.available(), 0);
     drop(given);
     assert!(is_idle(&backend));
@@ -79,7 +77,7 @@ fn who_was_given_a_permit_has_it() -> Checked {
     let backend = Arc::new(Bulkhead::new("backend", 1)?);
     let permit = backend.enter()?;
     let mut waits = backend.acquire();
-    assert!(polled(&mut waits).is_pending());
+    assert!(polled(&mut waits).is_none());
     backend.close();
     drop(waits);
     drop(permit);
@@ -114,8 +112,8 @@ fn a_waker_may_close_it() -> Checked {
     drop(permit);
     assert_eq!(closes.1.load(Ordering::SeqCst), 3);
     let [first, second, third] = &mut row;
-    assert!(matches!(polled(first), Poll::Ready(Ok(_))));
-    assert!(is_closed(&polled(second)) && is_closed(&polled(third)));
+    assert!(matches!(polled(first), Some(Ok(_))));
+    assert!(is_closed(second) && is_closed(third));
     Ok(())
 }
 

@@ -3,7 +3,7 @@ mod common;
 
 use common::Checked;
 use resil::{Bulkhead, CallError, Decorators, Interval, KeptLayer, Layer, Retry};
-use std::cell::{Cell, OnceCell, RefCell};
+use std::cell::{OnceCell, RefCell};
 use std::error::Error;
 use std::fmt;
 use std::panic::{AssertUnwindSafe, catch_unwind};
@@ -16,26 +16,6 @@ const NOT_CALLED: &str = "it isn't called";
 
 fn is_send<T: Send>(value: T) -> T {
     value
-}
-
-#[test]
-fn a_bulkhead_inside_a_retry_is_asked_once_for_each_attempt() -> Checked {
-    let backend = Bulkhead::new("backend", 1)?;
-    let permit = Cell::new(Some(backend.enter()?));
-    let waits = Cell::new(0);
-    // The permit is given back while the second wait goes on.
-    let retry = Retry::new().pause_by(|_| {
-        waits.set(waits.get() + 1);
-        if waits.get() == 2 {
-            permit.take();
-        }
-    });
-    let mut chain = Decorators::of(|| Ok::<_, String>(7))
-        .inside(&backend)
-        .retried(&retry);
-    assert_eq!((chain.call(), waits.get()), (Ok(7), 2));
-    assert_eq!(backend.available(), 1);
-    Ok(())
 }
 
 #[test]

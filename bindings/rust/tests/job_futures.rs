@@ -8,7 +8,7 @@ use std::panic::{AssertUnwindSafe, catch_unwind};
 use std::pin::Pin;
 use std::sync::Arc;
 use std::sync::mpsc::{self, Sender};
-use std::task::{Context, Poll, Wake, Waker};
+use std::task::{Context, Wake, Waker};
 use std::thread;
 use std::time::Duration;
 
@@ -39,14 +39,14 @@ fn the_last_who_polled_is_woken() -> Checked {
     let pool = ThreadPool::builder(1, 1).open()?;
     let (gate, mut job) = gated(&pool)?;
     let (first, second) = (Caller::here(), Caller::here());
-    assert!(poll_by(&mut job, &first).is_pending());
-    assert!(poll_by(&mut job, &first).is_pending());
-    assert!(poll_by(&mut job, &second).is_pending());
+    assert!(poll_by(&mut job, &first).is_none());
+    assert!(poll_by(&mut job, &first).is_none());
+    assert!(poll_by(&mut job, &second).is_none());
     drop(gate);
     pool.close();
     pool.join();
     assert_eq!((first.woken(), second.woken()), (0, 1));
-    assert!(matches!(poll_by(&mut job, &first), Poll::Ready(Ok(42))));
+    assert!(matches!(poll_by(&mut job, &first), Some(Ok(42))));
     assert_eq!((first.woken(), second.woken()), (0, 1));
     Ok(())
 }
@@ -56,10 +56,10 @@ fn a_job_that_was_polled_is_waited_for() -> Checked {
     let pool = ThreadPool::builder(1, 1).open()?;
     let (gate, mut job) = gated(&pool)?;
     let caller = Caller::here();
-    assert!(poll_by(&mut job, &caller).is_pending());
+    assert!(poll_by(&mut job, &caller).is_none());
     let job = job.wait_for(Duration::from_millis(1));
     let mut job = job.expect_err("the gate is closed");
-    assert!(poll_by(&mut job, &caller).is_pending());
+    assert!(poll_by(&mut job, &caller).is_none());
     drop(gate);
     assert_eq!(in_time(job)?, 42);
     Ok(())
@@ -72,11 +72,11 @@ fn a_job_gives_its_answer_once() -> Checked {
     let answered = || -> Result<JobHandle<Box<u32>>, Box<dyn Error>> {
         let mut job = pool.submit(|| Box::new(42))?;
         pool.join();
-        assert!(poll_by(&mut job, &caller).is_ready());
+        assert!(poll_by(&mut job, &caller).is_some());
         Ok(job)
     };
     let mut job = answered()?;
-    let again = AssertUnwindSafe(|| poll_by(&mut job, &caller).is_ready());
+    let again = AssertUnwindSafe(|| poll_by(&mut job, &caller).is_some());
     assert!(catch_unwind(again).is_err());
     assert!(job.is_finished());
     let job = answered()?;
@@ -91,7 +91,7 @@ fn a_handle_is_dropped_after_a_poll() -> Checked {
     let pool = ThreadPool::builder(1, 1).open()?;
     let (gate, mut job) = gated(&pool)?;
     let caller = Caller::here();
-    assert!(poll_by(&mut job, &caller).is_pending());
+    assert!(poll_by(&mut job, &caller).is_none());
     drop(job);
     drop(gate);
     pool.close();

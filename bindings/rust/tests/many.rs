@@ -2,28 +2,16 @@
 mod common;
 
 use common::{Caller, Checked, block_on, is_idle, poll_by, polled};
-use resil::{AcquireMany, Bulkhead, Closed, Full, NoPermit, Observer, OwnedPermit};
-use std::error::Error;
+use resil::{AcquireMany, Bulkhead, Closed, Full, NoPermit, Observer};
 use std::panic::{AssertUnwindSafe, catch_unwind};
 use std::sync::Arc;
 use std::sync::atomic::{AtomicI64, AtomicU32, Ordering};
-use std::task::Poll;
 use std::thread;
 use std::time::Duration;
 
-// All of them; an error where they aren't there.
-fn all(many: &mut AcquireMany) -> Result<Vec<OwnedPermit>, Box<dyn Error>> {
-    match polled(many) {
-        Poll::Ready(permits) => Ok(permits?),
-        Poll::Pending => Err("it still waits".into()),
-    }
-}
-
-fn refusal<T>(polled: Poll<Result<T, NoPermit>>) -> Option<NoPermit> {
-    match polled {
-        Poll::Ready(permits) => permits.err(),
-        Poll::Pending => None,
-    }
+// How many are there, or why there are none; none while it waits.
+fn count(many: &mut AcquireMany) -> Option<Result<usize, NoPermit>> {
+    Some(polled(many)?.map(|permits| permits.len()))
 }
 
 #[test]
@@ -38,24 +26,25 @@ fn they_are_all_or_none() -> Checked {
     drop(backend.enter_many(2)?);
     assert_eq!(backend.available(), 2);
     drop(permits);
-    let mut permits = all(&mut backend.acquire_many(3))?;
+    let mut permits = polled(&mut backend.acquire_many(3)).ok_or("it waits")??;
     assert_eq!((permits.len(), backend.available()), (3, 0));
     for free in 1..=3 {
         drop(permits.remove(0));
         assert_eq!(backend.available(), free);
     }
     // None at all, and more than there are.
-    assert!(backend.enter_many(0)?.is_empty() && all(&mut backend.acquire_many(0))?.is_empty());
+    assert!(backend.enter_many(0)?.is_empty());
+    assert_eq!(count(&mut backend.acquire_many(0)), Some(Ok(0)));
     assert_eq!(backend.enter_many(4).err(), Some(Full));
     assert_eq!(backend.enter_many(u32::MAX).err(), Some(Full));
-    for count in [4, u32::MAX] {
-        assert_eq!(
-            refusal(polled(&mut backend.acquire_many(count))),
-            Some(Full)
-        );
+    for many in [4, u32::MAX] {
+        assert_eq!(count(&mut backend.acquire_many(many)), Some(Err(Full)));
     }
     let none = Arc::new(Bulkhead::new("none", 0)?);
-    assert_eq!(refusal(polled(&mut none.acquire())), Some(Full));
+    assert_eq!(
+        polled(&mut none.acquire()).and_then(Result::err),
+        Some(Full)
+    );
     assert!(is_idle(&backend) && is_idle(&none));
     Ok(())
 }
@@ -66,16 +55,16 @@ fn who_waits_gathers_and_is_woken_once() -> Checked {
     let mut permits = vec![backend.enter()?, backend.enter()?];
     let caller = Caller::here();
     let mut many = backend.acquire_many(3);
-    assert!(poll_by(&mut many, &caller).is_pending());
+    assert!(poll_by(&mut many, &caller).is_none());
     // It has the free one already, and it is one call.
     assert_eq!((backend.available(), backend.numbers().waiting), (0, 1));
     permits.pop();
     assert_eq!((backend.available(), caller.woken()), (0, 0));
     permits.pop();
     assert_eq!((caller.woken(), backend.numbers().waiting), (1, 0));
-    assert_eq!(all(&mut many)?.len(), 3);
+    assert_eq!(count(&mut many), Some(Ok(3)));
     assert!(is_idle(&backend));
-    let again = AssertUnwindSafe(|| polled(&mut many).is_pending());
+    let again = AssertUnwindSafe(|| polled(&mut many).is_none());
     assert!(catch_unwind(again).is_err());
     Ok(())
 }
@@ -86,26 +75,24 @@ fn they_are_served_in_the_order_of_the_row() -> Checked {
     let mut permits = vec![backend.enter()?, backend.enter()?, backend.enter()?];
     let (mut first, mut many) = (backend.acquire(), backend.acquire_many(2));
     let (mut last, mut more) = (backend.acquire(), backend.acquire_many(3));
-    assert!(polled(&mut first).is_pending() && polled(&mut many).is_pending());
-    assert!(polled(&mut last).is_pending() && polled(&mut more).is_pending());
+    assert!(polled(&mut first).is_none() && polled(&mut many).is_none());
+    assert!(polled(&mut last).is_none() && polled(&mut more).is_none());
     assert_eq!(backend.numbers().waiting, 4);
     // The single one, two for those who want two, and nobody overtakes these.
     permits.pop();
     permits.pop();
-    let Poll::Ready(Ok(own)) = polled(&mut first) else {
-        return Err("the first has no permit".into());
-    };
-    assert!(polled(&mut many).is_pending() && polled(&mut last).is_pending());
+    let own = polled(&mut first).ok_or("it waits")??;
+    assert!(polled(&mut many).is_none() && polled(&mut last).is_none());
     permits.pop();
-    let two = all(&mut many)?;
-    assert!(polled(&mut last).is_pending());
+    let two = polled(&mut many).ok_or("it waits")??;
+    assert!(polled(&mut last).is_none());
     drop(own);
-    assert!(matches!(polled(&mut last), Poll::Ready(Ok(_))));
+    assert!(matches!(polled(&mut last), Some(Ok(_))));
     // What the last gave back at once is gathered.
-    assert!(polled(&mut more).is_pending());
+    assert!(polled(&mut more).is_none());
     assert_eq!((backend.available(), backend.numbers().waiting), (0, 1));
     drop(two);
-    assert_eq!(all(&mut more)?.len(), 3);
+    assert_eq!(count(&mut more), Some(Ok(3)));
     assert!(is_idle(&backend));
     Ok(())
 }
@@ -116,15 +103,15 @@ fn who_leaves_gives_back_what_it_has_gathered() -> Checked {
     let permit = backend.enter()?;
     let mut many = backend.acquire_many(3);
     let mut one = backend.acquire();
-    assert!(polled(&mut many).is_pending() && polled(&mut one).is_pending());
+    assert!(polled(&mut many).is_none() && polled(&mut one).is_none());
     assert_eq!(backend.available(), 0);
     // Two permits are for the next, who takes one of them.
     drop(many);
-    assert!(matches!(polled(&mut one), Poll::Ready(Ok(_))));
+    assert!(matches!(polled(&mut one), Some(Ok(_))));
     assert_eq!((backend.available(), backend.numbers().waiting), (2, 0));
     // With all that it was given, and hasn't fetched.
     let mut many = backend.acquire_many(3);
-    assert!(polled(&mut many).is_pending());
+    assert!(polled(&mut many).is_none());
     drop(permit);
     assert_eq!((backend.available(), backend.numbers().waiting), (0, 0));
     drop(many);
@@ -137,17 +124,14 @@ fn a_closing_gives_back_what_was_gathered() -> Checked {
     let backend = Arc::new(Bulkhead::new("backend", 2)?);
     let permit = backend.enter()?;
     let (mut many, mut dropped) = (backend.acquire_many(2), backend.acquire_many(1));
-    assert!(polled(&mut many).is_pending() && polled(&mut dropped).is_pending());
+    assert!(polled(&mut many).is_none() && polled(&mut dropped).is_none());
     backend.close();
     assert_eq!(backend.numbers().waiting, 0);
-    assert_eq!(refusal(polled(&mut many)), Some(Closed));
+    assert_eq!(count(&mut many), Some(Err(Closed)));
     drop(dropped);
-    for count in [0, 1, 9] {
-        assert_eq!(
-            refusal(polled(&mut backend.acquire_many(count))),
-            Some(Closed)
-        );
-        assert_eq!(backend.enter_many(count).err(), Some(Closed));
+    for many in [0, 1, 9] {
+        assert_eq!(count(&mut backend.acquire_many(many)), Some(Err(Closed)));
+        assert_eq!(backend.enter_many(many).err(), Some(Closed));
     }
     assert_eq!(backend.available(), 1);
     drop(permit);
@@ -160,16 +144,16 @@ fn what_is_raised_is_gathered_and_what_is_owed_is_not() -> Checked {
     let backend = Arc::new(Bulkhead::new("backend", 3)?);
     assert_eq!(backend.retire(3), 3);
     let mut many = backend.acquire_many(2);
-    assert!(polled(&mut many).is_pending());
+    assert!(polled(&mut many).is_none());
     assert_eq!(backend.raise(1), 1);
-    assert!(polled(&mut many).is_pending() && backend.available() == 0);
-    assert_eq!((backend.raise(1), all(&mut many)?.len()), (1, 2));
+    assert!(polled(&mut many).is_none() && backend.available() == 0);
+    assert_eq!((backend.raise(1), count(&mut many)), (1, Some(Ok(2))));
     let permits = backend.enter_many(2)?;
     assert_eq!(backend.shrink(1), 0);
     let mut many = backend.acquire_many(1);
-    assert!(polled(&mut many).is_pending());
+    assert!(polled(&mut many).is_none());
     drop(permits);
-    assert_eq!((all(&mut many)?.len(), backend.retired()), (1, 2));
+    assert_eq!((count(&mut many), backend.retired()), (Some(Ok(1)), 2));
     Ok(())
 }
 
@@ -235,7 +219,7 @@ fn many_and_one_are_awaited_side_by_side() -> Checked {
         3 => {
             // Dropped at whatever moment.
             let mut many = backend.acquire_many(4);
-            if polled(&mut many).is_pending() {
+            if polled(&mut many).is_none() {
                 thread::yield_now();
             }
             Ok(())
@@ -259,6 +243,6 @@ fn many_and_one_are_awaited_side_by_side() -> Checked {
             });
         }
     });
-    assert!(is_idle(&backend) && polled(&mut backend.acquire_many(4)).is_ready());
+    assert!(is_idle(&backend) && polled(&mut backend.acquire_many(4)).is_some());
     Ok(())
 }

@@ -10,7 +10,6 @@ use std::panic::{AssertUnwindSafe, catch_unwind};
 use std::pin::pin;
 use std::sync::atomic::{AtomicBool, AtomicU32, Ordering};
 use std::sync::{Arc, Mutex, MutexGuard, OnceLock, PoisonError};
-use std::task::Poll;
 use std::thread;
 use std::time::Duration;
 
@@ -82,7 +81,7 @@ fn each_way_to_a_permit_is_told() -> Checked {
         |b| b.enter_within(LIMIT).is_ok(),
         |b| b.enter_owned().is_ok(),
         |b| b.enter_owned_within(LIMIT).is_ok(),
-        |b| matches!(polled(&mut b.acquire()), Poll::Ready(Ok(_))),
+        |b| matches!(polled(&mut b.acquire()), Some(Ok(_))),
     ];
     for is_permitted in ways {
         assert!(is_permitted(&b));
@@ -99,9 +98,9 @@ fn each_way_to_a_permit_is_told() -> Checked {
     assert!(log.take().is_empty());
     assert_eq!(b.available(), 0);
     let mut waits = b.acquire();
-    assert!(polled(&mut waits).is_pending());
+    assert!(polled(&mut waits).is_none());
     b.close();
-    assert!(polled(&mut waits).is_ready());
+    assert!(polled(&mut waits).is_some());
     assert_eq!(log.take(), ["b refused"]);
     for is_permitted in ways {
         assert!(!is_permitted(&b));
@@ -138,15 +137,13 @@ fn a_permit_that_is_handed_on_is_told_once_it_is_awaited() -> Checked {
     let (log, b) = logged(1)?;
     let permit = b.enter()?;
     let (mut first, mut second) = (b.acquire(), b.acquire());
-    assert!(polled(&mut first).is_pending() && polled(&mut second).is_pending());
+    assert!(polled(&mut first).is_none() && polled(&mut second).is_none());
     drop(permit);
     assert_eq!(log.take(), CALL);
     // It was given the permit, and is dropped before it has seen that.
     drop(first);
     assert!(log.take().is_empty());
-    let Poll::Ready(permit) = polled(&mut second) else {
-        return Err("the second one has no permit".into());
-    };
+    let permit = polled(&mut second).ok_or("it has no permit")?;
     assert_eq!(log.take(), ["b permitted"]);
     drop((second, permit));
     assert_eq!((log.take(), b.available()), (vec!["b finished".into()], 1));
@@ -200,7 +197,7 @@ fn a_permit_is_given_back_where_the_observer_panics() -> Checked {
     let b = Arc::new(Bulkhead::new("b", 1)?.observed(panics.clone()));
     let enter = AssertUnwindSafe(|| b.enter().is_ok());
     assert!(catch_unwind(enter).is_err());
-    let acquire = AssertUnwindSafe(|| polled(&mut b.acquire()).is_ready());
+    let acquire = AssertUnwindSafe(|| polled(&mut b.acquire()).is_some());
     assert!(catch_unwind(acquire).is_err());
     assert_eq!((b.available(), panics.0.load(Ordering::Relaxed)), (1, 2));
     Ok(())
@@ -286,7 +283,7 @@ fn nothing_is_locked_while_an_observer_is_told() -> Checked {
     // While a task waits: who gives back hands the permit on.
     let permit = b.enter()?;
     let mut waits = b.acquire();
-    assert!(polled(&mut waits).is_pending());
+    assert!(polled(&mut waits).is_none());
     drop(permit);
     drop(waits);
     // Any of them may find it full.
@@ -301,23 +298,6 @@ fn nothing_is_locked_while_an_observer_is_told() -> Checked {
     pool.join();
     // The observer has the pool, and the pool the observer: one lets the other go.
     assert_eq!(b.available(), 1);
-    Ok(())
-}
-
-#[test]
-fn a_registry_has_its_bulkheads_observed() -> Checked {
-    let log = Arc::new(Log::default());
-    let registry = BulkheadRegistry::new(1).observed(log.clone());
-    for name in ["one", "two"] {
-        registry.bulkhead(name)?.call(|| ())?;
-    }
-    let wanted = [
-        "one permitted",
-        "one finished",
-        "two permitted",
-        "two finished",
-    ];
-    assert_eq!(log.take(), wanted);
     Ok(())
 }
 
@@ -365,7 +345,7 @@ fn retries_of_futures_and_loops_of_ones_own_are_told() {
         || std::future::ready(Err::<u32, _>("busy")),
         |_wait| std::future::ready(()),
     ));
-    assert_eq!(polled(&mut { call }), Poll::Ready(Err("busy")));
+    assert_eq!(polled(&mut { call }), Some(Err("busy")));
     let wanted = ["r 1 failed, 500ms", "r exhausted after 2"];
     assert_eq!(log.take(), wanted);
     let mut attempts = retry.begin();
@@ -441,24 +421,6 @@ impl Observer for Chooses {
 }
 
 #[test]
-fn an_observer_may_have_another_one_for_a_name() -> Checked {
-    let log = Arc::new(Log::default());
-    let chooses = Arc::new(Chooses(log.clone()));
-    for name in ["a", "b"] {
-        let bulkhead = Bulkhead::new(name, 1)?.observed(chooses.clone());
-        bulkhead.call(|| ())?;
-    }
-    assert_eq!(log.take(), CALL);
-    let retry = Retry::new().observed("r", chooses.clone());
-    assert_eq!(retry.call(|| Ok::<_, ()>(1)), Ok(1));
-    assert_eq!(log.take(), ["r succeeded after 1"]);
-    let pool = ThreadPool::builder(1, 1).observed(chooses).open()?;
-    pool.submit(|| ())?.wait()?;
-    assert!(log.take().contains(&"pool finished".to_owned()));
-    Ok(())
-}
-
-#[test]
 fn several_observers_are_all_told() -> Checked {
     let (log, other) = (Arc::new(Log::default()), Arc::new(Log::default()));
     let chooses = Arc::new(Chooses(other.clone()));
@@ -466,30 +428,10 @@ fn several_observers_are_all_told() -> Checked {
     let both = Arc::new(both);
     let b = Bulkhead::new("b", 1)?.observed(both.clone());
     assert!(b.call(|| b.enter().is_err())?);
-    let wanted = ["b permitted", "b refused", "b finished"];
-    assert_eq!(log.take(), wanted);
-    assert_eq!(other.take(), wanted);
     let retry = Retry::new().observed("r", both.clone());
     assert_eq!(retry.call(|| Ok::<_, ()>(1)), Ok(1));
-    let pool = ThreadPool::builder(1, 1)
-        .name("p")
-        .observed(both.clone())
-        .open()?;
+    let pool = ThreadPool::builder(1, 1).name("p").observed(both).open()?;
     pool.submit(|| ())?.wait()?;
-    pool.close();
-    assert!(pool.submit(|| ()).is_err());
-    let (mut told, mut also) = (log.take(), other.take());
-    told.sort();
-    also.sort();
-    let wanted = [
-        "p accepted Core",
-        "p finished",
-        "p refused Closed",
-        "p started",
-        "r succeeded after 1",
-    ];
-    assert_eq!(told, wanted);
-    assert_eq!(also, wanted);
     // Each event goes to each.
     let none: [Arc<dyn Observer>; 2] = [log.clone(), other.clone()];
     assert!(none.wants_times());
@@ -497,16 +439,28 @@ fn several_observers_are_all_told() -> Checked {
     none.retry_exhausted("r", 2);
     none.error_ignored("r", 3);
     none.retry_out_of_time("r", 4);
+    none.job_refused("p", Refusal::Full);
     none.job_panicked("p", Duration::ZERO);
+    let (mut told, mut also) = (log.take(), other.take());
+    told.sort();
+    also.sort();
     let wanted = [
+        "b finished",
+        "b permitted",
+        "b refused",
+        "p accepted Core",
+        "p finished",
+        "p panicked",
+        "p refused Full",
+        "p started",
         "r 1 failed, 0ns",
         "r exhausted after 2",
         "r ignored after 3",
         "r out of time after 4",
-        "p panicked",
+        "r succeeded after 1",
     ];
-    assert_eq!(log.take(), wanted);
-    assert_eq!(other.take(), wanted);
+    assert_eq!(told, wanted);
+    assert_eq!(also, wanted);
     Ok(())
 }
 

@@ -4,16 +4,15 @@
 
 mod common;
 
-use common::{Checked, is_idle};
+use common::{Checked, is_idle, look, polled};
 use resil::{Acquire, Bulkhead};
 use std::alloc::{GlobalAlloc, Layout, System};
 use std::error::Error;
 use std::fs;
 use std::panic::{AssertUnwindSafe, catch_unwind};
-use std::pin::Pin;
 use std::sync::atomic::{AtomicU32, AtomicUsize, Ordering};
 use std::sync::{Arc, Mutex, PoisonError};
-use std::task::{Context, Wake, Waker};
+use std::task::{Wake, Waker};
 
 /// The system's memory, counted.
 struct Counted(AtomicUsize);
@@ -39,15 +38,10 @@ static MEMORY: Counted = Counted(AtomicUsize::new(0));
 // One test at a time.
 static ALONE: Mutex<()> = Mutex::new(());
 
-fn polled(permit: &mut Acquire, waker: &Waker) -> bool {
-    let mut context = Context::from_waker(waker);
-    Pin::new(permit).poll(&mut context).is_ready()
-}
-
 // So many who stand in the row of a bulkhead all of whose permits are held.
 fn row_of(backend: &Arc<Bulkhead>, count: usize) -> Vec<Acquire> {
     let mut row: Vec<_> = (0..count).map(|_| backend.acquire()).collect();
-    assert!(row.iter_mut().all(|one| !polled(one, Waker::noop())));
+    assert!(row.iter_mut().all(|one| polled(one).is_none()));
     row
 }
 
@@ -98,7 +92,7 @@ fn the_row_gives_its_memory_back() -> Checked {
     drop_in_disorder(row)?;
     let mut served = row_of(&backend, 10_000);
     drop(permit);
-    assert!(served.iter_mut().all(|one| polled(one, Waker::noop())));
+    assert!(served.iter_mut().all(|one| polled(one).is_some()));
     drop(served);
     let after = MEMORY.0.load(Ordering::Relaxed);
     // The test's harness takes some memory of its own.
@@ -131,7 +125,7 @@ fn a_waker_that_panics_leaves_nobody_unwoken() -> Checked {
     let mut row = Vec::new();
     for waker in &wakers {
         let mut permit = backend.acquire();
-        assert!(!polled(&mut permit, &Waker::from(Arc::clone(waker))));
+        assert!(look(&mut permit, &Waker::from(Arc::clone(waker))).is_none());
         row.push(permit);
     }
     let raises = AssertUnwindSafe(|| backend.raise(3));
@@ -140,7 +134,7 @@ fn a_waker_that_panics_leaves_nobody_unwoken() -> Checked {
         wakers.map(|waker| waker.woken.load(Ordering::SeqCst)),
         [1; 3]
     );
-    assert!(row.iter_mut().all(|one| polled(one, Waker::noop())));
+    assert!(row.iter_mut().all(|one| polled(one).is_some()));
     drop(row);
     assert!(is_idle(&backend));
     Ok(())

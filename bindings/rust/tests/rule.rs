@@ -24,6 +24,9 @@ fn submissions_are_answered_by_the_rule() -> Result<(), PoolError> {
         (job(3), 30, Origin::OwnStart)
     );
     assert_eq!(rule.pick(), None);
+    let place = first.place + 2;
+    let elsewhere = Picked { place, ..first };
+    assert_eq!(rule.finish(&elsewhere), Err(PoolError::NotOut));
     rule.finish(&first)?;
     let second = rule.pick().ok_or(PoolError::NotOut)?;
     assert_eq!(
@@ -88,21 +91,6 @@ fn refusals_change_nothing() -> Result<(), PoolError> {
         (rule.pick(), rule.idle_end(), rule.event_count()),
         (None, false, 0)
     );
-    Ok(())
-}
-
-#[test]
-fn a_job_is_finished_at_its_place() -> Result<(), PoolError> {
-    let mut rule = PoolRule::builder(2, 2).open()?;
-    assert_eq!(rule.submit(job(1), 0)?, Reply::Core);
-    let picked = rule.pick().ok_or(PoolError::NotOut)?;
-    let elsewhere = Picked {
-        place: picked.place + 1,
-        ..picked
-    };
-    assert_eq!(rule.finish(&elsewhere), Err(PoolError::NotOut));
-    assert_eq!(rule.finish(&picked), Ok(()));
-    assert_eq!(rule.finish(&picked), Err(PoolError::NotOut));
     Ok(())
 }
 

@@ -5,15 +5,11 @@ use common::{Checked, PATIENCE, block_on, until};
 use resil::{Acquire, Bulkhead, OwnedPermit};
 use std::sync::Arc;
 use std::sync::atomic::{AtomicBool, AtomicU32, Ordering};
-use std::task::Poll;
 use std::thread;
 use std::time::Duration;
 
 fn polled(permit: &mut Acquire) -> Option<OwnedPermit> {
-    match common::polled(permit) {
-        Poll::Ready(permit) => permit.ok(),
-        Poll::Pending => None,
-    }
+    common::polled(permit)?.ok()
 }
 
 // How many permits are free, retired and owed.

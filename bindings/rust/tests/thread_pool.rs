@@ -304,18 +304,6 @@ fn a_smaller_core_lets_threads_end() -> Checked {
 }
 
 #[test]
-fn idle_threads_end_at_the_close() -> Checked {
-    let pool = ThreadPool::builder(3, 3).keep_alive(Duration::MAX).open()?;
-    for _ in 0..3 {
-        pool.submit(|| ())?.wait()?;
-    }
-    assert_eq!(pool.numbers().workers, 3);
-    pool.close();
-    assert!(until(|| pool.numbers().workers == 0));
-    Ok(())
-}
-
-#[test]
 fn a_dropped_pool_runs_what_waits() -> Checked {
     let ran = Arc::new(AtomicU32::new(0));
     let pool = ThreadPool::builder(2, 2).queue(1_000).open()?;

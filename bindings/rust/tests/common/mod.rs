@@ -98,20 +98,27 @@ pub fn block_on<F: Future>(future: F) -> F::Output {
     let mut future = pin!(future);
     let caller = Caller::here();
     loop {
-        if let Poll::Ready(output) = poll_by(&mut future, &caller) {
+        if let Some(output) = poll_by(&mut future, &caller) {
             return output;
         }
         thread::park();
     }
 }
 
-pub fn poll_by<F: Future + Unpin>(future: &mut F, caller: &Arc<Caller>) -> Poll<F::Output> {
-    let waker = Waker::from(Arc::clone(caller));
-    Pin::new(future).poll(&mut Context::from_waker(&waker))
+/// What a look at a future gives; none where it is pending.
+pub fn poll_by<F: Future + Unpin>(future: &mut F, caller: &Arc<Caller>) -> Option<F::Output> {
+    look(future, &Waker::from(Arc::clone(caller)))
 }
 
-pub fn polled<F: Future + Unpin>(future: &mut F) -> Poll<F::Output> {
-    Pin::new(future).poll(&mut Context::from_waker(Waker::noop()))
+pub fn polled<F: Future + Unpin>(future: &mut F) -> Option<F::Output> {
+    look(future, Waker::noop())
+}
+
+pub fn look<F: Future + Unpin>(future: &mut F, waker: &Waker) -> Option<F::Output> {
+    match Pin::new(future).poll(&mut Context::from_waker(waker)) {
+        Poll::Ready(output) => Some(output),
+        Poll::Pending => None,
+    }
 }
 
 /// Whether all permits are free, and nobody waits.
