@@ -1,5 +1,5 @@
 //! How long a retry waits: the static library's intervals, behind a safe surface.
-use std::error::Error;
+use crate::texts::error_texts;
 use std::fmt;
 use std::time::Duration;
 
@@ -38,19 +38,11 @@ pub enum IntervalError {
     CapBelowInitial,
 }
 
-impl fmt::Display for IntervalError {
-    fn fmt(&self, f: &mut fmt::Formatter<'_>) -> fmt::Result {
-        f.write_str(match self {
-            IntervalError::IntervalTooLong => "an interval is longer than 31,536,000,000 ms",
-            IntervalError::BadMultiplier => {
-                "the multiplier needs 1 <= denominator <= numerator <= 1000"
-            }
-            IntervalError::CapBelowInitial => "the cap is below the initial interval",
-        })
-    }
-}
-
-impl Error for IntervalError {}
+error_texts! { IntervalError {
+    IntervalTooLong => "an interval is longer than 31,536,000,000 ms",
+    BadMultiplier => "the multiplier needs 1 <= denominator <= numerator <= 1000",
+    CapBelowInitial => "the cap is below the initial interval",
+}}
 
 /// How long a retry waits after each attempt, in whole milliseconds.
 ///

@@ -14,6 +14,7 @@ mod record;
 mod registry;
 mod retry;
 pub mod rule;
+mod texts;
 mod thread_number;
 mod thread_pool;
 

@@ -2,9 +2,9 @@
 use crate::bulkhead::{Bulkhead, BulkheadError, is_name};
 use crate::lock::locked;
 use crate::observer::Observer;
+use crate::texts::error_texts;
 use std::collections::HashMap;
 use std::collections::hash_map::Entry;
-use std::error::Error;
 use std::fmt;
 use std::panic::{RefUnwindSafe, UnwindSafe};
 use std::sync::{Arc, Mutex, MutexGuard};
@@ -30,22 +30,14 @@ pub enum RegistryError {
     Memory,
 }
 
-impl fmt::Display for RegistryError {
-    fn fmt(&self, f: &mut fmt::Formatter<'_>) -> fmt::Result {
-        f.write_str(match self {
-            RegistryError::BadName => {
-                "a name is 1 to 64 bytes of ASCII letters, digits, `-`, `_` and `.`"
-            }
-            RegistryError::ReservedName => "the name `default` is reserved",
-            RegistryError::NameTaken => "a configuration has that name already",
-            RegistryError::NoSuchConfig => "no configuration has that name",
-            RegistryError::TooManyPermits => "there are more than 65535 permits",
-            RegistryError::Memory => "out of memory",
-        })
-    }
-}
-
-impl Error for RegistryError {}
+error_texts! { RegistryError {
+    BadName => "a name is 1 to 64 bytes of ASCII letters, digits, `-`, `_` and `.`",
+    ReservedName => "the name `default` is reserved",
+    NameTaken => "a configuration has that name already",
+    NoSuchConfig => "no configuration has that name",
+    TooManyPermits => "there are more than 65535 permits",
+    Memory => "out of memory",
+}}
 
 impl From<BulkheadError> for RegistryError {
     fn from(error: BulkheadError) -> RegistryError {

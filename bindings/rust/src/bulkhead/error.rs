@@ -1,6 +1,5 @@
 //! Why there is no permit, and why there is no bulkhead.
-use std::error::Error;
-use std::fmt;
+use crate::texts::error_texts;
 
 /// Why there is no permit. This crate has the two by their own names too.
 ///
@@ -22,16 +21,10 @@ pub enum NoPermit {
     Closed,
 }
 
-impl fmt::Display for NoPermit {
-    fn fmt(&self, f: &mut fmt::Formatter<'_>) -> fmt::Result {
-        f.write_str(match self {
-            NoPermit::Full => "the bulkhead is full",
-            NoPermit::Closed => "the bulkhead is closed",
-        })
-    }
-}
-
-impl Error for NoPermit {}
+error_texts! { NoPermit {
+    Full => "the bulkhead is full",
+    Closed => "the bulkhead is closed",
+}}
 
 /// Why there is no bulkhead or no pass; where more than one holds, the first of these.
 #[derive(Debug, Clone, Copy, PartialEq, Eq)]
@@ -45,16 +38,8 @@ pub enum BulkheadError {
     Memory,
 }
 
-impl fmt::Display for BulkheadError {
-    fn fmt(&self, f: &mut fmt::Formatter<'_>) -> fmt::Result {
-        f.write_str(match self {
-            BulkheadError::BadName => {
-                "a name is 1 to 64 bytes of ASCII letters, digits, `-`, `_` and `.`"
-            }
-            BulkheadError::TooManyPermits => "there are more than 65535 permits",
-            BulkheadError::Memory => "out of memory",
-        })
-    }
-}
-
-impl Error for BulkheadError {}
+error_texts! { BulkheadError {
+    BadName => "a name is 1 to 64 bytes of ASCII letters, digits, `-`, `_` and `.`",
+    TooManyPermits => "there are more than 65535 permits",
+    Memory => "out of memory",
+}}

@@ -1,6 +1,5 @@
 //! Why a call of a pool is refused.
-use std::error::Error;
-use std::fmt;
+use crate::texts::error_texts;
 
 /// Why a pool wasn't made, or a call of it was refused; where more than one holds, the first of these. Nothing was changed.
 #[derive(Debug, Clone, Copy, PartialEq, Eq)]
@@ -28,23 +27,15 @@ pub enum PoolError {
     NotOut,
 }
 
-impl fmt::Display for PoolError {
-    fn fmt(&self, f: &mut fmt::Formatter<'_>) -> fmt::Result {
-        f.write_str(match self {
-            PoolError::NulInName => "the name has a byte 0",
-            PoolError::RecordOutOfRange => "the record is not for 1 to 25000 events",
-            PoolError::CoreOutOfRange => "the core size is not from 1 to 64",
-            PoolError::MaxOutOfRange => {
-                "the greatest size is not from the core size to the largest one allowed"
-            }
-            PoolError::QueueOutOfRange => "the queue capacity is not from 1 to 65536",
-            PoolError::CallersOutOfRange => "the number of callers is not from 1 to 65535",
-            PoolError::Memory => "out of memory",
-            PoolError::NoCaller => "not one of the callers",
-            PoolError::WrongNumber => "not the caller's next number",
-            PoolError::NotOut => "no job of this id is out",
-        })
-    }
-}
-
-impl Error for PoolError {}
+error_texts! { PoolError {
+    NulInName => "the name has a byte 0",
+    RecordOutOfRange => "the record is not for 1 to 25000 events",
+    CoreOutOfRange => "the core size is not from 1 to 64",
+    MaxOutOfRange => "the greatest size is not from the core size to the largest one allowed",
+    QueueOutOfRange => "the queue capacity is not from 1 to 65536",
+    CallersOutOfRange => "the number of callers is not from 1 to 65535",
+    Memory => "out of memory",
+    NoCaller => "not one of the callers",
+    WrongNumber => "not the caller's next number",
+    NotOut => "no job of this id is out",
+}}

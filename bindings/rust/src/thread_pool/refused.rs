@@ -1,4 +1,5 @@
 //! What a submission that isn't accepted gives back.
+use crate::texts::error_texts;
 use std::error::Error;
 use std::fmt;
 
@@ -12,16 +13,10 @@ pub enum Refusal {
     Closed,
 }
 
-impl fmt::Display for Refusal {
-    fn fmt(&self, f: &mut fmt::Formatter<'_>) -> fmt::Result {
-        f.write_str(match self {
-            Refusal::Full => "the pool is full",
-            Refusal::Closed => "the pool is closed",
-        })
-    }
-}
-
-impl Error for Refusal {}
+error_texts! { Refusal {
+    Full => "the pool is full",
+    Closed => "the pool is closed",
+}}
 
 /// A job that a pool refused: why, and its function, which wasn't called.
 pub struct Refused<F> {
