@@ -91,10 +91,8 @@ fn no_permit_is_left_where_there_is_no_call() -> Checked {
     // The inner service fails.
     let (backend, mut service) = queueing(1)?;
     let mut call = Box::pin(service.call(7));
-    assert_eq!(
-        polled(&mut call),
-        Poll::Ready(Err(CallError::Failed("no route")))
-    );
+    let answer = polled(&mut call);
+    assert_eq!(answer, Poll::Ready(Err(CallError::Failed("no route"))));
     assert!(is_idle(&backend));
     // It panics.
     let (backend, mut service) = queueing(0)?;

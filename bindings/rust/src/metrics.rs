@@ -120,24 +120,29 @@ impl Metrics {
 
 impl Observer for Metrics {
     fn of_bulkhead(&self, name: &str) -> Option<Arc<dyn Observer>> {
-        let mut all = locked(&self.all);
-        let new = || Arc::new(Calls::new(!self.is_untimed));
-        let calls = all.calls.entry(name.to_owned()).or_insert_with(new);
-        Some(Arc::clone(calls) as Arc<dyn Observer>)
+        let calls = &mut locked(&self.all).calls;
+        Some(own(calls, name, || Calls::new(!self.is_untimed)))
     }
 
     fn of_retry(&self, name: &str) -> Option<Arc<dyn Observer>> {
-        let mut all = locked(&self.all);
-        let retries = all.retries.entry(name.to_owned()).or_default();
-        Some(Arc::clone(retries) as Arc<dyn Observer>)
+        let retries = &mut locked(&self.all).retries;
+        Some(own(retries, name, Retries::default))
     }
 
     fn of_pool(&self, name: &str) -> Option<Arc<dyn Observer>> {
-        let mut all = locked(&self.all);
-        let new = || Arc::new(Jobs::new(!self.is_untimed));
-        let jobs = all.jobs.entry(name.to_owned()).or_insert_with(new);
-        Some(Arc::clone(jobs) as Arc<dyn Observer>)
+        let jobs = &mut locked(&self.all).jobs;
+        Some(own(jobs, name, || Jobs::new(!self.is_untimed)))
     }
+}
+
+// What counts for this name, which is made where it isn't there.
+fn own<C: Observer + 'static>(
+    all: &mut BTreeMap<String, Arc<C>>,
+    name: &str,
+    new: impl FnOnce() -> C,
+) -> Arc<dyn Observer> {
+    let own = all.entry(name.to_owned());
+    own.or_insert_with(|| Arc::new(new())).clone()
 }
 
 impl fmt::Debug for Metrics {

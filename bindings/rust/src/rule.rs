@@ -53,19 +53,11 @@ impl PoolRuleBuilder {
     /// In this order: `CoreOutOfRange` where the core size isn't from 1 to 64; `MaxOutOfRange` where the greatest size
     /// isn't from the core size to 64; `QueueOutOfRange`; `CallersOutOfRange`; `Memory` where memory runs out.
     pub fn open(self) -> Result<PoolRule, PoolError> {
+        let (core, max, queue) = (self.core, self.max, self.queue);
         let mut handle = Handle::EMPTY;
+        let out = &raw mut handle;
         // SAFETY: `handle` is empty and this call's alone.
-        let answer = unsafe {
-            resil_pool_new(
-                self.core,
-                self.max,
-                self.queue,
-                self.callers,
-                self.kept,
-                &raw mut handle,
-            )
-        };
-        match answer {
+        match unsafe { resil_pool_new(core, max, queue, self.callers, self.kept, out) } {
             0 => Ok(PoolRule { handle }),
             2 => Err(PoolError::CoreOutOfRange),
             3 => Err(PoolError::MaxOutOfRange),
@@ -123,19 +115,12 @@ impl PoolRule {
     /// In this order: `NoCaller` where the caller isn't from 1 to the number of callers; `WrongNumber` where the number isn't
     /// the caller's next one.
     pub fn submit(&mut self, id: JobId, work: u64) -> Result<Reply, PoolError> {
+        let JobId { caller, number } = id;
+        let (pool, back) = (self.handle, &raw mut self.handle);
         // SAFETY: the handle was filled by `resil_pool_new` and is used by this call alone.
-        let answer = unsafe {
-            resil_pool_submit(
-                self.handle,
-                &raw mut self.handle,
-                id.caller,
-                id.number,
-                work,
-            )
-        };
-        match answer {
+        match unsafe { resil_pool_submit(pool, back, caller, number, work) } {
             6 => Err(PoolError::NoCaller),
-            _ => Reply::of(answer).ok_or(PoolError::WrongNumber),
+            answer => Reply::of(answer).ok_or(PoolError::WrongNumber),
         }
     }
 
@@ -158,20 +143,11 @@ impl PoolRule {
     /// `NotOut` where no job of this id was picked at this place and isn't finished.
     pub fn finish(&mut self, picked: &Picked) -> Result<(), PoolError> {
         let JobId { caller, number } = picked.id;
+        let (pool, back) = (self.handle, &raw mut self.handle);
         // SAFETY: as in `submit`.
-        let answer = unsafe {
-            resil_pool_finish(
-                self.handle,
-                &raw mut self.handle,
-                caller,
-                number,
-                picked.place,
-            )
-        };
-        if answer == 0 {
-            Ok(())
-        } else {
-            Err(PoolError::NotOut)
+        match unsafe { resil_pool_finish(pool, back, caller, number, picked.place) } {
+            0 => Ok(()),
+            _ => Err(PoolError::NotOut),
         }
     }
 

@@ -109,10 +109,8 @@ fn a_task_that_is_dropped_loses_nothing() -> Checked {
     let first = Awaited::standing(&backend)?;
     let mut second = Awaited::standing(&backend)?;
     drop(permit);
-    assert_eq!(
-        (first.woken(), second.woken(), backend.available()),
-        (1, 0, 0)
-    );
+    let counts = (first.woken(), second.woken(), backend.available());
+    assert_eq!(counts, (1, 0, 0));
     drop(first);
     assert_eq!((second.woken(), backend.available()), (1, 0));
     let permit = second.poll().ok_or("it has no permit")?;

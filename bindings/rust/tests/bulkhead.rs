@@ -16,18 +16,12 @@ fn is_static<T: 'static>() {}
 
 #[test]
 fn too_many_permits_are_refused() {
-    assert_eq!(
-        Bulkhead::new("large", 65_536).err(),
-        Some(BulkheadError::TooManyPermits)
-    );
-    assert_eq!(
-        Bulkhead::new("large", 65_535).map(|all| all.available()),
-        Ok(65_535)
-    );
-    assert_eq!(
-        BulkheadError::TooManyPermits.to_string(),
-        "there are more than 65535 permits"
-    );
+    let refused = Bulkhead::new("large", 65_536).err();
+    assert_eq!(refused, Some(BulkheadError::TooManyPermits));
+    let free = Bulkhead::new("large", 65_535).map(|all| all.available());
+    assert_eq!(free, Ok(65_535));
+    let said = BulkheadError::TooManyPermits.to_string();
+    assert_eq!(said, "there are more than 65535 permits");
     assert_eq!(Full.to_string(), "the bulkhead is full");
 }
 
@@ -99,10 +93,8 @@ fn a_wait_ends_at_its_limit() -> Checked {
     let permit = backend.enter_within(Duration::ZERO)?;
     assert_eq!(backend.enter_within(Duration::ZERO).err(), Some(Full));
     let began = Instant::now();
-    assert_eq!(
-        backend.enter_within(Duration::from_millis(20)).err(),
-        Some(Full)
-    );
+    let refused = backend.enter_within(Duration::from_millis(20)).err();
+    assert_eq!(refused, Some(Full));
     assert!(began.elapsed() >= Duration::from_millis(20));
     drop(permit);
     assert!(backend.enter_within(Duration::MAX).is_ok());
@@ -115,10 +107,8 @@ fn a_raise_wakes_one_that_waits() -> Checked {
     assert_eq!(backend.retire(2), 2);
     thread::scope(|scope| {
         let waits = scope.spawn(|| backend.enter_within(Duration::MAX).is_ok());
-        assert_eq!(
-            thread::scope(|scope| scope.spawn(|| backend.raise(1)).join()).ok(),
-            Some(1)
-        );
+        let raised = thread::scope(|scope| scope.spawn(|| backend.raise(1)).join()).ok();
+        assert_eq!(raised, Some(1));
         assert!(waits.join().unwrap_or(false));
     });
     assert_eq!((backend.retired(), backend.available()), (1, 1));
@@ -129,20 +119,14 @@ fn a_raise_wakes_one_that_waits() -> Checked {
 fn only_free_permits_are_retired() -> Checked {
     let backend = Bulkhead::new("backend", 4)?;
     let permit = backend.enter()?;
-    assert_eq!(
-        (backend.retire(0), backend.retire(2), backend.retire(9)),
-        (0, 2, 1)
-    );
-    assert_eq!(
-        (backend.retired(), backend.available(), backend.max()),
-        (3, 0, 4)
-    );
+    let retired = (backend.retire(0), backend.retire(2), backend.retire(9));
+    assert_eq!(retired, (0, 2, 1));
+    let counts = (backend.retired(), backend.available(), backend.max());
+    assert_eq!(counts, (3, 0, 4));
     drop(permit);
     assert_eq!(backend.call(|| 42), Ok(42));
-    assert_eq!(
-        (backend.raise(1), backend.raise(9), backend.raise(1)),
-        (1, 2, 0)
-    );
+    let raised = (backend.raise(1), backend.raise(9), backend.raise(1));
+    assert_eq!(raised, (1, 2, 0));
     assert_eq!((backend.retired(), backend.available()), (0, 4));
     Ok(())
 }

@@ -25,10 +25,8 @@ fn who_asks_later_is_told() -> Checked {
     assert_eq!(backend.enter().err(), Some(Closed));
     assert_eq!(backend.enter_owned().err(), Some(Closed));
     assert_eq!(backend.enter_within(Duration::MAX).err(), Some(Closed));
-    assert_eq!(
-        backend.enter_owned_within(Duration::ZERO).err(),
-        Some(Closed)
-    );
+    let refused = backend.enter_owned_within(Duration::ZERO).err();
+    assert_eq!(refused, Some(Closed));
     assert!(is_closed(&mut backend.acquire()));
     // A second time.
     backend.close();

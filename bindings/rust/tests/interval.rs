@@ -57,10 +57,8 @@ fn the_first_refusal_is_told() {
         let refused = Interval::exponential(first, multiplier, cap);
         assert_eq!(refused, Err(error), "{first:?} {multiplier:?} {cap:?}");
     }
-    assert_eq!(
-        IntervalError::CapBelowInitial.to_string(),
-        "the cap is below the initial interval"
-    );
+    let said = IntervalError::CapBelowInitial.to_string();
+    assert_eq!(said, "the cap is below the initial interval");
 }
 
 #[test]

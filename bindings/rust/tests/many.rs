@@ -41,10 +41,8 @@ fn they_are_all_or_none() -> Checked {
         assert_eq!(count(&mut backend.acquire_many(many)), Some(Err(Full)));
     }
     let none = Arc::new(Bulkhead::new("none", 0)?);
-    assert_eq!(
-        polled(&mut none.acquire()).and_then(Result::err),
-        Some(Full)
-    );
+    let refused = polled(&mut none.acquire()).and_then(Result::err);
+    assert_eq!(refused, Some(Full));
     assert!(is_idle(&backend) && is_idle(&none));
     Ok(())
 }

@@ -315,19 +315,15 @@ fn each_end_of_a_retry_is_told() {
     assert_eq!(retry().call(|| Ok::<_, &str>(42)), Ok(42));
     assert_eq!(log.take(), ["r succeeded after 1"]);
     let mut outcomes = [Err("busy"), Ok(0), Ok(42)].into_iter();
-    assert_eq!(
-        retry().call(|| outcomes.next().unwrap_or(Err("none"))),
-        Ok(42)
-    );
+    let answer = retry().call(|| outcomes.next().unwrap_or(Err("none")));
+    assert_eq!(answer, Ok(42));
     let failed = ["r 1 failed, 7ms", "r 2 failed, 7ms"];
     assert_eq!(log.take(), [&failed[..], &["r succeeded after 3"]].concat());
     assert_eq!(retry().call(|| Ok::<_, &str>(0)), Ok(0));
     assert_eq!(log.take(), [&failed[..], &["r exhausted after 3"]].concat());
     let mut outcomes = [Err("busy"), Err("gone")].into_iter();
-    assert_eq!(
-        retry().call(|| outcomes.next().unwrap_or(Ok(1))),
-        Err("gone")
-    );
+    let answer = retry().call(|| outcomes.next().unwrap_or(Ok(1)));
+    assert_eq!(answer, Err("gone"));
     assert_eq!(log.take(), ["r 1 failed, 7ms", "r ignored after 2"]);
     let late = retry().within(Duration::from_millis(6));
     assert_eq!(late.call(|| Err("busy")), Err("busy"));
@@ -378,10 +374,8 @@ fn what_becomes_of_a_job_is_told() -> Checked {
     end(first)?;
     assert!(locked(&log.lines).contains(&"p finished".to_owned()));
     let second: Result<(), _> = second.wait();
-    assert_eq!(
-        second.unwrap_err().to_string(),
-        "the job panicked: no answer"
-    );
+    let said = second.unwrap_err().to_string();
+    assert_eq!(said, "the job panicked: no answer");
     assert_eq!(log.take(), ["p finished", "p started", "p panicked"]);
     assert_eq!(log.take_times().len(), 4);
     Ok(())

@@ -203,10 +203,8 @@ fn a_panic_beside_a_job_that_waits_for_its_caller_is_told() -> Checked {
         panic!("{} jobs", u32::from(job.is_ok()))
     });
     let panic = joined(caller)?.expect_err("it panics");
-    assert_eq!(
-        panic.downcast_ref::<String>().map(String::as_str),
-        Some("1 jobs")
-    );
+    let message = panic.downcast_ref::<String>().map(String::as_str);
+    assert_eq!(message, Some("1 jobs"));
     Ok(())
 }
 

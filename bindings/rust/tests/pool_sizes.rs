@@ -176,8 +176,9 @@ fn a_stack_that_cannot_be_had_is_a_thread_that_cannot_be_started() -> Checked {
 #[test]
 fn a_pool_is_shown_by_its_numbers() -> Checked {
     let builder = ThreadPool::builder(1, 2).name("letters");
+    let shown = format!("{builder:?}");
     assert_eq!(
-        format!("{builder:?}"),
+        shown,
         "ThreadPoolBuilder { name: \"letters\", core: 1, max: 2, queue: 100, keep_alive: 20ms, stack_size: None, record: None }"
     );
     let shown = format!("{:?}", builder.open()?);

@@ -130,10 +130,8 @@ fn a_waker_that_panics_leaves_nobody_unwoken() -> Checked {
     }
     let raises = AssertUnwindSafe(|| backend.raise(3));
     assert!(catch_unwind(raises).is_err());
-    assert_eq!(
-        wakers.map(|waker| waker.woken.load(Ordering::SeqCst)),
-        [1; 3]
-    );
+    let woken = wakers.map(|waker| waker.woken.load(Ordering::SeqCst));
+    assert_eq!(woken, [1; 3]);
     assert!(row.iter_mut().all(|one| polled(one).is_some()));
     drop(row);
     assert!(is_idle(&backend));

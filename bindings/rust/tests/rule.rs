@@ -15,24 +15,18 @@ fn submissions_are_answered_by_the_rule() -> Result<(), PoolError> {
     let (Some(first), Some(third)) = (first, third) else {
         panic!("both have a worker");
     };
-    assert_eq!(
-        (first.id, first.work, first.origin),
-        (job(1), 10, Origin::OwnStart)
-    );
-    assert_eq!(
-        (third.id, third.work, third.origin),
-        (job(3), 30, Origin::OwnStart)
-    );
+    let told = (first.id, first.work, first.origin);
+    assert_eq!(told, (job(1), 10, Origin::OwnStart));
+    let told = (third.id, third.work, third.origin);
+    assert_eq!(told, (job(3), 30, Origin::OwnStart));
     assert_eq!(rule.pick(), None);
     let place = first.place + 2;
     let elsewhere = Picked { place, ..first };
     assert_eq!(rule.finish(&elsewhere), Err(PoolError::NotOut));
     rule.finish(&first)?;
     let second = rule.pick().ok_or(PoolError::NotOut)?;
-    assert_eq!(
-        (second.id, second.work, second.origin),
-        (job(2), 20, Origin::Queue)
-    );
+    let told = (second.id, second.work, second.origin);
+    assert_eq!(told, (job(2), 20, Origin::Queue));
     assert!(rule.close() && rule.is_closed());
     assert!(!rule.close());
     assert_eq!(rule.submit(job(5), 50)?, Reply::Closed);
@@ -75,10 +69,8 @@ fn refusals_change_nothing() -> Result<(), PoolError> {
     let mut rule = PoolRule::builder(1, 1).keep_events(9).open()?;
     assert_eq!(rule.submit(job(2), 0), Err(PoolError::WrongNumber));
     for caller in [0, 2] {
-        assert_eq!(
-            rule.submit(JobId { caller, number: 1 }, 0),
-            Err(PoolError::NoCaller)
-        );
+        let refused = rule.submit(JobId { caller, number: 1 }, 0);
+        assert_eq!(refused, Err(PoolError::NoCaller));
     }
     let stranger = Picked {
         id: job(1),
@@ -87,10 +79,8 @@ fn refusals_change_nothing() -> Result<(), PoolError> {
         origin: Origin::Queue,
     };
     assert_eq!(rule.finish(&stranger), Err(PoolError::NotOut));
-    assert_eq!(
-        (rule.pick(), rule.idle_end(), rule.event_count()),
-        (None, false, 0)
-    );
+    let told = (rule.pick(), rule.idle_end(), rule.event_count());
+    assert_eq!(told, (None, false, 0));
     Ok(())
 }
 

@@ -48,10 +48,8 @@ fn a_closed_pool_refuses_and_runs_what_waits() -> Checked {
     assert_eq!(second.wait()?, 2);
     pool.join();
     let numbers = pool.numbers();
-    assert_eq!(
-        (numbers.workers, numbers.accepted, numbers.refused),
-        (0, 2, 1)
-    );
+    let counts = (numbers.workers, numbers.accepted, numbers.refused);
+    assert_eq!(counts, (0, 2, 1));
     Ok(())
 }
 
@@ -94,10 +92,8 @@ fn a_panic_is_handed_back_and_the_worker_lives_on() -> Checked {
     };
     assert_eq!(panic.message(), Some("number 1"));
     let payload = panic.into_payload();
-    assert_eq!(
-        payload.downcast_ref::<String>().map(String::as_str),
-        Some("number 1")
-    );
+    let message = payload.downcast_ref::<String>().map(String::as_str);
+    assert_eq!(message, Some("number 1"));
     assert_eq!(pool.submit(|| thread::current().id())?.wait()?, worker);
     let odd = pool.submit(|| std::panic::panic_any(7))?.wait();
     assert_eq!(odd.unwrap_err().to_string(), "the job panicked");
@@ -198,11 +194,8 @@ fn waits_end_in_time() -> Checked {
     assert!(waits.join().unwrap_or(false));
     let job = pool.submit(|| 42)?;
     assert!(until(|| job.is_finished()));
-    assert_eq!(
-        job.wait_for(Duration::ZERO)
-            .map_err(|_| "it is finished")??,
-        42
-    );
+    let answer = job.wait_for(Duration::ZERO);
+    assert!(matches!(answer, Ok(Ok(42))));
     Ok(())
 }
 

@@ -172,10 +172,8 @@ impl Load {
                 (accepted, sum("idle", "")),
                 (finished, sum("submit", "core,,") + sum("submit", "extra,,"))
             );
-            assert_eq!(
-                sum("submit", ""),
-                self.counted.submitted.load(Ordering::SeqCst)
-            );
+            let submitted = sum("submit", "");
+            assert_eq!(submitted, self.counted.submitted.load(Ordering::SeqCst));
             assert_eq!(refused, self.counted.refused.load(Ordering::SeqCst));
             assert_eq!(sum("submit", "full,,") + sum("submit", "closed,,"), refused);
             assert_eq!(sum("finish", ""), finished);

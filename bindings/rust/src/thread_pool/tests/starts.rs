@@ -42,10 +42,8 @@ fn without_a_thread_the_submitter_runs_the_job() -> Result<(), Box<dyn Error>> {
         assert_eq!((job.reply(), job.wait()?), (reply, thread::current().id()));
     }
     let numbers = pool.numbers();
-    assert_eq!(
-        (numbers.workers, numbers.accepted, numbers.finished),
-        (1, 2, 2)
-    );
+    let counts = (numbers.workers, numbers.accepted, numbers.finished);
+    assert_eq!(counts, (1, 2, 2));
     pool.close();
     pool.join();
     Ok(())
@@ -83,10 +81,8 @@ fn the_next_submission_tries_again() -> Result<(), Box<dyn Error>> {
     let pool = builder(2, 2).open()?;
     allow(0);
     for _ in 0..2 {
-        assert_eq!(
-            pool.submit(|| thread::current().id())?.wait()?,
-            thread::current().id()
-        );
+        let by = pool.submit(|| thread::current().id())?.wait()?;
+        assert_eq!(by, thread::current().id());
     }
     allow(2);
     let both = Arc::new(Barrier::new(2));
@@ -208,10 +204,8 @@ fn a_submitter_is_the_last_of_a_closed_pool() -> Result<(), Box<dyn Error>> {
         thread::yield_now();
     }
     let numbers = pool.numbers();
-    assert_eq!(
-        (numbers.workers, numbers.running, numbers.waiting),
-        (1, 1, 0)
-    );
+    let counts = (numbers.workers, numbers.running, numbers.waiting);
+    assert_eq!(counts, (1, 1, 0));
     drop(open);
     let answer = submitter.join().map_err(|_| "it panicked")?;
     assert_eq!(answer, Ok(()));
