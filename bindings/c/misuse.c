@@ -4,15 +4,7 @@
 #include "resil_pool.h"
 #include "resil_retry.h"
 
-#include <stdio.h>
-
-static int failed;
-
-static void holds(int so, const char *what) {
-    if (so) return;
-    printf("misuse: %s\n", what);
-    failed++;
-}
+#include "holds.h"
 
 /* Each call of an empty pool, or with a null pointer, answers RESIL_EMPTY or 0, and leaves all as it was. */
 static void of_no_pool(resil_pool pool, resil_pool *back) {

@@ -3,15 +3,12 @@
 #include "resil_pool.h"
 #include "resil_retry.h"
 
-#include <stdio.h>
+#include "holds.h"
+
 #include <string.h>
 
-static int failed;
-
 static void is(const char *name, const char *wanted) {
-    if (strcmp(name, wanted) == 0) return;
-    printf("names: %s, not %s\n", name, wanted);
-    failed++;
+    holds(strcmp(name, wanted) == 0, wanted);
 }
 
 static void of_permits(void) {

@@ -4,11 +4,11 @@
 
 #include "resil_permit.h"
 
+#include "holds.h"
+
 #include <pthread.h>
 #include <sched.h>
 #include <stdatomic.h>
-#include <stdbool.h>
-#include <stdio.h>
 #include <stdlib.h>
 #include <time.h>
 
@@ -62,16 +62,11 @@ static void *retires_and_raises(void *given) {
     return 0;
 }
 
-static int told(bool holds, const char *what) {
-    if (!holds) printf("permit_stress: %s\n", what);
-    return holds ? 0 : 1;
-}
-
 int main(int count, char **words) {
     if (count > 1) end = time(0) + atoi(words[1]);
     resil_permit_pass passes[THREADS + 1] = {{0}};
     pthread_t threads[THREADS + 1];
-    int failed = told(resil_permit_new(65536, &passes[0]) == RESIL_PERMIT_TOO_MANY, "65,536 permits were made");
+    holds(resil_permit_new(65536, &passes[0]) == RESIL_PERMIT_TOO_MANY, "65,536 permits were made");
     if (resil_permit_new(PERMITS, &passes[0]) != RESIL_PERMIT_MADE) return 1;
     for (int i = 1; i <= THREADS; i++)
         if (resil_permit_split(passes[0], &passes[0], &passes[i]) != RESIL_PERMIT_MADE) return 1;
@@ -81,16 +76,14 @@ int main(int count, char **words) {
         if (pthread_create(&threads[i], 0, part, &passes[i]) != 0) return 1;
     }
     for (int i = 0; i <= THREADS; i++) pthread_join(threads[i], 0);
-    failed += told(most <= PERMITS, "more were inside than there are permits");
-    failed += told(entered > 0, "nobody entered");
-    failed += told(crowded == 0, "more were inside than were in use");
-    failed += told(wrong == 0, "a permit was not given back, retired or raised");
-    failed += told(resil_permit_available(passes[0], &passes[0]) == PERMITS, "not all permits came back");
-    failed += told(!resil_permit_exit(&passes[1]), "a permit was given back that was not held");
-    uint8_t retired = resil_permit_retire(passes[1], &passes[1]);
-    failed += told(retired == RESIL_PERMIT_NONE, "a permit was retired that was not held");
-    uint8_t raised = resil_permit_raise(passes[1], &passes[1]);
-    failed += told(raised == RESIL_PERMIT_NONE, "a permit was raised that was not retired");
+    holds(most <= PERMITS, "more were inside than there are permits");
+    holds(entered > 0, "nobody entered");
+    holds(crowded == 0, "more were inside than were in use");
+    holds(wrong == 0, "a permit was not given back, retired or raised");
+    holds(resil_permit_available(passes[0], &passes[0]) == PERMITS, "not all permits came back");
+    holds(!resil_permit_exit(&passes[1]), "a permit was given back that was not held");
+    holds(resil_permit_retire(passes[1], &passes[1]) == RESIL_PERMIT_NONE, "a permit was retired that was not held");
+    holds(resil_permit_raise(passes[1], &passes[1]) == RESIL_PERMIT_NONE, "a permit was raised that was not retired");
     for (int i = 0; i <= THREADS; i++) resil_permit_free(passes[i]);
     return failed == 0 ? 0 : 1;
 }

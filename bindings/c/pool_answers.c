@@ -1,15 +1,7 @@
 /* Each answer of a pool that is a refusal, and that the numbers stay what they are then. */
 #include "resil_pool.h"
 
-#include <stdio.h>
-
-static int failed;
-
-static void holds(int so, const char *what) {
-    if (so) return;
-    printf("pool_answers: %s\n", what);
-    failed++;
-}
+#include "holds.h"
 
 static resil_pool_counts numbers(resil_pool *pool) {
     resil_pool_counts counts = {0};

@@ -1,15 +1,7 @@
 /* The waits of a retry: what is made and what is refused, and the waits after each attempt. */
 #include "resil_retry.h"
 
-#include <stdio.h>
-
-static int failed;
-
-static void holds(int so, const char *what) {
-    if (so) return;
-    printf("retry_waits: %s\n", what);
-    failed++;
-}
+#include "holds.h"
 
 /* What is refused, the first refusal where there are several; nothing is written then. */
 static void refusals(void) {
