@@ -1,7 +1,7 @@
 //! A bulkhead and its passes, by one thread and by many.
 mod common;
 
-use common::Checked;
+use common::{Checked, elsewhere};
 use resil::pass::Pass;
 use resil::{Bulkhead, BulkheadError, Full, NoPermit, OwnedPermit};
 use std::panic::{AssertUnwindSafe, catch_unwind};
@@ -77,9 +77,7 @@ fn an_owned_permit_keeps_its_bulkhead() -> Checked {
     let backend = Arc::new(Bulkhead::new("backend", 1)?);
     let permit = backend.enter_owned()?;
     assert_eq!(backend.enter_owned().err(), Some(Full));
-    thread::spawn(move || drop(permit))
-        .join()
-        .map_err(|_| "it panicked")?;
+    elsewhere(move || drop(permit))?;
     let permit = backend.enter_owned_within(Duration::ZERO)?;
     assert_eq!(backend.enter_owned_within(Duration::ZERO).err(), Some(Full));
     drop(backend);
@@ -184,8 +182,7 @@ fn a_permit_that_is_forgotten_is_held_for_good() -> Checked {
         for (forgotten, index) in order.into_iter().enumerate() {
             let permit = permits[index].take().ok_or("there is one")?;
             if forgotten == 1 {
-                let forgets = thread::spawn(move || permit.forget());
-                forgets.join().map_err(|_| "it panicked")?;
+                elsewhere(move || permit.forget())?;
             } else {
                 permit.forget();
             }

@@ -1,7 +1,7 @@
 //! How a pool of threads ends: joins, closes, drops and panics, and who may be the last to have it.
 mod common;
 
-use common::{Checked, PATIENCE, gated, in_time, until, wait_at};
+use common::{Checked, PATIENCE, elsewhere, gated, in_time, until, wait_at};
 use resil::{JobError, JobHandle, ThreadPool};
 use std::cell::RefCell;
 use std::error::Error;
@@ -231,9 +231,7 @@ fn what_has_not_begun_comes_back() -> Checked {
 
     // The last is run elsewhere, the third by nobody, the second without a handle, and the first here.
     let last = back.pop().ok_or("there is none")?;
-    thread::spawn(move || last.run())
-        .join()
-        .map_err(|_| "it panicked")?;
+    elsewhere(move || last.run())?;
     let (number, thread, token_of_last) = jobs.pop().ok_or("there is none")?.wait()?;
     assert!(number == 4 && thread != thread::current().id());
     drop(token_of_last);

@@ -105,29 +105,19 @@ fn a_registry_is_shown_by_its_names() -> Checked {
 
 #[test]
 fn the_errors_say_what_the_library_says() {
+    use RegistryError::{BadName, Memory, NameTaken, NoSuchConfig, ReservedName};
+    let name = "a name is 1 to 64 bytes of ASCII letters, digits, `-`, `_` and `.`";
     let said = [
-        (
-            RegistryError::ReservedName,
-            "the name `default` is reserved",
-        ),
-        (
-            RegistryError::NoSuchConfig,
-            "no configuration has that name",
-        ),
-        (
-            RegistryError::NameTaken,
-            "a configuration has that name already",
-        ),
-        (
-            RegistryError::BadName,
-            "a name is 1 to 64 bytes of ASCII letters, digits, `-`, `_` and `.`",
-        ),
-        (RegistryError::Memory, "out of memory"),
+        (ReservedName, "the name `default` is reserved"),
+        (NoSuchConfig, "no configuration has that name"),
+        (NameTaken, "a configuration has that name already"),
+        (BadName, name),
+        (Memory, "out of memory"),
     ];
     for (error, words) in said {
         assert_eq!(error.to_string(), words);
     }
-    assert_eq!(BulkheadError::BadName.to_string(), said[3].1);
+    assert_eq!(BulkheadError::BadName.to_string(), name);
 }
 
 #[test]

@@ -25,41 +25,6 @@ fn tried<T>(
 }
 
 #[test]
-fn an_answer_is_given_at_once() {
-    assert_eq!(tried(Retry::new(), |_| Ok(7)), (Ok(7), 1, vec![]));
-}
-
-#[test]
-fn errors_are_retried_while_attempts_are_left() {
-    let failing = |_| Err::<(), _>("no");
-    assert_eq!(tried(Retry::new(), failing), (Err("no"), 3, vec![500; 2]));
-    let once = Retry::default().attempts(1);
-    assert_eq!(tried(once, failing), (Err("no"), 1, vec![]));
-    let second = |call| if call == 2 { Ok(call) } else { Err("no") };
-    assert_eq!(tried(Retry::new(), second), (Ok(2), 2, vec![500]));
-}
-
-#[test]
-fn a_test_says_which_errors_and_values_are_retried() {
-    let calls = Cell::new(0);
-    let retry = Retry::new()
-        .pause_by(|_| ())
-        .retry_if(|error: &&str| *error != "gone")
-        .retry_value_if(|value: &i32| *value < 0);
-    let call = |outcome: Result<i32, &'static str>| {
-        calls.set(0);
-        let answer = retry.call(|| {
-            calls.set(calls.get() + 1);
-            outcome
-        });
-        assert_eq!(answer, outcome);
-        calls.get()
-    };
-    assert_eq!([call(Err("busy")), call(Err("gone"))], [3, 1]);
-    assert_eq!([call(Ok(-1)), call(Ok(0))], [3, 1]);
-}
-
-#[test]
 fn the_last_test_of_a_kind_counts() {
     let retry = Retry::new()
         .pause_by(|_| ())

@@ -1,7 +1,7 @@
 //! A pool of threads: its answers, its numbers, its ends, and what is done to it by mistake.
 mod common;
 
-use common::{Checked, PATIENCE, all_gated, end, gated, in_time, until, wait_at};
+use common::{Checked, PATIENCE, end, gated, in_time, until, wait_at};
 use resil::{JobError, JobHandle, PoolError, PoolNumbers, Refusal, Reply, ThreadPool};
 use std::error::Error;
 use std::panic::{RefUnwindSafe, UnwindSafe};
@@ -261,20 +261,6 @@ fn numbers_tell_the_sizes_and_the_jobs() -> Checked {
         ..wanted
     };
     assert_eq!(pool.numbers(), wanted);
-    Ok(())
-}
-
-#[test]
-fn idle_threads_above_the_core_end() -> Checked {
-    let pool = ThreadPool::builder(1, 3)
-        .queue(1)
-        .keep_alive(Duration::from_millis(2))
-        .open()?;
-    let jobs = all_gated(&pool, 4)?;
-    assert_eq!(pool.numbers().workers, 3);
-    jobs.into_iter().try_for_each(end)?;
-    assert!(until(|| pool.numbers().workers == 1));
-    assert_eq!(pool.submit(|| 42)?.wait()?, 42);
     Ok(())
 }
 

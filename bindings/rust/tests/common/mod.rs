@@ -67,6 +67,11 @@ pub fn in_time<T>(job: JobHandle<T>) -> Result<T, Box<dyn Error>> {
     Ok(job.wait_for(PATIENCE).map_err(|_| "a job isn't run")??)
 }
 
+/// What this gives on another thread.
+pub fn elsewhere<T: Send + 'static>(f: impl FnOnce() -> T + Send + 'static) -> Result<T, String> {
+    thread::spawn(f).join().map_err(|_| "it panicked".into())
+}
+
 /// Wakes the thread that made it, and counts how often.
 pub struct Caller {
     thread: Thread,
