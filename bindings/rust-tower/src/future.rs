@@ -10,22 +10,6 @@ pin_project! {
     /// The answer of a call, or why there is none.
     ///
     /// It holds the permit from `call` on, polled or not, and gives it back before it is ready, or when it is dropped.
-    ///
-    /// ```
-    /// use resil::Bulkhead;
-    /// use resil_tower::BulkheadLayer;
-    /// use std::{future, sync::Arc};
-    /// use tower::{Layer, Service, service_fn};
-    ///
-    /// let backend = Arc::new(Bulkhead::new("backend", 1)?);
-    /// let hangs = service_fn(|_: ()| future::pending::<Result<(), String>>());
-    /// let mut hangs = BulkheadLayer::new(Arc::clone(&backend)).layer(hangs);
-    /// let answer = hangs.call(());
-    /// assert_eq!(backend.available(), 0);
-    /// drop(answer);
-    /// assert_eq!(backend.available(), 1);
-    /// # Ok::<(), resil::BulkheadError>(())
-    /// ```
     #[derive(Debug)]
     #[must_use = "a future that isn't polled has no answer, and holds its permit"]
     pub struct ResponseFuture<F> {

@@ -29,27 +29,6 @@ impl BulkheadLayer {
     /// **What is ready keeps its permit, whether a call follows or not.** A server of hyper asks whether its service is ready before
     /// it reads a request, so that idle connections take all permits, and nobody else is served; and tower's `Timeout` outside
     /// doesn't bound this wait. Behind a server [`queueing`](BulkheadLayer::queueing) is the one to take.
-    ///
-    /// ```
-    /// use resil_tower::BulkheadLayer;
-    /// use std::{convert::Infallible, sync::Arc, time::Duration};
-    /// use tower::{BoxError, Service, ServiceBuilder, ServiceExt, service_fn};
-    ///
-    /// # #[tokio::main(flavor = "current_thread")]
-    /// # async fn main() -> Result<(), BoxError> {
-    /// let backend = Arc::new(resil::Bulkhead::new("backend", 1)?);
-    /// let mut answers = ServiceBuilder::new()
-    ///     .layer(BulkheadLayer::waiting(Arc::clone(&backend)))
-    ///     .service(service_fn(async |number: u32| Ok::<u32, Infallible>(number + 1)));
-    ///
-    /// let permit = backend.enter()?;
-    /// let limit = Duration::from_millis(5);
-    /// assert!(tokio::time::timeout(limit, answers.ready()).await.is_err());
-    /// drop(permit);
-    /// assert_eq!(answers.ready().await?.call(41).await?, 42);
-    /// # Ok(())
-    /// # }
-    /// ```
     pub fn waiting(bulkhead: Arc<Bulkhead>) -> BulkheadLayer {
         BulkheadLayer {
             bulkhead,

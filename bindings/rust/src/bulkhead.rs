@@ -237,18 +237,6 @@ impl Bulkhead {
 
     /// Closes the bulkhead for good. Who waits for a permit is told so at once, and so is whoever asks later: `Closed`. Who has a
     /// permit, or was given one already, gives it back as ever.
-    ///
-    /// ```
-    /// use resil::{Bulkhead, Closed};
-    ///
-    /// let backend = Bulkhead::new("backend", 2)?;
-    /// let permit = backend.enter()?;
-    /// backend.close();
-    /// assert_eq!(backend.call(|| 42), Err(Closed));
-    /// drop(permit);
-    /// assert_eq!((backend.is_closed(), backend.available()), (true, 2));
-    /// # Ok::<(), Box<dyn std::error::Error>>(())
-    /// ```
     pub fn close(&self) {
         let mut row = locked(&self.gate);
         self.is_closed.store(true, Ordering::SeqCst);

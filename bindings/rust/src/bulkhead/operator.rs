@@ -12,17 +12,6 @@ impl Bulkhead {
     /// Retires as many free permits as there are, at most so many, and says how many. They aren't in use until they are
     /// raised again. It waits for no permit that is held, and other calls come in between. While tasks wait there may be none for
     /// long, since a permit that is given back goes from hand to hand: see [`shrink`](Bulkhead::shrink).
-    ///
-    /// ```
-    /// let backend = resil::Bulkhead::new("backend", 3)?;
-    /// let permit = backend.enter()?;
-    /// assert_eq!(backend.retire(3), 2);
-    /// assert_eq!((backend.available(), backend.retired(), backend.max()), (0, 2, 3));
-    /// drop(permit);
-    /// assert_eq!(backend.raise(3), 2);
-    /// assert_eq!((backend.available(), backend.retired()), (3, 0));
-    /// # Ok::<(), Box<dyn std::error::Error>>(())
-    /// ```
     pub fn retire(&self, count: u32) -> u32 {
         // What is free belongs to what is owed.
         let one = |row: &mut Row| row.owed == 0 && self.retire_one(row);
@@ -36,18 +25,6 @@ impl Bulkhead {
     /// Takes so many permits out of use, also while others wait: it retires those that are free, says how many, and owes the
     /// rest, at most as many as are held. A permit that is given back is retired as long as one is owed, before anybody who waits
     /// has it. One that is [forgotten](crate::OwnedPermit::forget) never is.
-    ///
-    /// ```
-    /// use std::sync::Arc;
-    ///
-    /// let backend = Arc::new(resil::Bulkhead::new("backend", 3)?);
-    /// let permits = [backend.enter()?, backend.enter()?];
-    /// assert_eq!(backend.shrink(2), 1);
-    /// assert_eq!((backend.retired(), backend.owed()), (1, 1));
-    /// drop(permits);
-    /// assert_eq!((backend.retired(), backend.owed(), backend.available()), (2, 0, 1));
-    /// # Ok::<(), Box<dyn std::error::Error>>(())
-    /// ```
     pub fn shrink(&self, count: u32) -> u32 {
         let mut row = locked(&self.gate);
         let owes = count.min(self.max - row.retired() - row.owed);
