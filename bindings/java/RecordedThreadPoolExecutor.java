@@ -19,19 +19,13 @@ import java.util.regex.Pattern;
  * one, waits for one or has left, and so do shutdowns and changes of sizes. Times are microseconds since the pool was made, and never go
  * back. Tasks and rejection handlers run without the lock; a thread factory runs under it, and must not wait for the pool.
  *
- * <p><b>Files.</b> {@code NAME-00001.csv} and so on, behind those of earlier runs, each below a mebibyte. Each is judged and drawn alone: it
- * begins with events that make the state in which the pool was, all at the moment of the seam, and its head says how many they are. A file
- * ends where it is full, and where something happens that a history has no event for, which the next head names: a thread starts without a
- * task (prestart, a raised core size); one above a lowered maximum size ends while tasks wait; a queued task goes without a thread
- * ({@code remove}, {@code purge}, {@code shutdownNow}, {@link ThreadPoolExecutor.DiscardOldestPolicy}, other hands on {@link #getQueue}); the
- * maximum size is raised above all before it in the file; a thread can't be made.
+ * <p><b>Files.</b> {@code NAME-00001.csv} and so on, behind those of earlier runs. Each is judged and drawn alone: it begins with events that
+ * make the state in which the pool was. Resil's RECORDING.md tells when one ends, and what recording costs. Events are written under the lock.
+ * Where a file can't be written, or more than some 15,000 tasks wait at a seam, the record ends and the pool goes on; {@link #endRecord} tells
+ * why.
  *
  * <p><b>What isn't.</b> Which thread runs a task; that a thread whose task threw is replaced; that a future was cancelled, which still runs
  * and finishes at once; what a handler does. Callers are threads, the first 1,000 by numbers of their own, all others by one.
- *
- * <p><b>What it costs.</b> One lock for the whole pool, and one or two microseconds of processor time a task. Events are written under the lock,
- * when there are 8 KB, by the first one more than a second after the last write, and at the pool's end. Where a file can't be written, or
- * more than some 15,000 tasks wait at a seam, the record ends and the pool goes on; {@link #endRecord} tells why.
  */
 public final class RecordedThreadPoolExecutor extends ThreadPoolExecutor {
     private static final int LIMIT = 1_000_000, CHUNK = 8192; // bytes of a file, and of what is gathered before a write
