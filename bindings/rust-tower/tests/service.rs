@@ -1,63 +1,23 @@
 //! What the service answers, with futures that are polled by hand.
 mod common;
 
-use common::{context, polled};
+use common::{Answers, context, polled};
 use resil::{Bulkhead, BulkheadError};
-use resil_tower::{BulkheadLayer, BulkheadService, CallError};
-use std::cell::Cell;
-use std::future::{self, Ready};
-use std::rc::Rc;
+use resil_tower::{BulkheadLayer, CallError};
+use std::future;
 use std::sync::Arc;
-use std::task::{Context, Poll};
+use std::task::Poll;
 use std::time::Duration;
 use tower::{BoxError, Layer, Service, ServiceBuilder, ServiceExt, service_fn};
 
-type Answer = Result<u32, &'static str>;
-
-// A service that gives the answer that it is called with. The test says whether it is ready.
-#[derive(Clone)]
-struct Backend {
-    ready: Rc<Cell<Poll<Result<(), &'static str>>>>,
-    calls: Rc<Cell<u32>>,
-}
-
-impl Service<Answer> for Backend {
-    type Response = u32;
-    type Error = &'static str;
-    type Future = Ready<Answer>;
-
-    fn poll_ready(&mut self, _: &mut Context<'_>) -> Poll<Result<(), &'static str>> {
-        self.ready.get()
-    }
-
-    fn call(&mut self, answer: Answer) -> Ready<Answer> {
-        self.calls.set(self.calls.get() + 1);
-        future::ready(answer)
-    }
-}
-
-// A backend that is ready, and its bulkhead with so many permits.
-fn guarded(max: u32) -> Result<(Arc<Bulkhead>, Backend, BulkheadService<Backend>), BulkheadError> {
-    let bulkhead = Arc::new(Bulkhead::new("backend", max)?);
-    let backend = Backend {
-        ready: Rc::new(Cell::new(Poll::Ready(Ok(())))),
-        calls: Rc::new(Cell::new(0)),
-    };
-    let service = BulkheadLayer::new(Arc::clone(&bulkhead)).layer(backend.clone());
-    Ok((bulkhead, backend, service))
-}
-
 #[test]
 fn it_is_ready_as_the_inner_service_is() -> Result<(), BulkheadError> {
+    let failed = CallError::Failed("no route");
+    let looked = [Poll::Ready(Ok(())), Poll::Ready(Err(failed)), Poll::Pending];
     for max in [0, 1] {
-        let (bulkhead, backend, mut service) = guarded(max)?;
-        for ready in [
-            Poll::Pending,
-            Poll::Ready(Ok(())),
-            Poll::Ready(Err("the backend has gone")),
-        ] {
-            backend.ready.set(ready);
-            let wanted = ready.map_err(CallError::Failed);
+        let bulkhead = Arc::new(Bulkhead::new("backend", max)?);
+        for (looks, wanted) in (0..).zip(looked) {
+            let mut service = BulkheadLayer::new(Arc::clone(&bulkhead)).layer(Answers { looks });
             assert_eq!(service.poll_ready(&mut context()), wanted);
         }
         assert_eq!(bulkhead.available(), max);
@@ -67,14 +27,16 @@ fn it_is_ready_as_the_inner_service_is() -> Result<(), BulkheadError> {
 
 #[test]
 fn a_refused_call_does_not_reach_the_inner_service() -> Result<(), Box<dyn std::error::Error>> {
-    let (bulkhead, backend, mut service) = guarded(2)?;
+    let bulkhead = Arc::new(Bulkhead::new("backend", 2)?);
+    let mut service = BulkheadLayer::new(Arc::clone(&bulkhead)).layer(Answers { looks: 0 });
     let permits = [bulkhead.enter()?, bulkhead.enter()?];
-    let refused = service.call(Ok(42));
+    // The inner service would panic.
+    let refused = service.call(1);
     // It was refused when it was made: a permit that is given back later doesn't change it.
     drop(permits);
     assert_eq!(polled(refused), Poll::Ready(Err(CallError::Full)));
-    assert_eq!((backend.calls.get(), bulkhead.available()), (0, 2));
-    assert_eq!(polled(service.call(Ok(42))), Poll::Ready(Ok(42)));
+    assert_eq!(bulkhead.available(), 2);
+    assert_eq!(polled(service.call(42)), Poll::Ready(Ok(42)));
     Ok(())
 }
 

@@ -24,8 +24,7 @@ pub fn main() -> Result<(), Box<dyn Error>> {
     assert_eq!(backend.raise(1), 1);
     assert_eq!(backend.call(|| "answer"), Ok("answer"));
     println!(
-        "{} has {} of {} permits free",
-        backend.name(),
+        "{} of {} permits are free",
         backend.available(),
         backend.max()
     );

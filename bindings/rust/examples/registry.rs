@@ -22,12 +22,6 @@ pub fn main() -> Result<(), Box<dyn Error>> {
     assert_eq!(refused, Some(RegistryError::NoSuchConfig));
     let refused = registry.add_config("small", 3);
     assert_eq!(refused, Err(RegistryError::NameTaken));
-    println!(
-        "{} has {} permits, and {} has {}",
-        prices.name(),
-        prices.max(),
-        letters.name(),
-        letters.max()
-    );
+    println!("{} is kept beside {}", prices.name(), letters.name());
     Ok(())
 }

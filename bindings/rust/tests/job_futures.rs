@@ -1,26 +1,15 @@
 //! Jobs of a pool as futures.
 mod common;
 
-use common::{Caller, Checked, PATIENCE, block_on, in_time, poll_by, wait_at};
+use common::{Caller, Checked, PATIENCE, block_on, gated, in_time, poll_by};
 use resil::{JobHandle, ThreadPool};
 use std::error::Error;
 use std::panic::{AssertUnwindSafe, catch_unwind};
 use std::pin::Pin;
 use std::sync::Arc;
-use std::sync::mpsc::{self, Sender};
 use std::task::{Context, Wake, Waker};
 use std::thread;
 use std::time::Duration;
-
-// A job that ends once its gate is dropped.
-fn gated(pool: &ThreadPool) -> Result<(Sender<()>, JobHandle<u32>), Box<dyn Error>> {
-    let (gate, closed) = mpsc::channel();
-    let handle = pool.submit(move || {
-        wait_at(&closed);
-        42
-    })?;
-    Ok((gate, handle))
-}
 
 #[test]
 fn answers_are_awaited() -> Checked {
@@ -46,7 +35,7 @@ fn the_last_who_polled_is_woken() -> Checked {
     pool.close();
     pool.join();
     assert_eq!((first.woken(), second.woken()), (0, 1));
-    assert!(matches!(poll_by(&mut job, &first), Some(Ok(42))));
+    assert!(matches!(poll_by(&mut job, &first), Some(Ok(()))));
     assert_eq!((first.woken(), second.woken()), (0, 1));
     Ok(())
 }
@@ -61,8 +50,7 @@ fn a_job_that_was_polled_is_waited_for() -> Checked {
     let mut job = job.expect_err("the gate is closed");
     assert!(poll_by(&mut job, &caller).is_none());
     drop(gate);
-    assert_eq!(in_time(job)?, 42);
-    Ok(())
+    in_time(job)
 }
 
 #[test]
@@ -120,7 +108,7 @@ fn a_waker_that_panics_leaves_the_worker() -> Checked {
     let mut context = Context::from_waker(&waker);
     assert!(Pin::new(&mut job).poll(&mut context).is_pending());
     drop(gate);
-    assert_eq!(job.wait()?, 42);
+    job.wait()?;
     let (gate, mut job) = gated(&pool)?;
     assert!(Pin::new(&mut job).poll(&mut context).is_pending());
     drop(gate);

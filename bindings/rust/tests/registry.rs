@@ -41,6 +41,8 @@ fn a_refused_call_leaves_the_registry_as_it_was() -> Checked {
     let refused = registry.bulkhead_with("a", "none").err();
     assert_eq!(refused, Some(RegistryError::NoSuchConfig));
     assert_eq!(registry.bulkhead_with("a", "small")?.max(), 2);
+    // Where there is one, the configuration isn't looked up.
+    assert_eq!(registry.bulkhead_with("a", "none")?.max(), 2);
     let said = RegistryError::TooManyPermits.to_string();
     assert_eq!(said, "there are more than 65535 permits");
     Ok(())

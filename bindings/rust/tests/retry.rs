@@ -190,6 +190,8 @@ fn waits_are_told_without_a_call() {
         assert!(250 * MS <= wait && wait <= 500 * MS);
     }
     assert_ne!(drawn.waits().next(), drawn.waits().next());
+    let drawn = Retry::new().attempts(9).jitter();
+    assert!(drawn.waits().any(|wait| wait < 500 * MS));
 }
 
 /// A future that is ready when it is polled the second time.

@@ -31,10 +31,6 @@ fn what_no_history_says_is_refused_at_the_opening() {
     };
     assert_eq!(refused(1, 1, 1, 0), Some(PoolError::RecordOutOfRange));
     assert_eq!(refused(1, 1, 1, 25_001), Some(PoolError::RecordOutOfRange));
-    assert_eq!(refused(0, 1, 1, 1), Some(PoolError::CoreOutOfRange));
-    assert_eq!(refused(1, 65, 1, 1), Some(PoolError::MaxOutOfRange));
-    assert_eq!(refused(1, 1, 0, 1), Some(PoolError::QueueOutOfRange));
-    assert_eq!(refused(1, 1, 65_537, 1), Some(PoolError::QueueOutOfRange));
     assert_eq!(refused(64, 64, 65_536, 25_000), None);
     let told = PoolError::RecordOutOfRange.to_string();
     assert_eq!(told, "the record is not for 1 to 25000 events");
