@@ -89,10 +89,12 @@ fn a_call_is_dropped_at_each_step() -> Checked {
 fn a_permit_is_kept_while_the_inner_service_is_not_ready() -> Checked {
     let backend = Arc::new(Bulkhead::new("backend", 1)?);
     // Dropped while it isn't ready, once it has failed, and behind a panic.
-    for looks in [2, 1, Answers::PANICS] {
+    for looks in [4, 3, Answers::PANICS + 2] {
         let mut service = BulkheadLayer::waiting(Arc::clone(&backend)).layer(Answers { looks });
+        assert!(service.poll_ready(&mut context()).is_pending());
+        assert_eq!(backend.available(), 0);
         let look = catch_unwind(AssertUnwindSafe(|| service.poll_ready(&mut context())));
-        assert_eq!(look.is_err(), looks == Answers::PANICS);
+        assert_eq!(look.is_err(), looks > Answers::PANICS);
         assert_eq!(backend.available(), 0);
         drop(service);
         assert!(is_idle(&backend));

@@ -22,8 +22,8 @@ pub struct Answers {
 }
 
 impl Answers {
-    /// In place of a number of looks: the first one panics.
-    pub const PANICS: u32 = u32::MAX;
+    /// With so many looks to go the next one panics.
+    pub const PANICS: u32 = 1 << 31;
 }
 
 impl Service<u32> for Answers {
