@@ -1,4 +1,4 @@
-//! The rule of a pool. Its histories are those of the program's cases, in `replay.rs`.
+//! The rule of a pool, whose answers are proved of the library: that each call, each answer and each event is the one that is meant.
 use resil::rule::{Event, JobId, Origin, Picked, PoolError, PoolRule, Reply};
 
 fn job(number: u64) -> JobId {
@@ -27,6 +27,7 @@ fn submissions_are_answered_by_the_rule() -> Result<(), PoolError> {
     let second = rule.pick().ok_or(PoolError::NotOut)?;
     let told = (second.id, second.work, second.origin);
     assert_eq!(told, (job(2), 20, Origin::Queue));
+    rule.resize(1, 2)?;
     assert!(rule.close() && rule.is_closed());
     assert!(!rule.close());
     assert_eq!(rule.submit(job(5), 50)?, Reply::Closed);
@@ -40,6 +41,7 @@ fn submissions_are_answered_by_the_rule() -> Result<(), PoolError> {
         Event::Submit(job(4), Reply::Full),
         Event::Finish(job(1)),
         Event::Take(job(2)),
+        Event::Resized { core: 1, max: 2 },
         Event::Close,
         Event::Submit(job(5), Reply::Closed),
         Event::Finish(job(2)),
