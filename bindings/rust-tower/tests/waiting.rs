@@ -109,20 +109,6 @@ fn a_permit_is_kept_while_the_inner_service_is_not_ready() -> Checked {
 }
 
 #[test]
-fn an_answer_that_is_there_holds_no_permit() -> Checked {
-    let (backend, mut service) = waiting(1)?;
-    assert!(is_ready(&mut service));
-    let mut call = Box::pin(service.call(7));
-    assert!(matches!(polled(call.as_mut()), Poll::Ready(Ok(7))));
-    // The future is still there, and so is the service.
-    assert_eq!(backend.available(), 1);
-    assert!(is_ready(&mut service));
-    drop(call);
-    assert_eq!(backend.available(), 0);
-    Ok(())
-}
-
-#[test]
 fn a_call_before_it_is_ready_panics() -> Checked {
     let (backend, mut service) = waiting(1)?;
     let early = AssertUnwindSafe(|| drop(service.call(7)));

@@ -137,32 +137,6 @@ fn the_waker_of_the_last_poll_is_woken() -> Checked {
     Ok(())
 }
 
-#[test]
-fn raised_permits_go_to_those_who_await() -> Checked {
-    let backend = Arc::new(Bulkhead::new("backend", 3)?);
-    assert_eq!(backend.retire(3), 3);
-    let mut row = [(); 3].map(|()| Awaited::standing(&backend).expect("none is in use"));
-    assert_eq!(backend.raise(2), 2);
-    let permits: Vec<_> = row.iter_mut().filter_map(Awaited::poll).collect();
-    assert_eq!((permits.len(), row[2].woken()), (2, 0));
-    assert_eq!((backend.raise(9), row[2].woken()), (1, 1));
-    drop(row);
-    drop(permits);
-    assert!(is_idle(&backend));
-    Ok(())
-}
-
-#[test]
-fn a_permit_that_is_awaited_keeps_its_bulkhead() -> Checked {
-    let backend = Arc::new(Bulkhead::new("backend", 1)?);
-    let permit = backend.enter_owned()?;
-    let mut awaited = Awaited::standing(&backend)?;
-    drop(backend);
-    drop(permit);
-    awaited.poll().ok_or("it has no permit")?.forget();
-    Ok(())
-}
-
 // A waker that can't be copied.
 fn waker_that_panics() -> Waker {
     static TABLE: RawWakerVTable = RawWakerVTable::new(clone, |_| {}, |_| {}, |_| {});

@@ -69,20 +69,8 @@ fn handles_cross_threads() {
     is_send::<resil::Permit<'_>>();
     is_send_and_sync::<OwnedPermit>();
     is_static::<OwnedPermit>();
+    is_static::<resil::Acquire>();
     is_send::<Pass>();
-}
-
-#[test]
-fn an_owned_permit_keeps_its_bulkhead() -> Checked {
-    let backend = Arc::new(Bulkhead::new("backend", 1)?);
-    let permit = backend.enter_owned()?;
-    assert_eq!(backend.enter_owned().err(), Some(Full));
-    elsewhere(move || drop(permit))?;
-    let permit = backend.enter_owned_within(Duration::ZERO)?;
-    assert_eq!(backend.enter_owned_within(Duration::ZERO).err(), Some(Full));
-    drop(backend);
-    drop(permit);
-    Ok(())
 }
 
 #[test]

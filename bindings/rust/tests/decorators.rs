@@ -55,17 +55,6 @@ fn a_panic_gives_the_permits_back() -> Checked {
     Ok(())
 }
 
-#[test]
-fn a_panic_in_a_fallback_gives_the_permits_back() -> Checked {
-    let backend = Bulkhead::new("backend", 1)?;
-    let mut chain = Decorators::of(|| Err::<u32, _>("no"))
-        .or_else(|_| panic!("out of paper"))
-        .inside(&backend);
-    assert!(catch_unwind(AssertUnwindSafe(|| chain.call())).is_err());
-    assert_eq!(backend.available(), 1);
-    Ok(())
-}
-
 fn called<L: Layer<Value = u32, Error = String>>(mut chain: Decorators<L>) -> Option<u32> {
     chain.call().ok()
 }
