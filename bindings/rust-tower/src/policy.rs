@@ -81,25 +81,6 @@ impl<S, Errors, Values, Pause> RetryPolicy<S, Errors, Values, Pause> {
 
 impl<S, Errors, Values, Pause, Cloning> RetryPolicy<S, Errors, Values, Pause, Cloning> {
     /// The same, which copies requests by this function, also those that aren't `Clone`. One that it doesn't copy is sent once.
-    ///
-    /// ```
-    /// use resil::Retry;
-    /// use resil_tower::RetryPolicy;
-    ///
-    /// // Of a body that streams nothing is left to be sent again.
-    /// struct Request {
-    ///     path: String,
-    ///     body: Option<Box<dyn std::io::Read>>,
-    /// }
-    ///
-    /// fn cloned(request: &Request) -> Option<Request> {
-    ///     let path = request.path.clone();
-    ///     request.body.is_none().then(|| Request { path, body: None })
-    /// }
-    ///
-    /// let policy = RetryPolicy::new(Retry::new(), tokio::time::sleep).cloning(cloned);
-    /// # drop(policy);
-    /// ```
     pub fn cloning<Request, C>(self, cloning: C) -> RetryPolicy<S, Errors, Values, Pause, C>
     where
         C: Fn(&Request) -> Option<Request>,
@@ -113,21 +94,6 @@ impl<S, Errors, Values, Pause, Cloning> RetryPolicy<S, Errors, Values, Pause, Cl
     }
 
     /// The wait before the next attempt of this call; none where the outcome is the answer.
-    ///
-    /// ```
-    /// use resil::Retry;
-    /// use resil_tower::RetryPolicy;
-    ///
-    /// # #[tokio::main(flavor = "current_thread", start_paused = true)]
-    /// # async fn main() {
-    /// let mut policy = RetryPolicy::new(Retry::new().attempts(2), tokio::time::sleep);
-    /// let failed: Result<&u32, &&str> = Err(&"busy");
-    /// if let Some(wait) = policy.again(failed) {
-    ///     wait.await;
-    /// }
-    /// assert!(policy.again(failed).is_none());
-    /// # }
-    /// ```
     pub fn again<T, E, F>(&mut self, outcome: Result<&T, &E>) -> Option<F>
     where
         S: Fn(Duration) -> F,

@@ -1,7 +1,7 @@
 //! The layer whose calls wait: nothing is held before a call, and at each step of one its future may be dropped.
 mod common;
 
-use common::{Answers, Checked, all_are_made, context, is_idle, polled};
+use common::{Answers, Checked, all_are_made, is_idle, polled};
 use resil::{Bulkhead, Observer};
 use resil_tower::{BulkheadLayer, CallError, QueueingService};
 use std::error::Error;
@@ -16,20 +16,6 @@ fn queueing(looks: u32) -> Result<(Arc<Bulkhead>, QueueingService<Answers>), Box
     let backend = Arc::new(Bulkhead::new("backend", 1)?);
     let service = BulkheadLayer::queueing(Arc::clone(&backend)).layer(Answers { looks });
     Ok((backend, service))
-}
-
-#[test]
-fn a_service_that_is_ready_holds_nothing() -> Checked {
-    let (backend, service) = queueing(0)?;
-    let mut copies = [(); 5].map(|()| service.clone());
-    for copy in &mut copies {
-        assert!(copy.poll_ready(&mut context()).is_ready());
-    }
-    // Nor does a call that wasn't polled.
-    let calls = copies.each_mut().map(|copy| copy.call(7));
-    assert!(is_idle(&backend));
-    drop(calls);
-    Ok(())
 }
 
 #[test]

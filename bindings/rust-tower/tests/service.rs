@@ -40,23 +40,6 @@ fn a_refused_call_does_not_reach_the_inner_service() -> Result<(), Box<dyn std::
     Ok(())
 }
 
-#[test]
-fn all_services_of_a_layer_share_its_permits() -> Result<(), BulkheadError> {
-    let bulkhead = Arc::new(Bulkhead::new("backend", 3)?);
-    let layer = BulkheadLayer::new(Arc::clone(&bulkhead));
-    let hangs = service_fn(|_: ()| future::pending::<Result<(), ()>>());
-    let mut first = layer.layer(hangs);
-    let mut second = layer.clone().layer(hangs);
-    let mut third = first.clone();
-    let calls = [first.call(()), second.call(()), third.call(())];
-    let refused = Poll::Ready(Err(CallError::Full));
-    assert_eq!(polled(first.call(())), refused);
-    assert_eq!(polled(second.call(())), refused);
-    drop(calls);
-    assert_eq!(bulkhead.available(), 3);
-    Ok(())
-}
-
 // The clock stands still while something can be done.
 #[tokio::test(start_paused = true)]
 async fn it_stands_between_layers_of_tower() -> Result<(), BoxError> {

@@ -4,7 +4,6 @@ use resil_tower::{BulkheadLayer, CallError};
 use std::convert::Infallible;
 use std::sync::Arc;
 use std::sync::atomic::{AtomicU32, Ordering};
-use std::time::Duration;
 use tokio::task::{self, JoinSet};
 use tower::{BoxError, Layer, Service, ServiceExt, service_fn};
 
@@ -81,26 +80,5 @@ async fn no_permit_is_lost_or_made() -> Result<(), BoxError> {
     assert_eq!(sums.iter().sum::<u64>(), TASKS * CALLS);
     assert!(sums.iter().all(|sum| *sum > 0), "{sums:?}");
     assert_eq!(bulkhead.available(), PERMITS);
-    Ok(())
-}
-
-#[tokio::test(flavor = "multi_thread", worker_threads = 4)]
-async fn tasks_that_panic_or_are_aborted_give_their_permits_back() -> Result<(), BoxError> {
-    let bulkhead = Arc::new(Bulkhead::new("backend", 64)?);
-    let layer = BulkheadLayer::new(Arc::clone(&bulkhead));
-    let hangs = layer.layer(service_fn(async |panics: bool| {
-        task::yield_now().await;
-        assert!(!panics, "the call panics");
-        std::future::pending::<Result<(), Infallible>>().await
-    }));
-    let mut tasks = JoinSet::new();
-    for number in 0..64 {
-        tasks.spawn(hangs.clone().oneshot(number % 2 == 0));
-    }
-    while bulkhead.available() != 32 {
-        tokio::time::sleep(Duration::from_millis(1)).await;
-    }
-    tasks.shutdown().await;
-    assert_eq!(bulkhead.available(), 64);
     Ok(())
 }
