@@ -12,34 +12,12 @@
 //! # Ok::<(), resil::BulkheadError>(())
 //! ```
 use crate::bulkhead::{BulkheadError, NoPermit};
-use std::ffi::c_void;
+use crate::library::{
+    Handle, resil_permit_available, resil_permit_free, resil_permit_leave, resil_permit_new,
+    resil_permit_raise, resil_permit_retire, resil_permit_retired, resil_permit_split,
+    resil_permit_try_once,
+};
 use std::fmt;
-use std::ptr;
-
-// As in include/resil_permit.h, with which tools/check_bindings compares these declarations.
-#[repr(C)]
-#[derive(Clone, Copy)]
-struct Handle {
-    at: *mut c_void,
-}
-
-impl Handle {
-    const EMPTY: Handle = Handle {
-        at: ptr::null_mut(),
-    };
-}
-
-unsafe extern "C" {
-    fn resil_permit_new(max: u32, out: *mut Handle) -> u8;
-    fn resil_permit_split(pass: Handle, back: *mut Handle, out: *mut Handle) -> u8;
-    fn resil_permit_try_once(pass: Handle, back: *mut Handle) -> u8;
-    fn resil_permit_leave(pass: Handle, back: *mut Handle) -> u8;
-    fn resil_permit_retire(pass: Handle, back: *mut Handle) -> u8;
-    fn resil_permit_raise(pass: Handle, back: *mut Handle) -> u8;
-    fn resil_permit_retired(pass: Handle, back: *mut Handle) -> u32;
-    fn resil_permit_available(pass: Handle, back: *mut Handle) -> u32;
-    fn resil_permit_free(pass: Handle);
-}
 
 const MADE: u8 = 0;
 const MEMORY: u8 = 1;

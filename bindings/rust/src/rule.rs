@@ -2,7 +2,7 @@
 mod error;
 mod event;
 
-use crate::pool::{
+use crate::library::{
     Handle, PoolCounts, PoolEvent, PoolJob, resil_pool_close, resil_pool_event,
     resil_pool_event_count, resil_pool_finish, resil_pool_free, resil_pool_idle_end,
     resil_pool_lost, resil_pool_new, resil_pool_numbers, resil_pool_pick, resil_pool_resize,

@@ -1,5 +1,5 @@
 //! What is told of a pool: jobs, replies, events and numbers.
-use crate::pool::{PoolCounts, PoolEvent, PoolJob};
+use crate::library::{PoolCounts, PoolEvent, PoolJob};
 
 /// The name of a job: its caller, and the number that the caller counts, from 1.
 #[derive(Debug, Clone, Copy, PartialEq, Eq, Hash)]

@@ -1,8 +1,8 @@
-//! The declarations of the static library's pool, which is the rule of a thread pool as a book of jobs.
+//! The declarations of the static library's permits and of its pool, which is the rule of a thread pool as a book of jobs.
 use std::ffi::c_void;
 use std::ptr;
 
-// As in include/resil_pool.h, with which tools/check_bindings compares these declarations.
+// As in include/, with which tools/check_bindings compares these declarations.
 #[repr(C)]
 #[derive(Clone, Copy)]
 pub struct Handle {
@@ -52,6 +52,15 @@ pub struct PoolEvent {
 }
 
 unsafe extern "C" {
+    pub fn resil_permit_new(max: u32, out: *mut Handle) -> u8;
+    pub fn resil_permit_split(pass: Handle, back: *mut Handle, out: *mut Handle) -> u8;
+    pub fn resil_permit_try_once(pass: Handle, back: *mut Handle) -> u8;
+    pub fn resil_permit_leave(pass: Handle, back: *mut Handle) -> u8;
+    pub fn resil_permit_retire(pass: Handle, back: *mut Handle) -> u8;
+    pub fn resil_permit_raise(pass: Handle, back: *mut Handle) -> u8;
+    pub fn resil_permit_retired(pass: Handle, back: *mut Handle) -> u32;
+    pub fn resil_permit_available(pass: Handle, back: *mut Handle) -> u32;
+    pub fn resil_permit_free(pass: Handle);
     pub fn resil_pool_new(
         core: u32,
         max: u32,
