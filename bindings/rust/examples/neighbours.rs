@@ -1,27 +1,24 @@
 //! A server that asks two neighbours, of which one hangs: without bulkheads, and with them.
 //!
-//! Its eight threads answer `GET /good` and `GET /slow` by what the neighbour of that name says. Sixteen callers ask
-//! for the slow one first, then others ask for the good one. All of it runs on loopback, and ends within seconds.
+//! Its eight threads answer calls by what one of the two neighbours says. Sixteen callers ask for the slow one first, then others
+//! ask for the good one. All of it is in this program, and ends within seconds.
 //!
 //! With the word `picture` it plays six seconds of each half instead, of which the slow neighbour hangs for two, and writes
 //! what the callers met with as an SVG.
 #[path = "neighbours/picture.rs"]
 mod picture;
 
-use resil::Bulkhead;
+use resil::{Bulkhead, BulkheadError, ThreadPool};
 use std::error::Error;
-use std::io::{self, BufRead, BufReader, Read, Write};
-use std::net::{Ipv4Addr, Shutdown, SocketAddr, TcpListener, TcpStream};
-use std::sync::atomic::{AtomicBool, Ordering};
-use std::sync::{Arc, Mutex, MutexGuard, PoisonError};
+use std::sync::{Arc, Condvar, Mutex, PoisonError};
 use std::thread::{self, JoinHandle};
 use std::time::{Duration, Instant};
 
 /// The threads of the server.
-const THREADS: usize = 8;
+const THREADS: u32 = 8;
 /// How many calls of a neighbour its bulkhead lets in at once.
 const PERMITS: u32 = 4;
-const SLOW_CALLERS: usize = 16;
+const SLOW_CALLERS: u32 = 16;
 const GOOD_CALLERS: usize = 4;
 /// How many calls of the good neighbour each of its callers makes, one after the other, while it is answered.
 const GOOD_CALLS: usize = 50;
@@ -32,10 +29,11 @@ const LIMIT: Duration = Duration::from_secs(60);
 /// How long a half of the picture is, and when the slow neighbour begins and ends to hang in it.
 const LENGTH: Duration = Duration::from_secs(6);
 const HANGS: [Duration; 2] = [Duration::from_secs(2), Duration::from_secs(4)];
-/// The callers of a half of the picture, how long each waits for an answer, and how long it pauses behind a call.
-const STEADY: [(&str, u32, Duration); 2] = [
-    ("good", 4, Duration::from_millis(20)),
-    ("slow", 8, Duration::from_millis(40)),
+/// The callers of a half of the picture: whether they ask for the slow neighbour, how many they are, and how long each pauses
+/// behind a call.
+const STEADY: [(bool, u32, Duration); 2] = [
+    (false, 4, Duration::from_millis(20)),
+    (true, 8, Duration::from_millis(40)),
 ];
 const STEADY_PATIENCE: Duration = Duration::from_millis(500);
 
@@ -64,232 +62,134 @@ pub fn counts(all: &[Met], slow: bool) -> [usize; 3] {
     counts
 }
 
-/// Listens on loopback, by so many threads, until it is stopped.
-struct Server {
-    address: SocketAddr,
-    stopped: Arc<AtomicBool>,
-    threads: Vec<JoinHandle<()>>,
+/// What a neighbour does with calls.
+#[derive(Clone, Copy, PartialEq)]
+enum Mood {
+    Answers,
+    Hangs,
+    Gone,
 }
 
-impl Server {
-    fn start(
-        threads: usize,
-        serve: impl Fn(TcpStream) -> io::Result<()> + Clone + Send + 'static,
-    ) -> io::Result<Server> {
-        let listener = TcpListener::bind((Ipv4Addr::LOCALHOST, 0))?;
-        let mut server = Server {
-            address: listener.local_addr()?,
-            stopped: Arc::new(AtomicBool::new(false)),
-            threads: Vec::new(),
-        };
-        for _ in 0..threads {
-            let (listener, serve) = (listener.try_clone()?, serve.clone());
-            let stopped = Arc::clone(&server.stopped);
-            server.threads.push(thread::spawn(move || {
-                while let Ok((stream, _)) = listener.accept() {
-                    if stopped.load(Ordering::SeqCst) {
-                        return;
-                    }
-                    // A caller that is gone is no failure of the server.
-                    let _gone = serve(stream);
-                }
-            }));
-        }
-        Ok(server)
-    }
-
-    // Wakes each thread by a connection, and waits until all have ended.
-    fn stop(self) {
-        self.stopped.store(true, Ordering::SeqCst);
-        // A connection is refused where all have ended before.
-        let connect = |_| TcpStream::connect(self.address);
-        let _woken: Vec<_> = self.threads.iter().map(connect).collect();
-        for thread in self.threads {
-            let _ended = thread.join();
-        }
-    }
+/// A neighbour, and the bulkhead round it where there is one.
+struct Neighbour {
+    bulkhead: Option<Bulkhead>,
+    // With the number of calls that it has taken and not answered.
+    mood: Mutex<(Mood, u32)>,
+    changed: Condvar,
 }
 
-// The path of a request, whose head is read.
-fn path(stream: &TcpStream) -> io::Result<String> {
-    let mut lines = BufReader::new(stream).lines();
-    let first = lines.next().unwrap_or(Ok(String::new()))?;
-    while !lines.next().unwrap_or(Ok(String::new()))?.is_empty() {}
-    Ok(first.split(' ').nth(1).unwrap_or("").to_owned())
-}
-
-fn respond(mut stream: &TcpStream, status: &str) -> io::Result<()> {
-    write!(
-        stream,
-        "HTTP/1.1 {status}\r\nContent-Length: 0\r\nConnection: close\r\n\r\n"
-    )
-}
-
-// Asks a server, and gives the status of its answer.
-fn ask(address: SocketAddr, path: &str, patience: Duration) -> io::Result<u16> {
-    let mut stream = TcpStream::connect_timeout(&address, patience)?;
-    stream.set_read_timeout(Some(patience))?;
-    write!(stream, "GET /{path} HTTP/1.1\r\nHost: localhost\r\n\r\n")?;
-    let mut answer = String::new();
-    stream.read_to_string(&mut answer)?;
-    let status = answer
-        .split(' ')
-        .nth(1)
-        .and_then(|status| status.parse().ok());
-    status.ok_or_else(|| io::ErrorKind::InvalidData.into())
-}
-
-/// Whether the slow neighbour hangs, and the connections that it keeps meanwhile.
-#[derive(Default)]
-struct Held {
-    hangs: bool,
-    streams: Vec<TcpStream>,
-}
-
-/// Both neighbours. While the slow one hangs it keeps each connection, and answers none.
-struct Neighbours {
-    good: Server,
-    slow: Server,
-    held: Arc<Mutex<Held>>,
-}
-
-impl Neighbours {
-    fn start() -> io::Result<Neighbours> {
-        let held = Arc::<Mutex<Held>>::default();
-        let slow = Arc::clone(&held);
-        Ok(Neighbours {
-            good: Server::start(THREADS, |stream| answer(&stream))?,
-            slow: Server::start(THREADS, move |stream| {
-                let mut held = slow.lock().unwrap_or_else(PoisonError::into_inner);
-                if held.hangs {
-                    held.streams.push(stream);
-                    return Ok(());
-                }
-                drop(held);
-                answer(&stream)
-            })?,
-            held,
+impl Neighbour {
+    fn new(name: &str, has_bulkhead: bool) -> Result<Neighbour, BulkheadError> {
+        let bulkhead = has_bulkhead.then(|| Bulkhead::new(name, PERMITS));
+        Ok(Neighbour {
+            bulkhead: bulkhead.transpose()?,
+            mood: Mutex::new((Mood::Answers, 0)),
+            changed: Condvar::new(),
         })
     }
 
-    fn lock(&self) -> MutexGuard<'_, Held> {
-        self.held.lock().unwrap_or_else(PoisonError::into_inner)
+    // Has it answer, hang or be gone from here on.
+    fn set(&self, mood: Mood) {
+        self.mood.lock().unwrap_or_else(PoisonError::into_inner).0 = mood;
+        self.changed.notify_all();
     }
 
-    fn held(&self) -> usize {
-        self.lock().streams.len()
+    fn held(&self) -> u32 {
+        self.mood.lock().unwrap_or_else(PoisonError::into_inner).1
     }
 
-    fn hang(&self) {
-        self.lock().hangs = true;
+    // Asks it, for as long as it hangs, and says whether it has answered.
+    fn ask(&self) -> bool {
+        let mut state = self.mood.lock().unwrap_or_else(PoisonError::into_inner);
+        state.1 += 1;
+        let hangs = |state: &mut (Mood, u32)| state.0 == Mood::Hangs;
+        let went_on = self.changed.wait_while(state, hangs);
+        let mut state = went_on.unwrap_or_else(PoisonError::into_inner);
+        state.1 -= 1;
+        state.0 == Mood::Answers
     }
 
-    // The slow one answers again, all that it kept first.
-    fn go_on(&self) {
-        let mut held = self.lock();
-        held.hangs = false;
-        for stream in held.streams.drain(..) {
-            let _gone = answer(&stream);
-        }
-    }
-
-    // Lets go of all that the slow one holds.
-    fn stop(self) {
-        self.slow.stop();
-        let held = &mut *self.held.lock().unwrap_or_else(PoisonError::into_inner);
-        for stream in held.streams.drain(..) {
-            let _gone = stream.shutdown(Shutdown::Both);
-        }
-        self.good.stop();
-    }
-
-    // The server that asks both.
-    fn server(&self, bulkheads: bool) -> Result<Server, Box<dyn Error>> {
-        let good = Backend::new("good", self.good.address, bulkheads)?;
-        let slow = Backend::new("slow", self.slow.address, bulkheads)?;
-        let backends = Arc::new((good, slow));
-        Ok(Server::start(THREADS, move |stream| {
-            let (good, slow) = &*backends;
-            let backend = if path(&stream)? == "/slow" {
-                slow
-            } else {
-                good
-            };
-            respond(&stream, backend.status())
-        })?)
-    }
-}
-
-fn answer(stream: &TcpStream) -> io::Result<()> {
-    path(stream)?;
-    respond(stream, "200 OK")
-}
-
-/// What the server asks a neighbour by, under a bulkhead where it has one.
-struct Backend {
-    address: SocketAddr,
-    bulkhead: Option<Bulkhead>,
-}
-
-impl Backend {
-    fn new(name: &str, address: SocketAddr, bulkheads: bool) -> Result<Backend, Box<dyn Error>> {
-        let bulkhead = if bulkheads {
-            Some(Bulkhead::new(name, PERMITS)?)
-        } else {
-            None
-        };
-        Ok(Backend { address, bulkhead })
-    }
-
-    fn status(&self) -> &'static str {
-        let call = || ask(self.address, "", LIMIT);
+    // The status by which the server answers a call.
+    fn status(&self) -> u16 {
         let answer = match &self.bulkhead {
-            Some(bulkhead) => bulkhead.call(call),
-            None => Ok(call()),
+            Some(bulkhead) => bulkhead.call(|| self.ask()),
+            None => Ok(self.ask()),
         };
         match answer {
-            Ok(Ok(200)) => "200 OK",
-            Ok(_) => "502 Bad Gateway",
-            Err(_full) => "503 Service Unavailable",
+            Ok(true) => 200,
+            Ok(false) => 502,
+            Err(_full) => 503,
         }
     }
 }
 
-/// Calls the server for a neighbour.
-#[derive(Clone, Copy)]
-struct Caller {
-    server: SocketAddr,
-    name: &'static str,
-    patience: Duration,
-    began: Instant,
+/// The server: its threads, the good neighbour and the slow one, and when it was opened.
+struct Server {
+    threads: ThreadPool,
+    neighbours: [Arc<Neighbour>; 2],
+    opened: Instant,
 }
 
-impl Caller {
-    fn call(&self) -> Met {
-        let status = ask(self.server, self.name, self.patience).ok();
-        let slow = self.name == "slow";
-        let at = self.began.elapsed();
+impl Server {
+    fn open(bulkheads: bool) -> Result<Arc<Server>, Box<dyn Error>> {
+        let good = Neighbour::new("good", bulkheads)?;
+        let slow = Neighbour::new("slow", bulkheads)?;
+        Ok(Arc::new(Server {
+            threads: ThreadPool::builder(THREADS, THREADS).queue(1_000).open()?,
+            neighbours: [Arc::new(good), Arc::new(slow)],
+            opened: Instant::now(),
+        }))
+    }
+
+    fn slow(&self) -> &Neighbour {
+        &self.neighbours[1]
+    }
+
+    // Calls it for a neighbour, and gives up after a while.
+    fn call(&self, slow: bool, patience: Duration) -> Met {
+        let neighbour = Arc::clone(&self.neighbours[usize::from(slow)]);
+        let job = self.threads.submit(move || neighbour.status()).ok();
+        let answer = job.and_then(|job| job.wait_for(patience).ok());
+        let status = answer.and_then(Result::ok);
+        let at = self.opened.elapsed();
         Met { at, slow, status }
     }
 
-    // Calls so often, one after the other while it is answered.
-    fn call_often(&self, count: usize) -> Vec<Met> {
-        let mut all = vec![self.call()];
-        while all.len() < count && all.iter().all(|met| met.status.is_some()) {
-            all.push(self.call());
-        }
-        all
+    // A caller that calls so often, one call after the other, while it is answered.
+    fn call_often(self: &Arc<Self>, slow: bool, patience: Duration, count: usize) -> Caller {
+        let server = Arc::clone(self);
+        thread::spawn(move || {
+            let mut all = vec![server.call(slow, patience)];
+            while all.len() < count && all.iter().all(|met| met.status.is_some()) {
+                all.push(server.call(slow, patience));
+            }
+            all
+        })
     }
 
-    // Calls until the end of a half of the picture.
-    fn call_steadily(&self, pause: Duration) -> Vec<Met> {
-        let mut all = Vec::new();
-        while self.began.elapsed() < LENGTH {
-            all.push(self.call());
-            thread::sleep(pause);
-        }
-        all
+    // One that calls until the end of a half of the picture, and begins so late.
+    fn call_steadily(self: &Arc<Self>, slow: bool, pause: Duration, begins: Duration) -> Caller {
+        let server = Arc::clone(self);
+        thread::spawn(move || {
+            thread::sleep(begins);
+            let mut all = Vec::new();
+            while server.opened.elapsed() < LENGTH {
+                all.push(server.call(slow, STEADY_PATIENCE));
+                thread::sleep(pause);
+            }
+            all
+        })
     }
+}
+
+type Caller = JoinHandle<Vec<Met>>;
+
+fn joined(callers: impl IntoIterator<Item = Caller>) -> Result<Vec<Met>, Box<dyn Error>> {
+    let mut all = Vec::new();
+    for caller in callers {
+        all.extend(caller.join().map_err(|_| "a caller panicked")?);
+    }
+    Ok(all)
 }
 
 // Waits until it is so.
@@ -308,47 +208,25 @@ fn until(is_so: impl Fn() -> bool) -> Result<(), Box<dyn Error>> {
 ///
 /// # Errors
 ///
-/// Whatever the sockets, the threads or the bulkheads are refused by.
+/// Whatever the threads or the bulkheads are refused by.
 pub fn play(bulkheads: bool) -> Result<Vec<Met>, Box<dyn Error>> {
-    let neighbours = Neighbours::start()?;
-    neighbours.hang();
-    let server = neighbours.server(bulkheads)?;
-    let caller = |name, patience| Caller {
-        server: server.address,
-        name,
-        patience,
-        began: Instant::now(),
-    };
-    let slow = [(); SLOW_CALLERS].map(|()| {
-        let caller = caller("slow", LIMIT);
-        thread::spawn(move || caller.call_often(1))
-    });
+    let server = Server::open(bulkheads)?;
+    server.slow().set(Mood::Hangs);
+    let slow = [(); SLOW_CALLERS as usize].map(|()| server.call_often(true, LIMIT, 1));
     // The good one's callers come once each slow call hangs, is refused or waits for a thread.
-    let (hang, refusals) = if bulkheads {
-        (PERMITS as usize, SLOW_CALLERS - PERMITS as usize)
+    let (hang, refused, wait) = if bulkheads {
+        (PERMITS, SLOW_CALLERS - PERMITS, 0)
     } else {
-        (THREADS, 0)
+        (THREADS, 0, SLOW_CALLERS - THREADS)
     };
-    let refused = || slow.iter().filter(|thread| thread.is_finished()).count();
-    until(|| neighbours.held() == hang && refused() == refusals)?;
-    let good = [(); GOOD_CALLERS].map(|()| {
-        let caller = caller("good", if bulkheads { LIMIT } else { PATIENCE });
-        thread::spawn(move || caller.call_often(GOOD_CALLS))
-    });
+    let ended = || slow.iter().filter(|caller| caller.is_finished()).count();
+    let waiting = || server.threads.numbers().waiting;
+    until(|| server.slow().held() == hang && ended() == refused as usize && waiting() == wait)?;
+    let patience = if bulkheads { LIMIT } else { PATIENCE };
+    let good = [(); GOOD_CALLERS].map(|()| server.call_often(false, patience, GOOD_CALLS));
     let mut all = joined(good)?;
-    neighbours.stop();
+    server.slow().set(Mood::Gone);
     all.extend(joined(slow)?);
-    server.stop();
-    Ok(all)
-}
-
-fn joined(
-    callers: impl IntoIterator<Item = JoinHandle<Vec<Met>>>,
-) -> Result<Vec<Met>, Box<dyn Error>> {
-    let mut all = Vec::new();
-    for caller in callers {
-        all.extend(caller.join().map_err(|_| "a caller panicked")?);
-    }
     Ok(all)
 }
 
@@ -356,35 +234,20 @@ fn joined(
 ///
 /// # Errors
 ///
-/// Whatever the sockets, the threads or the bulkheads are refused by.
+/// As of [`play`].
 pub fn play_steadily(bulkheads: bool) -> Result<Vec<Met>, Box<dyn Error>> {
-    let neighbours = Neighbours::start()?;
-    let server = neighbours.server(bulkheads)?;
-    let began = Instant::now();
+    let server = Server::open(bulkheads)?;
     let mut callers = Vec::new();
-    for (name, count, pause) in STEADY {
-        let caller = Caller {
-            server: server.address,
-            name,
-            patience: STEADY_PATIENCE,
-            began,
-        };
-        callers.extend((0..count).map(|index| {
-            thread::spawn(move || {
-                // They don't all begin at once.
-                thread::sleep(pause * index / count);
-                caller.call_steadily(pause)
-            })
-        }));
+    for (slow, count, pause) in STEADY {
+        // They don't all begin at once.
+        let call = |index| server.call_steadily(slow, pause, pause * index / count);
+        callers.extend((0..count).map(call));
     }
-    for (at, step) in HANGS.into_iter().zip([Neighbours::hang, Neighbours::go_on]) {
-        thread::sleep(at.saturating_sub(began.elapsed()));
-        step(&neighbours);
+    for (at, mood) in HANGS.into_iter().zip([Mood::Hangs, Mood::Answers]) {
+        thread::sleep(at.saturating_sub(server.opened.elapsed()));
+        server.slow().set(mood);
     }
-    let all = joined(callers)?;
-    neighbours.stop();
-    server.stop();
-    Ok(all)
+    joined(callers)
 }
 
 #[allow(dead_code, reason = "a test takes this file as a module")]
