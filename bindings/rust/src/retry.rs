@@ -248,18 +248,6 @@ impl<Errors, Values, Pause> Retry<Errors, Values, Pause> {
     }
 
     /// Begins a call of one's own, in whose loop [`wait_after`](Retry::wait_after) says what to do after each attempt.
-    ///
-    /// ```
-    /// let retry = resil::Retry::new().pause_by(|_wait| {});
-    /// let mut attempts = retry.begin();
-    /// let answer = loop {
-    ///     let outcome = if attempts.count() < 3 { Err("busy") } else { Ok(42) };
-    ///     if retry.wait_after(&mut attempts, outcome.as_ref()).is_none() {
-    ///         break outcome;
-    ///     }
-    /// };
-    /// assert_eq!(answer, Ok(42));
-    /// ```
     #[inline]
     #[must_use]
     pub fn begin(&self) -> Attempts {

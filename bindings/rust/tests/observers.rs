@@ -178,21 +178,31 @@ fn times_are_told_where_they_are_wanted() -> Checked {
     Ok(())
 }
 
-/// Panics at each permit, and counts what it is told.
+/// Panics at each permit and each submission, and counts what it is told of permits.
 #[derive(Default)]
 struct Panics(AtomicU32);
+
 impl Observer for Panics {
     fn call_permitted(&self, _: &str) {
         self.0.fetch_add(1, Ordering::Relaxed);
         panic!("at a permit");
     }
+
     fn call_finished(&self, _: &str, _: Duration) {
         self.0.fetch_add(1_000, Ordering::Relaxed);
+    }
+
+    fn job_accepted(&self, _: &str, _: Reply) {
+        panic!("at a job");
+    }
+
+    fn job_refused(&self, _: &str, _: Refusal) {
+        panic!("at a refusal");
     }
 }
 
 #[test]
-fn a_permit_is_given_back_where_the_observer_panics() -> Checked {
+fn nothing_is_lost_where_the_observer_panics() -> Checked {
     let panics = Arc::new(Panics::default());
     let b = Arc::new(Bulkhead::new("b", 1)?.observed(panics.clone()));
     let enter = AssertUnwindSafe(|| b.enter().is_ok());
@@ -200,6 +210,11 @@ fn a_permit_is_given_back_where_the_observer_panics() -> Checked {
     let acquire = AssertUnwindSafe(|| polled(&mut b.acquire()).is_some());
     assert!(catch_unwind(acquire).is_err());
     assert_eq!((b.available(), panics.0.load(Ordering::Relaxed)), (1, 2));
+    let pool = ThreadPool::builder(1, 1).observed(panics).open()?;
+    assert_eq!(pool.submit(|| 42)?.wait()?, 42);
+    pool.close();
+    let refused = pool.submit(|| 7).err().ok_or("it is closed")?;
+    assert_eq!(((refused.function)(), refused.reason), (7, Refusal::Closed));
     Ok(())
 }
 
@@ -455,30 +470,5 @@ fn several_observers_are_all_told() -> Checked {
     ];
     assert_eq!(told, wanted);
     assert_eq!(also, wanted);
-    Ok(())
-}
-
-/// Panics at each submission.
-struct Refuses;
-
-impl Observer for Refuses {
-    fn job_accepted(&self, _pool: &str, _reply: Reply) {
-        panic!("at a job");
-    }
-
-    fn job_refused(&self, _pool: &str, _reason: Refusal) {
-        panic!("at a refusal");
-    }
-}
-
-#[test]
-fn an_observer_that_panics_loses_no_handle() -> Checked {
-    let pool = ThreadPool::builder(1, 1)
-        .observed(Arc::new(Refuses))
-        .open()?;
-    assert_eq!(pool.submit(|| 42)?.wait()?, 42);
-    pool.close();
-    let refused = pool.submit(|| 7).err().ok_or("it is closed")?;
-    assert_eq!(((refused.function)(), refused.reason), (7, Refusal::Closed));
     Ok(())
 }

@@ -67,25 +67,6 @@ impl Bulkhead {
     /// it has all; so those who await few don't keep it waiting for ever, nor it those who came before. Dropped while it waits, it
     /// gives back what it has gathered. Two calls that each await more, with permits in their hands, may wait for each other.
     /// One that awaits more than are in use waits for a [`raise`](Bulkhead::raise), and who stands behind it waits with it.
-    ///
-    /// ```
-    /// use std::pin::pin;
-    /// use std::sync::Arc;
-    /// use std::task::{Context, Poll, Waker};
-    ///
-    /// let backend = Arc::new(resil::Bulkhead::new("backend", 3)?);
-    /// let mut context = Context::from_waker(Waker::noop());
-    /// let permit = backend.enter()?;
-    /// let mut three = pin!(backend.acquire_many(3));
-    /// assert!(three.as_mut().poll(&mut context).is_pending());
-    /// assert_eq!(backend.available(), 0);
-    /// drop(permit);
-    /// assert!(matches!(three.poll(&mut context), Poll::Ready(Ok(three)) if three.len() == 3));
-    /// // More than there are.
-    /// let never = pin!(backend.acquire_many(4)).poll(&mut context);
-    /// assert!(matches!(never, Poll::Ready(Err(resil::Full))));
-    /// # Ok::<(), Box<dyn std::error::Error>>(())
-    /// ```
     pub fn acquire_many(self: &Arc<Self>, count: u32) -> AcquireMany {
         let wait = self.acquire();
         AcquireMany { wait, count }

@@ -20,26 +20,6 @@ pub trait Layer<Arguments = ()>: Sealed {
 }
 
 /// What a chain has inside that is kept: it is called by reference.
-///
-/// ```
-/// use resil::{Bulkhead, Decorators, KeptLayer};
-/// use std::sync::Arc;
-///
-/// struct Prices<L> {
-///     chain: Decorators<L, (u32,)>,
-/// }
-///
-/// impl<L: KeptLayer<(u32,), Value = u32>> Prices<L> {
-///     fn of(&self, id: u32) -> Option<u32> {
-///         self.chain.call(id).ok()
-///     }
-/// }
-///
-/// let backend = Arc::new(Bulkhead::new("backend", 1)?);
-/// let prices = Prices { chain: Decorators::of(|id: u32| Ok::<_, String>(id + 1)).inside(backend) };
-/// assert_eq!((prices.of(41), prices.of(6)), (Some(42), Some(7)));
-/// # Ok::<(), resil::BulkheadError>(())
-/// ```
 pub trait KeptLayer<Arguments>: Layer<Arguments> {
     #[doc(hidden)]
     fn call_kept(&self, arguments: Arguments) -> Result<Self::Value, CallError<Self::Error>>;

@@ -6,23 +6,6 @@ use std::fmt;
 /// [`close_now`](crate::ThreadPool::close_now), with its function.
 ///
 /// Whoever has it runs it or drops it. Its handle has the answer then, or [`Cancelled`](crate::JobError::Cancelled).
-///
-/// ```
-/// use std::sync::mpsc;
-///
-/// let pool = resil::ThreadPool::builder(1, 1).open()?;
-/// let (open, gate) = mpsc::channel::<()>();
-/// let first = pool.submit(move || gate.recv().is_err())?;
-/// let (second, third) = (pool.submit(|| 2)?, pool.submit(|| 3)?);
-/// let mut waiting = pool.close_now().into_iter();
-/// waiting.next().expect("two jobs wait").run();
-/// drop(waiting);
-/// assert_eq!(second.wait()?, 2);
-/// assert_eq!(third.wait().unwrap_err().to_string(), "the job was cancelled");
-/// drop(open);
-/// assert!(first.wait()?);
-/// # Ok::<(), Box<dyn std::error::Error>>(())
-/// ```
 #[must_use = "a job that is dropped is cancelled"]
 pub struct Unstarted {
     // Taken when it is run.
