@@ -3,7 +3,7 @@ mod common;
 
 use common::{Checked, elsewhere};
 use resil::pass::Pass;
-use resil::{Bulkhead, BulkheadError, Full, NoPermit, OwnedPermit};
+use resil::{Bulkhead, BulkheadError, Closed, Full, NoPermit, OwnedPermit};
 use std::panic::{AssertUnwindSafe, catch_unwind};
 use std::sync::atomic::{AtomicBool, AtomicU32, Ordering};
 use std::sync::{Arc, Barrier};
@@ -23,6 +23,7 @@ fn too_many_permits_are_refused() {
     let said = BulkheadError::TooManyPermits.to_string();
     assert_eq!(said, "there are more than 65535 permits");
     assert_eq!(Full.to_string(), "the bulkhead is full");
+    assert_eq!(Closed.to_string(), "the bulkhead is closed");
 }
 
 #[test]

@@ -84,10 +84,8 @@ fn an_idle_pool_sleeps() -> Result<(), Box<dyn Error>> {
 // Also where idle threads may end at once, but for what waits in the queue.
 fn threads_that_hold_back_sleep() -> Result<(), Box<dyn Error>> {
     for keep_alive in [Duration::ZERO, Duration::MAX] {
-        let pool = ThreadPool::builder(4, 4)
-            .name("holds")
-            .keep_alive(keep_alive)
-            .open()?;
+        let pool = ThreadPool::builder(4, 4).name("holds");
+        let pool = pool.keep_alive(keep_alive).open()?;
         let mut first = all_gated(&pool, 4)?.into_iter();
         let later = all_gated(&pool, 4)?;
         pool.resize(1, 1)?;

@@ -215,10 +215,8 @@ fn metrics_without_times_count_alone() -> Checked {
 fn a_name_is_removed() -> Checked {
     let metrics = Arc::new(Metrics::new());
     let backend = Bulkhead::new("one", 1)?.observed(metrics.clone());
-    let pool = ThreadPool::builder(1, 1)
-        .name("one")
-        .observed(metrics.clone())
-        .open()?;
+    let pool = ThreadPool::builder(1, 1).name("one");
+    let pool = pool.observed(metrics.clone()).open()?;
     let retry = Retry::new().observed("one", metrics.clone());
     let other = Bulkhead::new("other", 1)?.observed(metrics.clone());
     pool.submit(|| 42)?.wait()?;

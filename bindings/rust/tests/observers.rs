@@ -281,10 +281,8 @@ impl Observer for Asks {
 fn nothing_is_locked_while_an_observer_is_told() -> Checked {
     let asks = Arc::new(Asks::default());
     let b = Arc::new(Bulkhead::new("b", 1)?.observed(asks.clone()));
-    let pool = ThreadPool::builder(1, 1)
-        .queue(1)
-        .observed(asks.clone())
-        .open()?;
+    let pool = ThreadPool::builder(1, 1).queue(1);
+    let pool = pool.observed(asks.clone()).open()?;
     let pool = Arc::new(pool);
     let registry = Arc::new(BulkheadRegistry::new(1).observed(asks.clone()));
     let _set = (
@@ -371,11 +369,8 @@ fn retries_of_futures_and_loops_of_ones_own_are_told() {
 #[test]
 fn what_becomes_of_a_job_is_told() -> Checked {
     let log = Arc::new(Log::default());
-    let pool = ThreadPool::builder(1, 1)
-        .queue(1)
-        .name("p")
-        .observed(log.clone())
-        .open()?;
+    let pool = ThreadPool::builder(1, 1).queue(1);
+    let pool = pool.name("p").observed(log.clone()).open()?;
     let first = begun(&pool)?;
     let mut told = log.take();
     told.sort();

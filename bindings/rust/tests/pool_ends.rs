@@ -109,10 +109,8 @@ fn thread_locals_of_workers_join_beside_another_owner() -> Checked {
 
 #[test]
 fn a_thread_that_goes_while_its_pool_is_open_is_the_last_owner() -> Checked {
-    let pool = ThreadPool::builder(1, 2)
-        .queue(1)
-        .keep_alive(Duration::ZERO)
-        .open()?;
+    let pool = ThreadPool::builder(1, 2).queue(1);
+    let pool = pool.keep_alive(Duration::ZERO).open()?;
     let pool = Arc::new(pool);
     let (dropped, told) = mpsc::channel();
     let (gate, first) = gated(&pool)?;

@@ -39,10 +39,8 @@ fn in_groups(
 
 // Eight jobs run and some wait; from the resize on no more begin than two at a time, and no fewer.
 fn shrunk(keep_alive: Duration) -> Result<ThreadPool, Box<dyn Error>> {
-    let pool = ThreadPool::builder(8, 8)
-        .queue(100)
-        .keep_alive(keep_alive)
-        .open()?;
+    let pool = ThreadPool::builder(8, 8).queue(100);
+    let pool = pool.keep_alive(keep_alive).open()?;
     let first = all_gated(&pool, 8)?;
     let seen = Arc::default();
     let later = in_groups(&pool, 2, 40, &seen)?;

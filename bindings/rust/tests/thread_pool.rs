@@ -222,10 +222,8 @@ fn numbers_are_of_one_moment() -> Checked {
 
 #[test]
 fn numbers_tell_the_sizes_and_the_jobs() -> Checked {
-    let pool = ThreadPool::builder(1, 2)
-        .queue(1)
-        .keep_alive(Duration::MAX)
-        .open()?;
+    let pool = ThreadPool::builder(1, 2).queue(1);
+    let pool = pool.keep_alive(Duration::MAX).open()?;
     let [first, second, third] = [gated(&pool)?, gated(&pool)?, gated(&pool)?];
     for (job, reply) in [
         (&first, Reply::Core),

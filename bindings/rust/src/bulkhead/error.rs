@@ -2,17 +2,6 @@
 use crate::texts::error_texts;
 
 /// Why there is no permit. This crate has the two by their own names too.
-///
-/// ```
-/// use resil::{Bulkhead, Closed, Full, NoPermit};
-///
-/// let backend = Bulkhead::new("backend", 0)?;
-/// assert_eq!(backend.call(|| 42), Err(Full));
-/// backend.close();
-/// assert_eq!(backend.call(|| 42), Err(NoPermit::Closed));
-/// assert_eq!(Closed.to_string(), "the bulkhead is closed");
-/// # Ok::<(), resil::BulkheadError>(())
-/// ```
 #[derive(Debug, Clone, Copy, PartialEq, Eq)]
 pub enum NoPermit {
     /// All permits in use are held.

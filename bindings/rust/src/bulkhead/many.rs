@@ -18,15 +18,6 @@ impl Bulkhead {
     /// # Errors
     ///
     /// `Closed` where the bulkhead is closed; `Full` where fewer are free.
-    ///
-    /// ```
-    /// let backend = resil::Bulkhead::new("backend", 3)?;
-    /// let mut permits = backend.enter_many(2)?;
-    /// assert_eq!(backend.enter_many(2).err(), Some(resil::Full));
-    /// permits.pop();
-    /// assert_eq!(backend.available(), 2);
-    /// # Ok::<(), Box<dyn std::error::Error>>(())
-    /// ```
     pub fn enter_many(&self, count: u32) -> Result<Vec<Permit<'_>>, NoPermit> {
         self.told_many(self.take_many(count), |place| Permit::new(self, place))
     }
