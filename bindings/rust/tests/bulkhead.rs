@@ -118,28 +118,21 @@ fn only_free_permits_are_retired() -> Checked {
     Ok(())
 }
 
-// All orders of so many things.
-fn orders(count: usize) -> Vec<Vec<usize>> {
-    if count == 0 {
-        return vec![vec![]];
-    }
-    let shorter = orders(count - 1).into_iter();
-    shorter
-        .flat_map(|order| {
-            (0..count).map(move |place| {
-                let mut longer = order.clone();
-                longer.insert(place, count - 1);
-                longer
-            })
-        })
-        .collect()
+// The order of this number of so many things, which have as many orders as the product of the numbers up to theirs.
+fn order(mut number: usize, count: usize) -> Vec<usize> {
+    let mut left: Vec<_> = (0..count).collect();
+    let next = |count| {
+        let index = number % count;
+        number /= count;
+        left.remove(index)
+    };
+    (1..=count).rev().map(next).collect()
 }
 
 #[test]
 fn permits_come_back_in_every_order() -> Checked {
     let backend = Arc::new(Bulkhead::new("backend", 4)?);
-    assert_eq!(orders(4).len(), 24);
-    for order in orders(4) {
+    for order in (0..24).map(|number| order(number, 4)) {
         let mut owned = Vec::new();
         for _ in 0..4 {
             owned.push(Some(backend.enter_owned()?));
@@ -162,7 +155,7 @@ fn permits_come_back_in_every_order() -> Checked {
 
 #[test]
 fn a_permit_that_is_forgotten_is_held_for_good() -> Checked {
-    for order in orders(3) {
+    for order in (0..6).map(|number| order(number, 3)) {
         let backend = Arc::new(Bulkhead::new("backend", 4)?);
         let mut permits = Vec::new();
         for _ in 0..3 {

@@ -2,7 +2,7 @@
 mod common;
 
 use common::{Checked, PATIENCE, elsewhere, gated, in_time, until, wait_at};
-use resil::{JobError, JobHandle, ThreadPool};
+use resil::{JobError, ThreadPool};
 use std::cell::RefCell;
 use std::error::Error;
 use std::sync::atomic::{AtomicU32, Ordering};
@@ -27,6 +27,17 @@ struct Owner {
     dropped: Sender<()>,
 }
 
+impl Owner {
+    fn new(pool: &Arc<ThreadPool>, joins: bool, dropped: &Sender<()>) -> Owner {
+        let (pool, dropped) = (Some(Arc::clone(pool)), dropped.clone());
+        Owner {
+            pool,
+            joins,
+            dropped,
+        }
+    }
+}
+
 impl Drop for Owner {
     fn drop(&mut self) {
         let _told = self.dropped.send(());
@@ -44,27 +55,14 @@ thread_local! {
     static OWNER: RefCell<Option<Owner>> = const { RefCell::new(None) };
 }
 
-// Has a worker keep its pool in a thread-local.
-fn kept_by_a_worker(
-    pool: &Arc<ThreadPool>,
-    joins: bool,
-    dropped: &Sender<()>,
-) -> Result<JobHandle<()>, Box<dyn Error>> {
-    let owner = Owner {
-        pool: Some(Arc::clone(pool)),
-        joins,
-        dropped: dropped.clone(),
-    };
-    let job = pool.submit(move || OWNER.set(Some(owner)));
-    job.map_err(|refused| refused.reason.into())
-}
-
 #[test]
 fn a_thread_local_of_a_worker_is_the_last_owner() -> Checked {
     for (threads, joins) in [(1, false), (1, true), (3, false), (3, true)] {
         let pool = Arc::new(ThreadPool::builder(threads, threads).open()?);
         let (dropped, told) = mpsc::channel();
-        kept_by_a_worker(&pool, joins, &dropped)?.wait()?;
+        let owner = Owner::new(&pool, joins, &dropped);
+        let job = pool.submit(move || OWNER.set(Some(owner)));
+        job.map_err(|refused| refused.reason)?.wait()?;
         for _ in 1..threads {
             pool.submit(|| ())?.wait()?;
         }
@@ -83,11 +81,7 @@ fn thread_locals_of_workers_join_beside_another_owner() -> Checked {
     let all = Arc::new(Barrier::new(3));
     let jobs = [(); 3].map(|()| {
         let all = Arc::clone(&all);
-        let owner = Owner {
-            pool: Some(Arc::clone(&pool)),
-            joins: true,
-            dropped: dropped.clone(),
-        };
+        let owner = Owner::new(&pool, true, &dropped);
         pool.submit(move || {
             all.wait();
             OWNER.set(Some(owner));
@@ -116,11 +110,7 @@ fn a_thread_that_goes_while_its_pool_is_open_is_the_last_owner() -> Checked {
     let (gate, first) = gated(&pool)?;
     let (_, second) = gated(&pool)?;
     // The third one has a thread above the core size, which ends while the first one runs.
-    let owner = Owner {
-        pool: Some(Arc::clone(&pool)),
-        joins: false,
-        dropped,
-    };
+    let owner = Owner::new(&pool, false, &dropped);
     let (open, closed) = mpsc::channel();
     let third = pool.submit(move || {
         OWNER.set(Some(owner));
