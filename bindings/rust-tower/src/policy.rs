@@ -25,26 +25,17 @@ use std::time::Duration;
 /// # async fn main() -> Result<(), tower::BoxError> {
 /// use resil::{Bulkhead, CallError, Interval, Retry};
 /// use resil_tower::{BulkheadLayer, RetryPolicy};
-/// use std::sync::Arc;
-/// use std::sync::atomic::{AtomicU32, Ordering};
-/// use std::time::Duration;
+/// use std::{sync::Arc, time::Duration};
 /// use tower::{Service, ServiceBuilder, ServiceExt, service_fn};
 ///
 /// let backend = Arc::new(Bulkhead::new("backend", 25)?);
-/// let retry = Retry::new()
-///     .interval(Interval::fixed(Duration::from_millis(1)))
-///     .retry_if(|error: &CallError<&str>| *error != CallError::Failed("gone"));
-/// let calls = Arc::new(AtomicU32::new(0));
-/// let answers = service_fn(move |number: u32| {
-///     let is_first = calls.fetch_add(1, Ordering::SeqCst) == 0;
-///     async move { if is_first { Err("busy") } else { Ok(number + 1) } }
-/// });
+/// let retry = Retry::new().interval(Interval::fixed(Duration::from_millis(1)));
 /// // A permit is taken for each attempt.
-/// let mut answers = ServiceBuilder::new()
+/// let mut fails = ServiceBuilder::new()
 ///     .retry(RetryPolicy::new(retry, tokio::time::sleep))
 ///     .layer(BulkheadLayer::new(backend))
-///     .service(answers);
-/// assert_eq!(answers.ready().await?.call(41).await, Ok(42));
+///     .service(service_fn(async |_: u32| Err::<u32, _>("busy")));
+/// assert_eq!(fails.ready().await?.call(41).await, Err(CallError::Failed("busy")));
 /// # Ok(())
 /// # }
 /// ```

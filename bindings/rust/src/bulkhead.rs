@@ -44,21 +44,11 @@ const MAX_NAME_LEN: usize = 64;
 /// | `close`, `is_closed` | [`close`](Bulkhead::close), [`is_closed`](Bulkhead::is_closed) |
 ///
 /// ```
-/// use std::sync::atomic::{AtomicU32, Ordering};
+/// use resil::{Bulkhead, Full};
 ///
-/// let backend = resil::Bulkhead::new("backend", 2)?;
-/// let inside = AtomicU32::new(0);
-/// std::thread::scope(|scope| {
-///     for _ in 0..4 {
-///         scope.spawn(|| {
-///             let _ = backend.call(|| {
-///                 assert!(inside.fetch_add(1, Ordering::SeqCst) < 2);
-///                 inside.fetch_sub(1, Ordering::SeqCst);
-///             });
-///         });
-///     }
-/// });
-/// assert_eq!(backend.available(), 2);
+/// let backend = Bulkhead::new("backend", 1)?;
+/// assert_eq!(backend.call(|| backend.call(|| 42)), Ok(Err(Full)));
+/// assert_eq!(backend.call(|| 42), Ok(42));
 /// # Ok::<(), resil::BulkheadError>(())
 /// ```
 pub struct Bulkhead {

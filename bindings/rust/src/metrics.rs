@@ -24,24 +24,6 @@
 //!
 //! As there, a call that ends by its last attempt or by its limit is `failed_with_retry`, and one that ends by an error that isn't
 //! retried is `failed_without_retry`.
-//!
-//! ```
-//! use resil::metrics::Metrics;
-//! use resil::{BulkheadRegistry, Retry, ThreadPool};
-//! use std::sync::Arc;
-//!
-//! let metrics = Arc::new(Metrics::new());
-//! let registry = BulkheadRegistry::new(25).observed(metrics.clone());
-//! let retry = Retry::new().observed("prices", metrics.clone());
-//! let pool = ThreadPool::builder(1, 2).name("letters").observed(metrics.clone()).open()?;
-//!
-//! let prices = registry.bulkhead("prices")?;
-//! retry.call(|| prices.call(|| 42))?;
-//! let text = metrics.text(&registry.bulkheads(), &[&pool]);
-//! assert!(text.contains("resilience4j_bulkhead_available_concurrent_calls{name=\"prices\"} 25\n"));
-//! assert!(text.contains("{kind=\"successful_without_retry\",name=\"prices\"} 1\n"));
-//! # Ok::<(), Box<dyn std::error::Error>>(())
-//! ```
 mod counts;
 mod page;
 
