@@ -16,12 +16,8 @@ use tower::{Service, ServiceBuilder, ServiceExt};
 
 type Answer = Result<u32, &'static str>;
 
-/// What each attempt of a call comes to, first to last; the last one again where there are more.
-#[derive(Debug, Clone, Copy)]
-enum Step {
-    Answers(Answer),
-    Hangs,
-}
+/// What each attempt of a call comes to, first to last; the last one again where there are more. Without an answer it hangs.
+type Step = Option<Answer>;
 
 /// Goes through the steps, and counts its attempts, also those that are under way.
 #[derive(Clone)]
@@ -72,14 +68,15 @@ impl Service<u32> for Backend {
         Box::pin(async move {
             let _under_way = under_way;
             match step {
-                Some(Step::Answers(answer)) => answer,
-                Some(Step::Hangs) | None => future::pending().await,
+                Some(Some(answer)) => answer,
+                _ => future::pending().await,
             }
         })
     }
 }
 
-const BUSY: Step = Step::Answers(Err("busy"));
+const BUSY: Step = Some(Err("busy"));
+const HANGS: Step = None;
 const WAIT: Duration = Duration::from_millis(100);
 
 fn retry() -> Retry {
@@ -91,12 +88,12 @@ fn retry() -> Retry {
 async fn it_calls_again_after_each_wait() -> Checked {
     let doubled = Interval::exponential(WAIT, (2, 1), Interval::LONGEST)?;
     for (steps, wanted, attempts, waited) in [
-        (&[Step::Answers(Ok(42))][..], Ok(42), 1, 0),
-        (&[BUSY, Step::Answers(Ok(42))], Ok(42), 2, 1),
+        (&[Some(Ok(42))][..], Ok(42), 1, 0),
+        (&[BUSY, Some(Ok(42))], Ok(42), 2, 1),
         (&[BUSY], Err("busy"), 4, 7),
-        (&[BUSY, Step::Answers(Err("gone"))], Err("gone"), 2, 1),
-        (&[Step::Answers(Ok(0)), Step::Answers(Ok(7))], Ok(7), 2, 1),
-        (&[Step::Answers(Ok(0))], Ok(0), 4, 7),
+        (&[BUSY, Some(Err("gone"))], Err("gone"), 2, 1),
+        (&[Some(Ok(0)), Some(Ok(7))], Ok(7), 2, 1),
+        (&[Some(Ok(0))], Ok(0), 4, 7),
     ] {
         let retry = Retry::new()
             .attempts(4)
@@ -145,7 +142,7 @@ async fn each_call_has_its_own_attempts_and_its_own_end() -> Checked {
 #[tokio::test(start_paused = true)]
 async fn a_permit_is_taken_for_each_attempt() -> Checked {
     let bulkhead = Arc::new(Bulkhead::new("backend", 1)?);
-    let backend = Backend::new(&[BUSY, BUSY, Step::Answers(Ok(42))]);
+    let backend = Backend::new(&[BUSY, BUSY, Some(Ok(42))]);
     for layer in [BulkheadLayer::new, BulkheadLayer::waiting] {
         backend.begun.store(0, Ordering::SeqCst);
         let mut service = ServiceBuilder::new()
@@ -168,7 +165,7 @@ async fn a_permit_is_taken_for_each_attempt() -> Checked {
     let mut service = ServiceBuilder::new()
         .retry(policy)
         .layer(BulkheadLayer::new(Arc::clone(&bulkhead)))
-        .service(Backend::new(&[Step::Answers(Ok(42))]));
+        .service(Backend::new(&[Some(Ok(42))]));
     let permit = bulkhead.enter()?;
     let call = service.ready().await?.call(1);
     let frees = async {
@@ -196,18 +193,18 @@ async fn a_call_is_dropped_at_each_step() -> Checked {
         };
 
         // Before the call, and with a call that wasn't polled.
-        let (_, mut service) = made(&[BUSY, Step::Hangs]);
+        let (_, mut service) = made(&[BUSY, HANGS]);
         service.ready().await?;
         drop(service);
         assert!(is_free());
-        let (backend, mut service) = made(&[BUSY, Step::Hangs]);
+        let (backend, mut service) = made(&[BUSY, HANGS]);
         let call = service.ready().await?.call(1);
         assert_eq!((bulkhead.available(), backend.counts()), (0, (1, 1)));
         drop(call);
         assert!(is_free() && backend.counts() == (1, 0));
 
         // During the first attempt.
-        let (backend, mut service) = made(&[Step::Hangs]);
+        let (backend, mut service) = made(&[HANGS]);
         let mut call = Box::pin(service.ready().await?.call(1));
         assert!(polled(&mut call).is_pending());
         assert_eq!((bulkhead.available(), backend.counts()), (0, (1, 1)));
@@ -215,7 +212,7 @@ async fn a_call_is_dropped_at_each_step() -> Checked {
         assert!(is_free() && backend.counts() == (1, 0));
 
         // During the wait, when no permit is held.
-        let (backend, mut service) = made(&[BUSY, Step::Hangs]);
+        let (backend, mut service) = made(&[BUSY, HANGS]);
         let mut call = Box::pin(service.ready().await?.call(1));
         assert!(polled(&mut call).is_pending());
         assert!(is_free() && backend.counts() == (1, 0));
@@ -225,7 +222,7 @@ async fn a_call_is_dropped_at_each_step() -> Checked {
 
         // During the second attempt, or while it waits for a permit.
         for is_held in [false, true] {
-            let (backend, mut service) = made(&[BUSY, Step::Hangs]);
+            let (backend, mut service) = made(&[BUSY, HANGS]);
             let mut call = Box::pin(service.ready().await?.call(1));
             assert!(polled(&mut call).is_pending());
             let permit = is_held.then(|| bulkhead.enter()).transpose()?;
@@ -240,7 +237,7 @@ async fn a_call_is_dropped_at_each_step() -> Checked {
         }
 
         // With a permit that it was given, and hasn't seen.
-        let (backend, mut service) = made(&[BUSY, Step::Hangs]);
+        let (backend, mut service) = made(&[BUSY, HANGS]);
         let mut call = Box::pin(service.ready().await?.call(1));
         assert!(polled(&mut call).is_pending());
         let permit = bulkhead.enter()?;

@@ -176,21 +176,6 @@ impl Bulkhead {
     /// dropped at any time, and then a permit that it was given goes to the next. It gives an error where the bulkhead is
     /// [closed](Bulkhead::close), where it has no permit at all, in use or not, and where [so many wait](Acquire::most_waiting) as it is
     /// told.
-    ///
-    /// ```
-    /// use std::pin::pin;
-    /// use std::sync::Arc;
-    /// use std::task::{Context, Poll, Waker};
-    ///
-    /// let backend = Arc::new(resil::Bulkhead::new("backend", 1)?);
-    /// let mut context = Context::from_waker(Waker::noop());
-    /// let permit = backend.enter()?;
-    /// let mut awaited = pin!(backend.acquire());
-    /// assert!(awaited.as_mut().poll(&mut context).is_pending());
-    /// drop(permit);
-    /// assert!(awaited.as_mut().poll(&mut context).is_ready());
-    /// # Ok::<(), Box<dyn std::error::Error>>(())
-    /// ```
     #[inline]
     pub fn acquire(self: &Arc<Self>) -> Acquire {
         Acquire::new(Arc::clone(self))

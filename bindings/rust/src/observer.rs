@@ -24,21 +24,17 @@ use std::time::{Duration, Instant};
 /// ```
 /// use resil::{Bulkhead, Observer};
 /// use std::sync::Arc;
-/// use std::sync::atomic::{AtomicU32, Ordering};
 ///
-/// #[derive(Default)]
-/// struct Refusals(AtomicU32);
+/// struct Log;
 ///
-/// impl Observer for Refusals {
-///     fn call_refused(&self, _bulkhead: &str) {
-///         self.0.fetch_add(1, Ordering::Relaxed);
+/// impl Observer for Log {
+///     fn call_refused(&self, bulkhead: &str) {
+///         println!("{bulkhead} is full");
 ///     }
 /// }
 ///
-/// let refusals = Arc::new(Refusals::default());
-/// let backend = Bulkhead::new("backend", 1)?.observed(refusals.clone());
-/// assert!(backend.call(|| backend.enter().is_err()).is_ok());
-/// assert_eq!(refusals.0.load(Ordering::Relaxed), 1);
+/// let backend = Bulkhead::new("backend", 0)?.observed(Arc::new(Log));
+/// assert!(backend.call(|| 42).is_err());
 /// # Ok::<(), resil::BulkheadError>(())
 /// ```
 pub trait Observer: Send + Sync {

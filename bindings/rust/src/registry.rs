@@ -58,15 +58,11 @@ impl From<BulkheadError> for RegistryError {
 /// there are few, and not for whoever calls.
 ///
 /// ```
-/// use resil::BulkheadRegistry;
-/// use std::sync::Arc;
-///
-/// let registry = BulkheadRegistry::new(25);
+/// let registry = resil::BulkheadRegistry::new(25);
 /// registry.add_config("small", 2)?;
 /// let prices = registry.bulkhead("prices")?;
 /// let letters = registry.bulkhead_with("letters", "small")?;
 /// assert_eq!((prices.max(), letters.max()), (25, 2));
-/// assert!(Arc::ptr_eq(&prices, &registry.bulkhead_with("prices", "small")?));
 /// # Ok::<(), resil::RegistryError>(())
 /// ```
 pub struct BulkheadRegistry {

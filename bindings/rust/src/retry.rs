@@ -2,7 +2,6 @@
 mod jitter;
 mod outcome_test;
 mod plan;
-mod waits;
 
 use crate::interval::Interval;
 use crate::observer::{Observer, Watch};
@@ -14,8 +13,7 @@ use std::thread;
 use std::time::Duration;
 
 pub use outcome_test::{ErrorTest, EveryError, NoValue, ValueTest, WaitBy};
-pub use plan::Attempts;
-pub use waits::Waits;
+pub use plan::{Attempts, Waits};
 
 /// The greatest number of attempts.
 const MAX_ATTEMPTS: u32 = 1_000;

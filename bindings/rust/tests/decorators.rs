@@ -14,10 +14,6 @@ use std::time::Duration;
 
 const NOT_CALLED: &str = "it isn't called";
 
-fn is_send<T: Send>(value: T) -> T {
-    value
-}
-
 #[test]
 fn a_permit_is_held_over_all_attempts_of_a_retry_inside() -> Checked {
     let backend = Bulkhead::new("backend", 1)?;
@@ -63,11 +59,9 @@ fn called<L: Layer<Value = u32, Error = String>>(mut chain: Decorators<L>) -> Op
 fn a_chain_goes_to_a_thread_and_into_a_function() -> Checked {
     let backend = Arc::new(Bulkhead::new("backend", 1)?);
     let retry = Arc::new(Retry::new().retry_value_if(|value: &u32| *value == 0));
-    let chain = is_send(
-        Decorators::of(|| Ok::<_, String>(7))
-            .inside(&backend)
-            .retried(&retry),
-    );
+    let chain = Decorators::of(|| Ok::<_, String>(7))
+        .inside(&backend)
+        .retried(&retry);
     let answer = thread::scope(|scope| scope.spawn(|| called(chain)).join());
     assert_eq!(answer.map_err(|_| "it panicked")?, Some(7));
     Ok(())

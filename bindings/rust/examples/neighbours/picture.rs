@@ -87,11 +87,8 @@ fn plot(svg: &mut String, title: &str, all: &[Met], most: u32, top: f64) {
     let columns = columns(all);
     let _ = writeln!(
         svg,
-        r#"<text x="{LEFT}" y="{above}" font-weight="bold">{title}</text>"#
-    );
-    let _ = writeln!(
-        svg,
-        r#"<rect class="band" x="{from}" y="{top}" width="{width}" height="{HEIGHT}"/>"#
+        r#"<text x="{LEFT}" y="{above}" font-weight="bold">{title}</text>
+<rect class="band" x="{from}" y="{top}" width="{width}" height="{HEIGHT}"/>"#
     );
     for (index, (class, _, _)) in KINDS.iter().enumerate() {
         let outline = outline(&columns, index, unit, bottom);
