@@ -134,13 +134,6 @@ impl<S, Errors, Values, Pause, Cloning> fmt::Debug
 
 /// How the requests of a type are copied for the next attempt. Functions of a reference to the request do it:
 /// [`RetryPolicy::cloning`] takes them.
-///
-/// ```
-/// use resil_tower::{CloneRequest, EveryClone};
-///
-/// assert_eq!(EveryClone.cloned(&"a letter"), Some("a letter"));
-/// assert_eq!((|request: &u32| (*request < 7).then_some(*request)).cloned(&7), None);
-/// ```
 pub trait CloneRequest<Request> {
     /// A copy; none where it isn't to be sent again.
     fn cloned(&self, request: &Request) -> Option<Request>;

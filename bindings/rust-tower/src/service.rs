@@ -15,21 +15,17 @@ use tower_service::Service;
 /// called by a refused call, and stays ready for the next one.
 ///
 /// ```
-/// use resil::Bulkhead;
 /// use resil_tower::{BulkheadLayer, CallError};
 /// use std::sync::Arc;
-/// use tower::{Layer, Service, ServiceExt, service_fn};
+/// use tower::{BoxError, Layer, Service, ServiceExt, service_fn};
 ///
 /// # #[tokio::main(flavor = "current_thread")]
-/// # async fn main() -> Result<(), tower::BoxError> {
-/// let backend = Arc::new(Bulkhead::new("backend", 1)?);
-/// let fails = service_fn(async |_: ()| Err::<(), &str>("no route"));
-/// let mut fails = BulkheadLayer::new(Arc::clone(&backend)).layer(fails);
-/// assert_eq!(fails.ready().await?.call(()).await, Err(CallError::Failed("no route")));
-///
-/// let permit = backend.enter()?;
-/// assert_eq!(fails.ready().await?.call(()).await, Err(CallError::Full));
-/// # drop(permit);
+/// # async fn main() -> Result<(), BoxError> {
+/// let backend = Arc::new(resil::Bulkhead::new("backend", 1)?);
+/// let answers = service_fn(async |number: u32| Ok::<u32, &str>(number + 1));
+/// let mut answers = BulkheadLayer::new(Arc::clone(&backend)).layer(answers);
+/// let _permit = backend.enter()?;
+/// assert_eq!(answers.ready().await?.call(41).await, Err(CallError::Full));
 /// # Ok(())
 /// # }
 /// ```

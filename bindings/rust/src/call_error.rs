@@ -11,10 +11,6 @@ use std::fmt;
 /// use std::error::Error;
 /// use std::num::ParseIntError;
 ///
-/// let refused: CallError<String> = CallError::Full;
-/// assert_eq!(refused.to_string(), "the bulkhead is full");
-/// assert_eq!(CallError::Failed("no answer").to_string(), "no answer");
-///
 /// // Who is handed the error without its type finds in a boxed one what has failed.
 /// let failed: CallError<Box<dyn Error>> = CallError::Failed("x".parse::<u32>().unwrap_err().into());
 /// assert!(failed.source().is_some_and(|source| source.is::<ParseIntError>()));

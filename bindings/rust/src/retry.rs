@@ -91,15 +91,10 @@ impl<Errors, Values, Pause> Retry<Errors, Values, Pause> {
     ///
     /// ```
     /// use resil::Retry;
-    /// use std::io::{Error, ErrorKind};
     ///
-    /// struct Client {
-    ///     retry: Retry<fn(&Error) -> bool>,
-    /// }
-    ///
-    /// let is_late: fn(&Error) -> bool = |error| error.kind() == ErrorKind::TimedOut;
-    /// let client = Client { retry: Retry::new().retry_if(is_late) };
-    /// assert_eq!(client.retry.call(|| Ok(42)).ok(), Some(42));
+    /// let is_busy: fn(&u32) -> bool = |status| *status == 503;
+    /// let retry: Retry<fn(&u32) -> bool> = Retry::new().retry_if(is_busy);
+    /// assert_eq!(retry.call(|| Err::<(), _>(404)), Err(404));
     /// ```
     pub fn retry_if<E, F: Fn(&E) -> bool>(self, test: F) -> Retry<F, Values, Pause> {
         Retry {
