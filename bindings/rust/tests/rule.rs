@@ -57,11 +57,8 @@ fn submissions_are_answered_by_the_rule() -> Result<(), PoolError> {
 #[test]
 fn refusals_change_nothing() -> Result<(), PoolError> {
     let refused = |core, max, queue, callers| {
-        PoolRule::builder(core, max)
-            .queue(queue)
-            .callers(callers)
-            .open()
-            .err()
+        let rule = PoolRule::builder(core, max).queue(queue);
+        rule.callers(callers).open().err()
     };
     assert_eq!(refused(0, 0, 0, 0), Some(PoolError::CoreOutOfRange));
     assert_eq!(refused(2, 1, 0, 0), Some(PoolError::MaxOutOfRange));

@@ -296,30 +296,27 @@ fn a_dropped_pool_runs_what_waits() -> Checked {
     Ok(())
 }
 
-// A pool of so many threads that a job of its own drops, while another one waits in its queue.
-fn dropped_inside(threads: u32) -> Checked {
-    let pool = Arc::new(ThreadPool::builder(threads, threads).open()?);
-    let (gate, closed) = mpsc::channel();
-    let inner = Arc::clone(&pool);
-    let job = pool.submit(move || {
-        wait_at(&closed);
-        let waits = inner.submit(|| 42).map_err(|refused| refused.reason);
-        drop(inner);
-        waits
-    })?;
-    for _ in 1..threads {
-        pool.submit(|| ())?.wait()?;
-    }
-    drop(pool);
-    drop(gate);
-    assert_eq!(in_time(in_time(job)??)?, 42);
-    Ok(())
-}
-
+// While another one waits in its queue.
 #[test]
 fn a_job_drops_its_own_pool() -> Checked {
-    dropped_inside(1)?;
-    dropped_inside(3)
+    for threads in [1, 3] {
+        let pool = Arc::new(ThreadPool::builder(threads, threads).open()?);
+        let (gate, closed) = mpsc::channel();
+        let inner = Arc::clone(&pool);
+        let job = pool.submit(move || {
+            wait_at(&closed);
+            let waits = inner.submit(|| 42).map_err(|refused| refused.reason);
+            drop(inner);
+            waits
+        })?;
+        for _ in 1..threads {
+            pool.submit(|| ())?.wait()?;
+        }
+        drop(pool);
+        drop(gate);
+        assert_eq!(in_time(in_time(job)??)?, 42);
+    }
+    Ok(())
 }
 
 #[test]

@@ -2,7 +2,7 @@
 //! test write the texts of so many into a folder, for `tools/check_bindings`.
 use super::common::Checked;
 use super::text::Text;
-use resil::{PoolNumbers, ThreadPool, Unstarted};
+use resil::{ThreadPool, Unstarted};
 use std::error::Error;
 use std::sync::Arc;
 use std::sync::atomic::{AtomicU64, Ordering};
@@ -156,22 +156,14 @@ impl Load {
             }
         }
         if texts.iter().all(|text| text.missed == 0) {
-            let sum = |first, last| {
-                texts
-                    .iter()
-                    .map(|text| text.count(first, last))
-                    .sum::<u64>()
+            let sum = |first, last| -> u64 {
+                let counts = texts.iter().map(|text| text.count(first, last));
+                counts.sum()
             };
-            let PoolNumbers {
-                accepted,
-                refused,
-                finished,
-                ..
-            } = self.pool.numbers();
-            assert_eq!(
-                (accepted, sum("idle", "")),
-                (finished, sum("submit", "core,,") + sum("submit", "extra,,"))
-            );
+            let numbers = self.pool.numbers();
+            let (refused, finished) = (numbers.refused, numbers.finished);
+            let started = sum("submit", "core,,") + sum("submit", "extra,,");
+            assert_eq!((numbers.accepted, sum("idle", "")), (finished, started));
             let submitted = sum("submit", "");
             assert_eq!(submitted, self.counted.submitted.load(Ordering::SeqCst));
             assert_eq!(refused, self.counted.refused.load(Ordering::SeqCst));
@@ -188,9 +180,8 @@ where
 {
     counted.submitted.fetch_add(1, Ordering::SeqCst);
     let job = pool.submit(job).ok();
-    counted
-        .refused
-        .fetch_add(job.is_none().into(), Ordering::SeqCst);
+    let is_refused = job.is_none().into();
+    counted.refused.fetch_add(is_refused, Ordering::SeqCst);
     job
 }
 

@@ -165,10 +165,8 @@ fn a_part_begins_with_the_state_of_the_pool() -> Checked {
     drop(pool.close_now());
     let text = history(&pool)?;
     assert_eq!((text.sizes, text.made), ([1, 4, 2], 7));
-    assert_eq!(
-        text.events[5..],
-        ["submit,1,5,queued,,", "resize,,,,1,3", "close,,,,,"]
-    );
+    let wanted = ["submit,1,5,queued,,", "resize,,,,1,3", "close,,,,,"];
+    assert_eq!(text.events[5..], wanted);
     end(jobs.remove(0))?;
     assert!(until(|| pool.numbers().workers == 3));
     let text = history(&pool)?;

@@ -30,11 +30,9 @@ pub struct State {
 
 // The number behind these words, or 0 where they aren't there.
 fn number_behind<T: Default + FromStr>(text: &str, words: &str) -> T {
-    let rest = text
-        .split_once(words)
-        .and_then(|(_, rest)| rest.split(' ').next());
-    rest.and_then(|number| number.parse().ok())
-        .unwrap_or_default()
+    let rest = text.split_once(words).map_or("", |(_, rest)| rest);
+    let number = rest.split(' ').next().unwrap_or_default();
+    number.parse().unwrap_or_default()
 }
 
 impl Text {

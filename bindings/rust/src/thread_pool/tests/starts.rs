@@ -19,11 +19,8 @@ fn allow(starts: usize) {
 
 fn builder(core: u32, max: u32) -> ThreadPoolBuilder {
     ThreadPool::builder(core, max).start(|builder, work| {
-        let left = STARTS
-            .get()
-            .checked_sub(1)
-            .ok_or(io::ErrorKind::WouldBlock)?;
-        STARTS.set(left);
+        let left = STARTS.get().checked_sub(1);
+        STARTS.set(left.ok_or(io::ErrorKind::WouldBlock)?);
         builder.spawn(work)
     })
 }
