@@ -20,9 +20,9 @@ import java.util.regex.Pattern;
  * back. Tasks and rejection handlers run without the lock; a thread factory runs under it, and must not wait for the pool.
  *
  * <p><b>Files.</b> {@code NAME-00001.csv} and so on, behind those of earlier runs. Each is judged and drawn alone: it begins with events that
- * make the state in which the pool was. Resil's RECORDING.md tells when one ends, and what recording costs. Events are written under the lock.
- * Where a file can't be written, or more than some 15,000 tasks wait at a seam, the record ends and the pool goes on; {@link #endRecord} tells
- * why.
+ * make the state in which the pool was. Resil's RECORDING.md tells when one ends, as by {@link ThreadPoolExecutor.DiscardOldestPolicy}, and
+ * what recording costs. Events are written under the lock. Where a file can't be written, or more than some 15,000 tasks wait at a seam, the
+ * record ends and the pool goes on; {@link #endRecord} tells why.
  *
  * <p><b>What isn't.</b> Which thread runs a task; that a thread whose task threw is replaced; that a future was cancelled, which still runs
  * and finishes at once; what a handler does. Callers are threads, the first 1,000 by numbers of their own, all others by one.
