@@ -20,7 +20,7 @@ use Rattle.resil_input.specs.TextEquality.{is_same}
 use Rattle.resil_heads.specs.declared.layers.bulkheads.ConfigSpec.{ConfigSpec}
 use Rattle.resil_heads.specs.declared.error.HeadError.{HeadError}
 use Rattle.resil_heads.specs.declared.error.HeadError.TheVariants as error
-use Rattle.resil_heads.proofs.LayerLaws.{after, after-none, each-map}
+use Rattle.resil_heads.proofs.LayerLaws.{after, after_none, each_map}
 
 -- ---- Names.
 
@@ -55,21 +55,21 @@ pub in_byte_order-view : (entries : List Entry) → in_byte_order (members_view 
 in_byte_order-view [] = refl
 in_byte_order-view (e ∷ entries) = ap (λ rest. (string_bytes e.0, view e.1) ∷ rest) (in_byte_order-view entries)
 
-pub configurations-init : (entries : List Entry) (prefix : List ConfigSpec) → prefix ≡ []
+pub configurations_init : (entries : List Entry) (prefix : List ConfigSpec) → prefix ≡ []
     → after prefix (each (λ (e : Entry). parse_config (string_bytes e.0, view e.1)) entries) ≡ each parse_config (in_byte_order (members_view entries))
-configurations-init entries prefix none =
-    rw none (after-none _ ∙ sym (each-map parse_config (λ (e : Entry). (string_bytes e.0, view e.1)) entries) ∙ ap (each parse_config) (sym (in_byte_order-view entries)))
+configurations_init entries prefix none =
+    rw none (after_none _ ∙ sym (each_map parse_config (λ (e : Entry). (string_bytes e.0, view e.1)) entries) ∙ ap (each parse_config) (sym (in_byte_order-view entries)))
 
-pub configuration-added : (lists : RegistryView ℕ) (said : ConfigSpec) → IsFreeName lists said.name → with_configuration lists said ≡ Ok (with_config lists said.name said.permits)
-configuration-added lists said free = rw (good-name said.name free.good, other said.name default_name free.unreserved, free.new) refl
+pub configuration_added : (lists : RegistryView ℕ) (said : ConfigSpec) → IsFreeName lists said.name → with_configuration lists said ≡ Ok (with_config lists said.name said.permits)
+configuration_added lists said free = rw (good-name said.name free.good, other said.name default_name free.unreserved, free.new) refl
 
-pub configuration-refused : (lists : RegistryView ℕ) (said : ConfigSpec) (why : RegistryError) → IsConfigError lists said.name why
+pub configuration_refused : (lists : RegistryView ℕ) (said : ConfigSpec) (why : RegistryError) → IsConfigError lists said.name why
     → registry_error why ≢ error.Memory → with_configuration lists said ≡ Err (registry_error why)
-configuration-refused lists said BadName bad h = rw (bad-name said.name bad) refl
-configuration-refused lists said ReservedName reserved h = rw (good-name said.name reserved.0, same said.name default_name reserved.1) refl
-configuration-refused lists said NameTaken named h = rw (good-name said.name named.0, other said.name default_name named.1, named.2) refl
-configuration-refused lists said Memory free h = absurd (h refl)
-configuration-refused lists said NoSuchConfig never h = absurd never
+configuration_refused lists said BadName bad h = rw (bad-name said.name bad) refl
+configuration_refused lists said ReservedName reserved h = rw (good-name said.name reserved.0, same said.name default_name reserved.1) refl
+configuration_refused lists said NameTaken named h = rw (good-name said.name named.0, other said.name default_name named.1, named.2) refl
+configuration_refused lists said Memory free h = absurd (h refl)
+configuration_refused lists said NoSuchConfig never h = absurd never
 
 -- ---- Bulkheads.
 
@@ -85,18 +85,18 @@ obtained-found lists new name config id (Some i) known made =
     let same : id ≡ i = cc (known.0) in
     rw (same, known.1) refl
 
-pub obtained-given : (lists new : RegistryView ℕ) (name config : List ℕ) (id : ℕ) → ¬ ¬ IsName name
+pub obtained_given : (lists new : RegistryView ℕ) (name config : List ℕ) (id : ℕ) → ¬ ¬ IsName name
     → IfSome (instance_id lists name) (λ known. (answered id ≡ answered known) × (new ≡ lists)) → IfNone (instance_id lists name) (CreatesInstance lists name config id new)
     → obtained lists name config ≡ Ok (record { id = id; lists = new })
-obtained-given lists new name config id good known made = rw (no-bad-name name good) (obtained-found lists new name config id (instance_id lists name) known made)
+obtained_given lists new name config id good known made = rw (no-bad-name name good) (obtained-found lists new name config id (instance_id lists name) known made)
 
-pub obtained-refused : (lists : RegistryView ℕ) (name config : List ℕ) (why : RegistryError) → IsInstanceError lists name config why
+pub obtained_refused : (lists : RegistryView ℕ) (name config : List ℕ) (why : RegistryError) → IsInstanceError lists name config why
     → registry_error why ≢ error.Memory → obtained lists name config ≡ Err (registry_error why)
-obtained-refused lists name config BadName bad h = rw (bad-name name bad) refl
-obtained-refused lists name config NoSuchConfig none h = rw (good-name name none.0, none.1, none.2) refl
-obtained-refused lists name config Memory free h = absurd (h refl)
-obtained-refused lists name config ReservedName never h = absurd never
-obtained-refused lists name config NameTaken never h = absurd never
+obtained_refused lists name config BadName bad h = rw (bad-name name bad) refl
+obtained_refused lists name config NoSuchConfig none h = rw (good-name name none.0, none.1, none.2) refl
+obtained_refused lists name config Memory free h = absurd (h refl)
+obtained_refused lists name config ReservedName never h = absurd never
+obtained_refused lists name config NameTaken never h = absurd never
 
 -- ---- Layers.
 
@@ -104,8 +104,9 @@ obtained-refused lists name config NameTaken never h = absurd never
 abbrev pub after_layers : List Layer → Result BuiltLayers HeadError → Result BuiltLayers HeadError
 after_layers prefix rest = and_then rest (λ more. Ok (record { layers = prefix ++ more.layers; lists = more.lists }))
 
-pub after_layers-next : (prefix : List Layer) (y : Layer) (rest : Result BuiltLayers HeadError)
-    → after_layers prefix (and_then rest (λ more. Ok (record { layers = y ∷ more.layers; lists = more.lists }))) ≡ after_layers (prefix ++ y ∷ []) rest
-after_layers-next prefix y (Ok more) =
-    ap (λ layers. Ok (record { layers = layers; lists = more.lists })) (sym (append_assoc prefix (y ∷ []) more.layers))
-after_layers-next prefix y (Err why) = refl
+pub after_layers_next : (prefix : List Layer) (y : Layer) (built rest all : Result BuiltLayers HeadError)
+    → built ≡ and_then rest (λ more. Ok (record { layers = y ∷ more.layers; lists = more.lists })) → after_layers prefix built ≡ all
+    → after_layers (prefix ++ y ∷ []) rest ≡ all
+after_layers_next prefix y built (Ok more) all is inv =
+    ap (λ layers. Ok (record { layers = layers; lists = more.lists })) (append_assoc prefix (y ∷ []) more.layers) ∙ ap (after_layers prefix) (sym is) ∙ inv
+after_layers_next prefix y built (Err why) all is inv = ap (after_layers prefix) (sym is) ∙ inv

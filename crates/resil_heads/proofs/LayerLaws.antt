@@ -16,36 +16,36 @@ use Rattle.resil_heads.specs.declared.error.HeadError.TheVariants as error
 abbrev pub after : {B : Type 0} → List B → Result (List B) HeadError → Result (List B) HeadError
 after prefix rest = and_then rest (λ more. Ok (prefix ++ more))
 
-pub after-none : {B : Type 0} (rest : Result (List B) HeadError) → after [] rest ≡ rest
-after-none (Ok more) = refl
-after-none (Err why) = refl
+pub after_none : {B : Type 0} (rest : Result (List B) HeadError) → after [] rest ≡ rest
+after_none (Ok more) = refl
+after_none (Err why) = refl
 
 pub after-next : {B : Type 0} (prefix : List B) (y : B) (rest : Result (List B) HeadError) → after prefix (and_then rest (λ ys. Ok (y ∷ ys))) ≡ after (prefix ++ y ∷ []) rest
 after-next prefix y (Ok more) = ap Ok (sym (append_assoc prefix (y ∷ []) more))
 after-next prefix y (Err why) = refl
 
 -- reading what elements are mapped to
-pub each-map : {A B C : Type 0} (read : B → Result C HeadError) (f : A → B) (xs : List A) → each read (map f xs) ≡ each (λ x. read (f x)) xs
-each-map read f [] = refl
-each-map read f (x ∷ xs) = ap (λ rest. and_then (read (f x)) (λ y. and_then rest (λ ys. Ok (y ∷ ys)))) (each-map read f xs)
+pub each_map : {A B C : Type 0} (read : B → Result C HeadError) (f : A → B) (xs : List A) → each read (map f xs) ≡ each (λ x. read (f x)) xs
+each_map read f [] = refl
+each_map read f (x ∷ xs) = ap (λ rest. and_then (read (f x)) (λ y. and_then rest (λ ys. Ok (y ∷ ys)))) (each_map read f xs)
 
 -- the first of the elements that are left is read
-pub each-turn : {A B : Type 0} (read : A → Result B HeadError) (x : A) (y : B) (left rest : List A) (prefix : List B) (all : Result (List B) HeadError)
+pub each_turn : {A B : Type 0} (read : A → Result B HeadError) (x : A) (y : B) (left rest : List A) (prefix : List B) (all : Result (List B) HeadError)
     → left ≡ x ∷ rest → read x ≡ Ok y → after prefix (each read left) ≡ all → after (prefix ++ y ∷ []) (each read rest) ≡ all
-each-turn read x y left rest prefix all is said inv =
+each_turn read x y left rest prefix all is said inv =
     let read_on = rw (is, said) at inv in
     sym (after-next prefix y (each read rest)) ∙ read_on
 
 -- an element that is read
-pub each-next : {A B : Type 0} (read : A → Result B HeadError) (xs : List A) (i : ℕ) (x : A) (y : B) (prefix : List B) (all : Result (List B) HeadError)
+pub each_next : {A B : Type 0} (read : A → Result B HeadError) (xs : List A) (i : ℕ) (x : A) (y : B) (prefix : List B) (all : Result (List B) HeadError)
     → i < length xs → x ≡ get_or xs i x → read x ≡ Ok y → after prefix (each read (drop i xs)) ≡ all → after (prefix ++ y ∷ []) (each read (drop (i + 1) xs)) ≡ all
-each-next read xs i x y prefix all within is said inv =
-    each-turn read x y (drop i xs) (drop (i + 1) xs) prefix all (drop_more xs i x within ∙ ap (λ z. z ∷ drop (i + 1) xs) (sym is)) said inv
+each_next read xs i x y prefix all within is said inv =
+    each_turn read x y (drop i xs) (drop (i + 1) xs) prefix all (drop_more xs i x within ∙ ap (λ z. z ∷ drop (i + 1) xs) (sym is)) said inv
 
 -- before the first element, of a list that is read as it is seen
 pub each-init : {A B C : Type 0} (read : B → Result C HeadError) (f : A → B) (xs : List A) (prefix : List C) → prefix ≡ []
     → after prefix (each (λ x. read (f x)) xs) ≡ each read (map f xs)
-each-init read f xs prefix none = rw none (after-none (each (λ x. read (f x)) xs) ∙ sym (each-map read f xs))
+each-init read f xs prefix none = rw none (after_none (each (λ x. read (f x)) xs) ∙ sym (each_map read f xs))
 
 -- the items of an array, as a list
 pub items_listed-of : (ds : List Data) → items_listed (items_of ds) ≡ ds

@@ -18,8 +18,8 @@ are_limits all =
 few-flat_map : {A B : Type 0} (f : A → List B) (n : ℕ) → ((x : A) → length (f x) ≤ n) → (xs : List A) → length (flat_map f xs) ≤ length xs * n
 few-flat_map f n few xs = rw length-flat_map (sum_by-le (λ x. length (f x)) n xs (All-weaker (Contains xs) (λ x. length (f x) ≤ n) (λ x _. few x) xs (All-contains_itself xs)))
 
-pub few-pools : (cores maxes queues : List ℕ) → length cores ≤ 8 → length maxes ≤ 8 → length queues ≤ 8 → length (filter is_pool (combinations cores maxes queues)) ≤ 512
-few-pools cores maxes queues c m q =
+pub few_pools : (cores maxes queues : List ℕ) → length cores ≤ 8 → length maxes ≤ 8 → length queues ≤ 8 → length (filter is_pool (combinations cores maxes queues)) ≤ 512
+few_pools cores maxes queues c m q =
     let kept : length (filter is_pool (combinations cores maxes queues)) ≤ length (combinations cores maxes queues) =
     rw length-filter (count_by-le-length is_pool (combinations cores maxes queues)) in
     let each : (core : ℕ) → length (with_maxes maxes queues core) ≤ 64 =

@@ -23,13 +23,13 @@ use toml::Table;
 ///
 /// `BadToml` where the bytes aren't UTF-8 or aren't a TOML document (a key that is there twice is
 /// one reason); `Memory` where memory runs out.
+#[tactic(auto, using(crate::proofs::DocumentLaws::document_of_bytes, crate::proofs::DocumentLaws::document_of_text))]
 pub fn read_document(alloc: Global, bytes: &[u8]) -> Result<Table, HeadError>
     ensures answer { GivesBy table_view result (document_of bytes.now) }
     ensures memory { result ≡ Err HeadError.Memory → ¬ IsBlank bytes.now }
 {
-    let text = match str::from_utf8(bytes) {
-        Ok(text) => text,
-        Err(_) => return Err(HeadError::BadToml),
+    let Ok(text) = str::from_utf8(bytes) else {
+        return Err(HeadError::BadToml);
     };
     match toml::table_from_str(alloc, text) {
         Ok(table) => Ok(table),

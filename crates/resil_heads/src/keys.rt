@@ -154,6 +154,7 @@ pub fn parse_kind_value(value: &Value) -> Result<Kind, HeadError>
 }
 
 // The kinds of error in a value, where it is an array of them.
+#[tactic(auto, using(crate::proofs::LayerLaws::each_next))]
 fn parse_kinds(alloc: Global, value: &Value) -> Result<Vec<Kind>, HeadError>
     ensures { GivesBy (λ kinds. kinds.items) result (parse_kinds (view value.now)) }
 {
@@ -217,6 +218,7 @@ pub(crate) fn parse_table<'a>(value: &'a Value) -> Result<&'a Table, HeadError>
 }
 
 // The tables in a value, where it is an array of them.
+#[tactic(auto, using(crate::proofs::LayerLaws::each_next))]
 fn parse_tables<'a>(alloc: Global, value: &'a Value) -> Result<Vec<&'a Table>, HeadError>
     ensures { GivesBy (λ tables. map (λ table. table_view table.now) tables.items) result (parse_tables (view value.now)) }
 {

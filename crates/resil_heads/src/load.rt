@@ -48,6 +48,7 @@ pub struct LoadHead {
 }
 
 // A number, or the 1 to 8 numbers of an array. Errors: `BadValue`, `Memory`.
+#[tactic(auto, using(crate::proofs::LayerLaws::each_next))]
 fn parse_counts(alloc: Global, value: &Value) -> Result<Vec<u32>, HeadError>
     ensures answer { GivesBy (λ counts. counts.items) result (parse_counts (view value.now)) }
     ensures few { IfOk result (λ counts. length counts.items ≤ 8) }
@@ -96,6 +97,7 @@ fn combine(
 }
 
 // The pools of sizes. Errors: `Limits`, `Memory`.
+#[tactic(auto, using(crate::proofs::LoadLaws::are_limits, crate::proofs::LoadLaws::few_pools))]
 fn pools_from(
     alloc: Global,
     cores: &[u32],

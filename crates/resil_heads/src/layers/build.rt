@@ -65,6 +65,7 @@ fn build_layer(registry: &mut Registry<u16>, said: LayerSpec) -> Result<Layer, H
 }
 
 /// The layers, each built in turn. Errors: that of the first layer that can't be built; `Memory`.
+#[tactic(auto, using(crate::proofs::BulkheadLaws::after_layers_next))]
 pub(super) fn build_layers(
     alloc: Global,
     registry: &mut Registry<u16>,

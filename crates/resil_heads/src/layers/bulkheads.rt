@@ -47,6 +47,7 @@ fn parse_permits(value: &Value) -> Result<u16, HeadError>
 
 /// The configurations of a head, in byte order of their names. Errors: `BadValue` for the first
 /// value that is no number of permits; `Memory`.
+#[tactic(auto, using(crate::proofs::LayerLaws::each_turn))]
 pub(crate) fn parse_configs<'a>(
     alloc: Global,
     permits: Option<&'a Table>,
@@ -83,6 +84,7 @@ pub fn registry_error(why: RegistryError) -> HeadError
 }
 
 // Adds a configuration. Errors: `BadName`, `ReservedName`, `NameTaken`, `Memory`.
+#[tactic(auto, using(crate::proofs::BulkheadLaws::configuration_added, crate::proofs::BulkheadLaws::configuration_refused))]
 fn add_configuration(registry: &mut Registry<u16>, said: ConfigSpec) -> Result<(), HeadError>
     ensures { GivesBy (λ _. registry.new) result (with_configuration registry.old said.entry) }
 {
@@ -110,6 +112,7 @@ pub(crate) fn configured(alloc: Global, said: Vec<ConfigSpec>) -> Result<Registr
 }
 
 /// The id of the bulkhead of that name. Errors: `BadName`, `NoSuchConfig`, `Memory`, in this order.
+#[tactic(auto, using(crate::proofs::BulkheadLaws::obtained_given, crate::proofs::BulkheadLaws::obtained_refused))]
 pub(crate) fn obtained(
     registry: &mut Registry<u16>,
     name: HeadText,

@@ -319,17 +319,14 @@ fn parse_layer<'a>(alloc: Global, layer: &'a Table) -> Result<LayerSpec<'a>, Hea
     ensures { Gives result (parse_layer (table_view layer.now)) }
 {
     match kind_in(layer)? {
-        LayerKind::Retry => {
-            let backoff = backoff_in(layer)?;
-            let retry = parse_retry(alloc, backoff, layer)?;
-            Ok(LayerSpec::Retry(retry))
-        }
+        LayerKind::Retry => Ok(LayerSpec::Retry(parse_retry(alloc, backoff_in(layer)?, layer)?)),
         LayerKind::Bulkhead => parse_bulkhead(layer),
         LayerKind::Fallback => parse_fallback(alloc, layer),
     }
 }
 
 // What all layers say. Errors: that of the first layer that has one; `Memory`.
+#[tactic(auto, using(crate::proofs::LayerLaws::after_none, crate::proofs::LayerLaws::each_map, crate::proofs::LayerLaws::each_next))]
 fn parse_layers<'a>(alloc: Global, layers: &[&'a Table]) -> Result<Vec<LayerSpec<'a>>, HeadFault>
     ensures { GivesBy (λ said. said.items) result (each parse_layer (map (λ layer. table_view layer.now) layers.now)) }
 {
