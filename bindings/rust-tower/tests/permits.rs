@@ -209,6 +209,8 @@ fn a_refused_call_does_not_reach_the_inner_service() -> Result<(), Box<dyn std::
     assert_eq!(polled(refused), Poll::Ready(Err(CallError::Full)));
     assert_eq!(bulkhead.available(), 2);
     assert_eq!(polled(service.call(42)), Poll::Ready(Ok(42)));
+    let failed = Poll::Ready(Err(CallError::Failed("no route")));
+    assert_eq!(polled(service.call(2)), failed);
     Ok(())
 }
 

@@ -30,9 +30,6 @@ fn memory_does_not_grow_with_the_jobs() -> Result<(), Box<dyn Error>> {
     let after = after_rounds(&pool, 20_000)?;
     assert_eq!(pool.numbers().finished, 1_050_000);
     // A byte for each job would be a mebibyte.
-    assert!(
-        after < before + 512,
-        "{before} KiB before, {after} KiB after"
-    );
+    assert!(after < before + 512, "{before} and {after} KiB");
     Ok(())
 }

@@ -14,7 +14,7 @@ use tower::{Service, ServiceExt, service_fn};
 pub type Checked = Result<(), Box<dyn Error>>;
 pub type Answer = Pin<Box<dyn Future<Output = Result<u32, &'static str>> + Send>>;
 
-/// Answers with the number that it is asked by; 0 is never answered, and 1 panics in the call. It is ready after half as many looks,
+/// Answers with the number that it is asked by; 0 is never answered, 1 panics in the call, and 2 fails. It is ready after half as many looks,
 /// or fails then where they are odd.
 #[derive(Clone, Debug)]
 pub struct Answers {
@@ -46,6 +46,7 @@ impl Service<u32> for Answers {
         match number {
             0 => Box::pin(future::pending()),
             1 => panic!("out of paper"),
+            2 => Box::pin(future::ready(Err("no route"))),
             _ => Box::pin(future::ready(Ok(number))),
         }
     }
