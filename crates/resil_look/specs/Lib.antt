@@ -1,3 +1,1 @@
-pub mod Command
 pub mod Look
-pub mod Simulate

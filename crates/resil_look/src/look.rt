@@ -3,20 +3,18 @@
 //! All input is read before anything is answered, and an answer is made whole before its first byte is
 //! written.
 
-ghost use Rattle.std.specs.Prelude.{◌≡◌, ◌≤◌, ◌⊎◌, ◌||◌, ◌+◌, ℕ, List, Option, true, false, None, map, is_err, IfOk, MatchResult, ◌<◌, length};
-ghost use Rattle.resil_heads.specs.Parts.{FitsLimit};
+ghost use Rattle.std.specs.Prelude.{◌≡◌, ◌≤◌, ◌⊎◌, ◌||◌, ◌+◌, ℕ, List, Option, true, false, None, map, is_err, IfOk};
 ghost use Rattle.resil_input.specs.Io.{ConsumesAtMost, IsInput, input_limit};
 ghost use Rattle.resil_input.specs.Output.{IsWritten, code_of};
 ghost use Rattle.resil_input.specs.declared.output.Output.{Output};
 ghost use Rattle.resil_input.specs.declared.output.Status.{Status};
-ghost use Rattle.resil_look.specs.Look.{IsLooked, IsRefusedOutput, IsRequestOutput, IsViewOutput, request_named, requested, view_named};
+ghost use Rattle.resil_look.specs.Look.{IsLooked, IsRequestOutput, request_named, requested, view_named};
 
-use crate::command::{StatsError, View, view_text};
-use crate::simulate::{Shown, simulate_output};
 use resil_heads::{CommandError, Refusal, error_output};
 use resil_input::io::{Input, InputReader, OutputWriter, ReadError, read_input};
 use resil_input::output::{Output, write_output};
-use std::alloc::{AllocError, Global};
+use resil_view::{LoadView, View, simulate_output, view_output};
+use std::alloc::Global;
 
 /// What the words request.
 #[derive(Clone, Copy, Debug, PartialEq, Eq)]
@@ -24,7 +22,7 @@ pub(crate) enum Request {
     /// A view of a history.
     View(View),
     /// What a load comes to.
-    Simulate(Shown),
+    Simulate(LoadView),
 }
 
 // What the words request, of which the first is the program's name.
@@ -34,7 +32,7 @@ fn requested(words: &[&str]) -> Option<Request>
     match *words {
         [_, word] => request_named(word),
         [_, word, option] if word == "simulate" && option == "--history" => {
-            Some(Request::Simulate(Shown::History))
+            Some(Request::Simulate(LoadView::History))
         }
         _ => None,
     }
@@ -45,7 +43,7 @@ fn request_named(word: &str) -> Option<Request>
     ensures { result ≡ request_named word.now }
 {
     if word == "simulate" {
-        return Some(Request::Simulate(Shown::Numbers));
+        return Some(Request::Simulate(LoadView::Numbers));
     }
     let view = view_named(word)?;
     Some(Request::View(view))
@@ -66,49 +64,17 @@ fn view_named(word: &str) -> Option<View>
     }
 }
 
-/// The output of a line that was made, or `NoMemory` where memory ran out for it.
-pub(crate) fn line_output(made: Result<String, AllocError>) -> Output
-    ensures { MatchResult made (λ line. result ≡ Output.Line line) (λ _. result ≡ Output.NoMemory) }
-{
-    match made {
-        Ok(line) => Output::Line(line),
-        Err(_) => Output::NoMemory,
-    }
-}
-
-// The output where there is no text. Where memory runs out for a line, it is `NoMemory`.
-fn refused(alloc: Global, error: StatsError) -> Output
-    ensures { IsRefusedOutput error result }
-{
-    match error {
-        StatsError::Command(error) => error_output(alloc, error),
-        StatsError::BadResult => line_output("refused results BadRow\n".to_string(alloc)),
-        StatsError::TimeGoesBack(position) => {
-            line_output(format!(in alloc; "refused {position} TimeGoesBack\n"))
-        }
-    }
-}
-
-// The output of a view for what was read of an input.
-fn view_output(alloc: Global, view: View, input: &Input) -> Output
-    ensures { (bytes : List ℕ) → IsInput bytes input.now → IsViewOutput view bytes result }
-{
-    match input {
-        Input::TooLong => error_output(alloc, CommandError::Refused(Refusal::TooLong)),
-        Input::Whole(bytes) => match view_text(alloc, view, bytes) {
-            Ok(text) => Output::Text(text),
-            Err(error) => refused(alloc, error),
-        },
-    }
-}
-
 // The output of what is requested for what was read of an input.
 fn request_output(alloc: Global, request: Request, input: &Input) -> Output
     ensures { (bytes : List ℕ) → IsInput bytes input.now → IsRequestOutput request bytes result }
 {
+    let bytes = match input {
+        Input::TooLong => return error_output(alloc, CommandError::Refused(Refusal::TooLong)),
+        Input::Whole(bytes) => bytes,
+    };
     match request {
-        Request::View(view) => view_output(alloc, view, input),
-        Request::Simulate(shown) => simulate_output(alloc, shown, input),
+        Request::View(view) => view_output(alloc, view, bytes),
+        Request::Simulate(shown) => simulate_output(alloc, shown, bytes),
     }
 }
 

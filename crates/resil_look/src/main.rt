@@ -4,9 +4,7 @@
 //! It hands its words, its standard input and its standard output to `look`.
 #![tactic(auto)]
 
-mod command;
 mod look;
-mod simulate;
 
 use resil_explain::{explain_look, start};
 use std::process::ExitCode;

@@ -1,7 +1,7 @@
 use Rattle.resil_input.proofs.RowLaws.{handed-on}
-use Rattle.resil_look.specs.Command.{IsStatsError, head_keys}
-use Rattle.resil_look.proofs.LookLaws.{order-refused, results-refused}
-use Rattle.resil_look.proofs.command.view_text.Goals as goal
+use Rattle.resil_view.specs.Command.{IsStatsError, head_keys}
+use Rattle.resil_view.proofs.ViewLaws.{order-refused, results-refused}
+use Rattle.resil_view.proofs.command.view_text.Goals as goal
 
 pub returns-in_err-results : goal.returns-in_err-results
 returns-in_err-results c =

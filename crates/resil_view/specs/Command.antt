@@ -22,10 +22,10 @@ use Rattle.resil_stats.specs.declared.results.JobResult.{JobResult}
 use Rattle.resil_stats.specs.declared.spans.Spans.{Spans}
 use Rattle.resil_stats.specs.declared.stats.Stats.{Stats}
 use Rattle.resil_stats.specs.Svg.{IsHistorySvg}
-use Rattle.resil_look.specs.declared.command.StatsError.{StatsError}
-use Rattle.resil_look.specs.declared.command.StatsError.TheVariants.{Command, BadResult, TimeGoesBack}
-use Rattle.resil_look.specs.declared.command.View.{View}
-use Rattle.resil_look.specs.declared.command.View.TheVariants as view
+use Rattle.resil_view.specs.declared.command.StatsError.{StatsError}
+use Rattle.resil_view.specs.declared.command.StatsError.TheVariants.{Command, BadResult, TimeGoesBack}
+use Rattle.resil_view.specs.declared.command.View.{View}
+use Rattle.resil_view.specs.declared.command.View.TheVariants as view
 
 -- the keys of the heads of a view: a name where a history is counted or drawn
 abbrev pub head_keys : View → Keys

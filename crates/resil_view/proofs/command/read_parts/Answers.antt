@@ -3,9 +3,9 @@ use Rattle.resil_heads.specs.CommandError.{IsError}
 use Rattle.resil_heads.specs.History.{history_head_of}
 use Rattle.resil_heads.specs.Parts.{SplitsInto}
 use Rattle.resil_input.proofs.RowLaws.{handed-on}
-use Rattle.resil_look.specs.Command.{IsHistoryRefusal, head_keys}
-use Rattle.resil_look.proofs.LookLaws.{history-refused}
-use Rattle.resil_look.proofs.command.read_parts.Goals as goal
+use Rattle.resil_view.specs.Command.{IsHistoryRefusal, head_keys}
+use Rattle.resil_view.proofs.ViewLaws.{history-refused}
+use Rattle.resil_view.proofs.command.read_parts.Goals as goal
 
 pub returns-in_err-history : goal.returns-in_err-history
 returns-in_err-history c =

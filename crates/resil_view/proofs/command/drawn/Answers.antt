@@ -1,7 +1,7 @@
 use Rattle.std.proofs.Common.{option_map, string_bytes}
 use Rattle.std.proofs.lemmas.Result.{IfOk-weaker}
 use Rattle.resil_stats.specs.Svg.{IsHistorySvg, IsSvgOf}
-use Rattle.resil_look.proofs.command.drawn.Goals as goal
+use Rattle.resil_view.proofs.command.drawn.Goals as goal
 
 pub returns : goal.returns
 returns c =

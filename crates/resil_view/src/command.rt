@@ -11,7 +11,7 @@ ghost use Rattle.resil_stats.specs.Results.{history_part, results_of};
 ghost use Rattle.resil_rule.specs.Limits.{Sizes};
 ghost use Rattle.resil_rule.specs.Verdict.{IsVerdict};
 ghost use Rattle.resil_stats.specs.Stats.{legal_part};
-ghost use Rattle.resil_look.specs.Command.{AreInOrder, AreRead, AreSpansIn, IsHistoryRefusal, IsNumbersText, IsOrderRefusal, IsReadFrom, IsResultsRefusal, IsStatsError, IsTextOf, IsVerdictText, IsViewText, head_keys};
+ghost use Rattle.resil_view.specs.Command.{AreInOrder, AreRead, AreSpansIn, IsHistoryRefusal, IsNumbersText, IsOrderRefusal, IsReadFrom, IsResultsRefusal, IsStatsError, IsTextOf, IsVerdictText, IsViewText, head_keys};
 ghost use Rattle.resil_stats.specs.Svg.{IsHistorySvg};
 
 use resil_heads::forms::Key;
@@ -29,7 +29,7 @@ use std::alloc::{AllocError, Global};
 
 /// What the words request.
 #[derive(Clone, Copy, Debug, PartialEq, Eq)]
-pub(crate) enum View {
+pub enum View {
     /// `judge`: say whether a history is legal.
     Judge,
     /// `stats`: count the events of a history, and write its numbers.
