@@ -1,0 +1,45 @@
+-- What a page is answered: the output of a command for an input, and where its bytes are.
+use Rattle.std.specs.Prelude.{ℕ, ◌≡◌, ◌≤◌, ◌<◌, ◌++◌, ◌⊎◌, ◌==◌, if◌then◌else◌, List, Option, Some, None, length, drop}
+use Rattle.resil_input.specs.Output.{bytes_of, code_of, status_of}
+use Rattle.resil_input.specs.declared.output.Output.{Output}
+use Rattle.resil_input.specs.declared.output.Output.TheVariants as output
+use Rattle.resil_page.specs.declared.output.Command.{Command}
+use Rattle.resil_page.specs.declared.output.Command.TheVariants.{Replay, Audit, View, Simulate}
+use Rattle.resil_replay.specs.Audit.{IsAuditText, IsAuditRefusal}
+use Rattle.resil_replay.specs.Replay.{IsReplayText, IsReplayRefusal}
+use Rattle.resil_view.specs.Output.{IsOutputFor, IsRefusalLine, IsViewOutput}
+use Rattle.resil_view.specs.Simulate.{IsSimulateOutput, text_of}
+use Rattle.resil_view.specs.declared.command.View.TheVariants.{Judge, Stats, Timeline}
+use Rattle.resil_view.specs.declared.simulate.LoadView.TheVariants.{Numbers, History}
+
+-- the command of a number
+abbrev pub command_of : ℕ → Option Command
+command_of number =
+    if number == 0 then Some Replay
+    else if number == 1 then Some Audit
+    else if number == 2 then Some (View Judge)
+    else if number == 3 then Some (View Stats)
+    else if number == 4 then Some (View Timeline)
+    else if number == 5 then Some (Simulate Numbers)
+    else if number == 6 then Some (Simulate History)
+    else None
+
+-- an output of a command for an input
+abbrev pub IsCommandOutput : Command → List ℕ → Output → Type 0
+IsCommandOutput Replay input out = IsOutputFor IsReplayText (IsRefusalLine IsReplayRefusal) input out
+IsCommandOutput Audit input out = IsOutputFor IsAuditText (IsRefusalLine IsAuditRefusal) input out
+IsCommandOutput (View view) input out = IsViewOutput view input out
+IsCommandOutput (Simulate view) input out = IsSimulateOutput (text_of view) input out
+
+-- the same, or that of wrong words where no command is asked for
+abbrev pub IsPageOutput : Option Command → List ℕ → Output → Type 0
+IsPageOutput None input out = out ≡ output.Usage
+IsPageOutput (Some command) input out = IsCommandOutput command input out
+
+-- the bytes stand at the front of a space where they fit, else the space is as it was
+abbrev pub IsFilled : List ℕ → List ℕ → List ℕ → Type 0
+IsFilled bytes before after = ((length bytes ≤ length before) × (after ≡ bytes ++ drop (length bytes) before)) ⊎ ((length before < length bytes) × (after ≡ before))
+
+-- an output was handed over: its bytes, how many they are, and the number of its status
+abbrev pub IsHandedOver : Output → List ℕ → List ℕ → ℕ → ℕ → Type 0
+IsHandedOver out before after count code = IsFilled (bytes_of out) before after × (count ≡ length (bytes_of out)) × (code ≡ code_of (status_of out))
