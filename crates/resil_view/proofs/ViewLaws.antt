@@ -78,6 +78,6 @@ view-refused view input BadResult out fits is made = line-output (IsViewText vie
 view-refused view input (TimeGoesBack position) out fits is made = line-output (IsViewText view) (IsRefusedLine (head_keys view)) input out _ (inr (fits, inr (inr (position, is, refl)))) made
 
 pub simulate-refused : (IsText : List ℕ → List ℕ → Type 0) (input : List ℕ) (why : SimulateError) (out : Output) → FitsLimit input → IsSimulateError input why → IsSimulateRefused why out → IsSimulateOutput IsText input out
-simulate-refused IsText input (why_not.Command why) out fits is made = error-output IsText IsSimulateLine input (λ refusal. IsSimulateError input (why_not.Command (error.Refused refusal))) (λ refusal refused. (why_not.Command (error.Refused refusal), refused, refl)) why out fits is made
-simulate-refused IsText input why_not.ManyPools out fits is made = line-output IsText IsSimulateLine input out _ (inr (fits, (why_not.ManyPools, is, refl))) made
-simulate-refused IsText input (why_not.Row position why) out fits is made = line-output IsText IsSimulateLine input out _ (inr (fits, (why_not.Row position why, is, refl))) made
+simulate-refused IsText input (why_not.Command why) out fits is made = error-output IsText IsSimulateLine input (λ refusal. IsSimulateError input (why_not.Command (error.Refused refusal))) (λ refusal refused. inl (refusal, refused, refl)) why out fits is made
+simulate-refused IsText input why_not.ManyPools out fits is made = line-output IsText IsSimulateLine input out _ (inr (fits, inr (inl (is, refl)))) made
+simulate-refused IsText input (why_not.Row position why) out fits is made = line-output IsText IsSimulateLine input out _ (inr (fits, inr (inr (position, why, is, refl)))) made
