@@ -1,5 +1,5 @@
 -- The text of a history with times is read as that history.
-use Rattle.std.proofs.Common.{ℕ, ◌≡◌, ◌∙◌, ◌<◌, ◌^◌, ◌++◌, ◌∷◌, zero, suc, List, [], Option, Some, None, get_or, map, length, refl, sym, ap, add-one, arith}
+use Rattle.std.proofs.Common.{ℕ, ◌≡◌, ◌∙◌, ◌^◌, ◌++◌, ◌∷◌, zero, suc, List, [], Option, Some, None, get_or, map, length, refl, sym, ap, add-one, arith}
 use Rattle.std.specs.List.{All, flat_map}
 use Rattle.std.specs.Fmt.{decimal}
 use Rattle.csv.specs.Reading.{strip_bom}

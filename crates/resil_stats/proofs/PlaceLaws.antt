@@ -14,7 +14,7 @@ use Rattle.resil_rule.specs.declared.event.Reply.TheVariants as reply
 use Rattle.resil_rule.specs.declared.event.Event.{Event}
 use Rattle.resil_rule.specs.declared.event.Event.TheVariants.{Submit, Take}
 use Rattle.resil_rule.proofs.ConservationLaws.{front-unfinished, new-unfinished}
-use Rattle.resil_stats.specs.Bars.{finish_place, is_finish_of, placed, start_at}
+use Rattle.resil_stats.specs.Bars.{finish_place, is_finish_of, start_at}
 use Rattle.resil_stats.specs.declared.bars.Start.{Start}
 
 -- ---- Events with their places.
