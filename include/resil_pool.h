@@ -4,11 +4,10 @@
  * The pool is a book of jobs, and starts no thread. The service asks it what becomes of a submission, which job is to
  * run next, and tells it when a job has ended; it runs the jobs itself. A job is known by its caller and by its number,
  * which the caller counts from 1, or the library by resil_pool_submit_next. It brings 64 bits of the service's own, its
- * work, which the pool keeps until the job is picked. The rule is that of java.util.concurrent.ThreadPoolExecutor: while
- * there are fewer workers than the core size a job gets a worker of its own; else it waits in the queue; where the queue
- * is full, it gets a worker of its own up to the greatest size; else it is refused. A worker of its own begins with its
- * job: so after CORE or EXTRA the service starts one worker, and each worker picks, runs and finishes one job after the
- * other, and asks by resil_pool_idle_end whether it may end where there is none to pick.
+ * work, which the pool keeps until the job is picked. The rule is that of java.util.concurrent.ThreadPoolExecutor, as the
+ * manual, docs/FORMATS.md, has it under 'How rows are carried out'. After CORE or EXTRA the service starts one worker, which
+ * begins with that job, and each worker picks, runs and finishes one job after the other, and asks by resil_pool_idle_end
+ * whether it may end where there is none to pick.
  *
  * Where a thread can't be started, the pool has that worker all the same: it counts among its workers, and jobs are queued
  * for it. The service keeps a count of the threads that it owes, and those that submit make up for them: one whose job was

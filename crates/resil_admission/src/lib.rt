@@ -1,10 +1,7 @@
 //! The sequential pool: which submissions are accepted, what workers take, and the history of it all.
 //!
-//! The rule of admission is that of the class documentation of
-//! `java.util.concurrent.ThreadPoolExecutor`, told in full at `Machine::submit`. Two things in it
-//! surprise: while there are fewer workers than the core size, a submission gets a new worker even if
-//! others are idle; and extra workers come only once the queue is full. The rule goes by the sizes of
-//! the last `Machine::resize`, which begins and ends no worker.
+//! It answers by the rule of admission, `Rule::next_reply` of `resil_rule`, with the sizes of the last
+//! `Machine::resize`, which begins and ends no worker.
 //!
 //! What is kept true: the history of a pool is legal, that is, each of its events is one that the rule
 //! allows after the events before it. A job that is picked has the plan that was submitted under its

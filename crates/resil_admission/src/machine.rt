@@ -77,20 +77,11 @@ impl Machine {
         })
     }
 
-    /// Submits a job under its caller's next number, and answers by the rule of admission: the first
-    /// line that fits decides.
-    ///
-    /// | When | Answer | The job |
-    /// |---|---|---|
-    /// | the pool is closed | `Closed` | is dropped |
-    /// | there are fewer workers than the core size | `Core` | gets a new worker, even if others are idle |
-    /// | fewer jobs wait than the queue's capacity | `Queued` | waits in the queue |
-    /// | there are fewer workers than the greatest size | `Extra` | gets a new worker |
-    /// | otherwise | `Full` | is dropped |
-    ///
-    /// This is the rule of the ThreadPoolExecutor class documentation; that `Closed` and `Full` are two
-    /// answers is our own. An accepted job is kept until it is picked, and its plan, which both share, until
-    /// its run comes, which has that plan too. Each answer is an event of the history.
+    /// Submits a job under its caller's next number, and answers by the rule of admission (`Rule::next_reply`;
+    /// ThreadPoolExecutor class documentation). By `Core` and `Extra` the job gets a new worker, by `Queued` it
+    /// waits in the queue, by `Full` and `Closed` it is dropped. An accepted job is kept until it is picked, and
+    /// its plan, which both share, until its run comes, which has that plan too. Each answer is an event of the
+    /// history.
     ///
     /// # Errors
     ///
@@ -305,8 +296,6 @@ impl Machine {
         ensures legal { IsLegal self.now.limits self.now.history }
         ensures accepted { ids_of self.now.jobs ≡ accepted self.now.history }
     {
-        // For the proof alone, which has it from the rule's state that the history is legal.
-        let _rule = &self.rule;
         self.history.events()
     }
 

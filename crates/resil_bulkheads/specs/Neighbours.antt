@@ -8,7 +8,7 @@ use Rattle.toml.specs.Data.{Members}
 use Rattle.toml.specs.Parse.{parse_document}
 use Rattle.resil_bulkhead.specs.Bulkhead.{BulkheadView}
 use Rattle.resil_registry.specs.Registry.{RegistryView, config_of}
-use Rattle.resil_heads.specs.Bulkheads.{parse_configurations, bulkhead_tables, parse_bulkhead, text_keys}
+use Rattle.resil_heads.specs.Bulkheads.{parse_configurations, bulkhead_tables, parse_bulkhead_table, text_keys}
 use Rattle.resil_heads.specs.Document.{check_known}
 use Rattle.resil_bulkheads.specs.Bulkheads.{BulkheadsView}
 use Rattle.resil_heads.specs.declared.bulkheads.BulkheadSpec.{BulkheadSpec}
@@ -16,14 +16,14 @@ use Rattle.resil_heads.specs.declared.bulkheads.BulkheadSpec.{BulkheadSpec}
 -- a bulkhead has the name that its table says, and the permits of the configuration that it says
 pub record IsBulkheadSaid (lists : RegistryView ℕ) (keys : Members) (bulkhead : BulkheadView) : Type 0 where
   pub said : BulkheadSpec
-  pub read : parse_bulkhead keys ≡ Ok said
+  pub read : parse_bulkhead_table keys ≡ Ok said
   pub name : bulkhead.name ≡ said.name
   pub permits : config_of lists said.config ≡ Some bulkhead.permits.max
 
 -- a wait is as long as the table of its bulkhead says
 pub record IsWaitSaid (keys : Members) (wait : Duration) : Type 0 where
   pub said : BulkheadSpec
-  pub read : parse_bulkhead keys ≡ Ok said
+  pub read : parse_bulkhead_table keys ≡ Ok said
   pub long : as_nanos wait ≡ said.wait * 1000000
 
 -- one bulkhead more, the last of all, as its table says it

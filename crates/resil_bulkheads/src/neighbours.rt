@@ -12,7 +12,7 @@ use crate::registry::BulkheadRegistry;
 use resil_bulkhead::Bulkhead;
 use resil_heads::HeadError;
 use resil_heads::bulkheads::{
-    Place, TextError, parse_bulkhead, read_configurations, read_tables, read_text, registry_error,
+    Place, TextError, parse_bulkhead_table, read_configurations, read_tables, read_text, registry_error,
 };
 use std::alloc::Global;
 use std::time::Duration;
@@ -125,7 +125,7 @@ impl Neighbours {
         ensures bulkhead { OnOk result (AddsSaid self.old.registry (table_view keys.now) self.new.registry) }
         ensures wait { OnOk result (AddsWait self.old.waits.items (table_view keys.now) self.new.waits.items) }
     {
-        let said = parse_bulkhead(keys)?;
+        let said = parse_bulkhead_table(keys)?;
         let Neighbours { registry, waits } = self;
         if let Some(id) = registry.id(said.name.as_str()) {
             return Err(HeadError::SameName(id.saturating_add(1)));

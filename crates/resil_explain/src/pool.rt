@@ -10,7 +10,7 @@ use resil_replay::timed::read_history;
 use resil_rule::{Event, Id, Limits, Reply, Rule};
 
 /// Says on standard error what numbers a pool has.
-pub(crate) fn say_pool<R: Eprint>(rt: &R, rule: &Rule<u8>) -> Option<()> {
+pub(crate) fn say_pool<R: Eprint>(rt: &R, rule: &Rule<()>) -> Option<()> {
     let (workers, running) = (rule.workers(), rule.running());
     let (core, max) = (rule.core(), rule.max());
     let (waiting, queue) = (rule.waiting(), rule.limits().queue());
@@ -58,7 +58,7 @@ pub(crate) fn rule_at(
     head: &[u8],
     body: &[u8],
     position: usize,
-) -> Option<(Rule<u8>, Event)> {
+) -> Option<(Rule<()>, Event)> {
     let limits = limits_of(told, head)?;
     let events = events_of(told, body, position)?;
     rule_at_last(

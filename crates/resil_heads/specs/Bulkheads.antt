@@ -31,8 +31,8 @@ bulkhead_keys = record { known = codes "name" ∷ codes "config" ∷ codes "wait
 
 -- what the table of a bulkhead says: its name, its configuration, `default` where it names none, and the longest wait for a permit
 -- in milliseconds, 0 where it says none
-unfoldable pub parse_bulkhead : Members → Result BulkheadSpec HeadError
-parse_bulkhead keys =
+unfoldable pub parse_bulkhead_table : Members → Result BulkheadSpec HeadError
+parse_bulkhead_table keys =
     and_then (check_keys bulkhead_keys keys) (λ _.
     and_then (parse_required_at parse_text (codes "name") keys) (λ name.
     and_then (parse_at parse_text default_name (codes "config") keys) (λ config.

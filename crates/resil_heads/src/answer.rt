@@ -50,31 +50,20 @@ pub fn name_of(reply: Reply) -> &'static str {
     }
 }
 
-// Carries out an event; a job is picked where it has a worker of its own. `None` where memory runs out.
-fn follow(rule: &mut Rule<u8>, event: Event) -> Option<()> {
+// The event as the rule would have it: a row of a `replay` has no reply, and doesn't name the job that is taken.
+fn filled_in(rule: &Rule<()>, event: Event) -> Event {
     match event {
-        Event::Submit { id, reply: _ } => {
-            rule.reserve_caller(id.caller).ok()?;
-            drop(rule.submit(id, 0));
-            if rule.unpicked() > 0 {
-                drop(rule.pick());
-            }
-        }
-        Event::Take(_) => drop(rule.pick()),
-        Event::Finish(id) => {
-            if let Some(slot) = rule.find(id) {
-                rule.finish(slot);
-            }
-        }
-        Event::IdleEnd => drop(rule.idle_end()),
-        Event::Close => drop(rule.close()),
-        Event::Resized { core, max } => drop(rule.resize(core, max)),
+        Event::Submit { id, reply: _ } => Event::Submit {
+            id,
+            reply: rule.next_reply(),
+        },
+        Event::Take(id) => Event::Take(rule.front().unwrap_or(id)),
+        other => other,
     }
-    Some(())
 }
 
 /// Why an event isn't carried out.
-pub fn answer_to(rule: &Rule<u8>, event: Event) -> Answer {
+pub fn answer_to(rule: &Rule<()>, event: Event) -> Answer {
     match event {
         Event::Submit { id, reply: _ } if rule.is_next(id) => Answer::Reply(rule.next_reply()),
         Event::Submit { id, reply: _ } => {
@@ -100,11 +89,12 @@ pub fn answer_to(rule: &Rule<u8>, event: Event) -> Answer {
 }
 
 /// A rule of these limits that has carried out all events but the last, and that one, or `None` where there is none or memory runs out.
-pub fn rule_at_last(alloc: Global, limits: Limits, events: &[Event]) -> Option<(Rule<u8>, Event)> {
+pub fn rule_at_last(alloc: Global, limits: Limits, events: &[Event]) -> Option<(Rule<()>, Event)> {
     let (last, before) = events.split_last()?;
     let mut rule = Rule::new(alloc, limits, 0).ok()?;
     for event in before {
-        follow(&mut rule, *event)?;
+        let event = filled_in(&rule, *event);
+        rule.follow(event).ok()?;
     }
     Some((rule, *last))
 }

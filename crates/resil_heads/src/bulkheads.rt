@@ -2,12 +2,12 @@
 //! `[[bulkhead]]` has a name, a configuration and the longest wait for a permit.
 //!
 //! A text is read in steps, in this order: `read_text`, `read_configurations`, `read_tables`, and
-//! `parse_bulkhead` for each table. Who takes them makes the bulkheads.
+//! `parse_bulkhead_table` for each table. Who takes them makes the bulkheads.
 
 ghost use Rattle.std.specs.Prelude.{◌≡◌, Ok, Some, map, IfOk};
 ghost use Rattle.toml.specs.Parse.{parse_document};
 ghost use Rattle.toml.specs.View.{table_view};
-ghost use Rattle.resil_heads.specs.Bulkheads.{parse_configurations, bulkhead_tables, parse_bulkhead, text_keys};
+ghost use Rattle.resil_heads.specs.Bulkheads.{parse_configurations, bulkhead_tables, parse_bulkhead_table, text_keys};
 ghost use Rattle.resil_heads.specs.Checks.{Gives};
 ghost use Rattle.resil_heads.specs.Document.{check_known};
 
@@ -153,9 +153,9 @@ pub fn read_tables<'a>(alloc: Global, text: &'a Table) -> Result<Vec<&'a Table>,
 /// # Errors
 ///
 /// In this order: `UnknownKey`; `MissingKey` where it has no `name`; `BadValue`.
-#[tactic(auto, unfolding(crate::specs::Bulkheads::parse_bulkhead))]
-pub fn parse_bulkhead<'a>(keys: &'a Table) -> Result<BulkheadSpec<'a>, HeadError>
-    ensures { result ≡ parse_bulkhead (table_view keys.now) }
+#[tactic(auto, unfolding(crate::specs::Bulkheads::parse_bulkhead_table))]
+pub fn parse_bulkhead_table<'a>(keys: &'a Table) -> Result<BulkheadSpec<'a>, HeadError>
+    ensures { result ≡ parse_bulkhead_table (table_view keys.now) }
 {
     check_keys(BULKHEAD_KEYS, keys)?;
     let name = parse_text(required("name", keys)?)?;

@@ -38,15 +38,8 @@ pub enum SubmitError {
 
 impl Pool {
     /// Submits a job under the caller's next number, in one turn, and answers by the rule of admission
-    /// (ThreadPoolExecutor class documentation). The first line that fits decides:
-    ///
-    /// | When | Reply |
-    /// |---|---|
-    /// | the pool is closed | `Closed`: the job is dropped |
-    /// | there are fewer workers than the core size | `Core`: a new worker is started for the job, even if other workers are idle |
-    /// | fewer jobs wait than the queue has room for | `Queued`: the job waits for a worker |
-    /// | there are fewer workers than the greatest size | `Extra`: a new worker is started for the job |
-    /// | otherwise | `Full`: the job is dropped |
+    /// (`Rule::next_reply`; ThreadPoolExecutor class documentation). By `Core` and `Extra` a new worker is started
+    /// for the job, by `Queued` it waits for a worker, by `Full` and `Closed` it is dropped.
     ///
     /// The receipt is added to the caller's, whatever the reply. It waits while other seats hold the lock. Where there
     /// is a job to pick then and all workers sleep, it wakes one.

@@ -1,6 +1,7 @@
 -- Each step of the rule follows the definitions, after every history that its state may stand for.
-use Rattle.std.proofs.Common.{◌⊎◌, inl, inr, ◌≡◌, ◌<◌, ◌≤◌, ◌+◌, ◌-◌, ◌∷◌, [], ◌++◌, ◌∙◌, ◌||◌, ◌==◌, ℕ, suc, Bool, false, cond, List, Option, Some, None, length, filter, drop, slice_get, slice_set, slice_index_or, refl, sym, ap, arith, append-nil, length-append, length-drop}
+use Rattle.std.proofs.Common.{◌⊎◌, inl, inr, ◌≡◌, ◌↔◌, ◌<◌, ◌≤◌, ◌+◌, ◌-◌, ◌∷◌, [], ◌++◌, ◌∙◌, ◌||◌, ◌==◌, ℕ, suc, Bool, true, false, cond, IsTrue, List, Option, Some, None, length, filter, drop, slice_get, slice_set, slice_index_or, refl, sym, ap, arith, append-nil, length-append, length-drop}
 use Rattle.std.proofs.Math.Bool.{or-false}
+use Rattle.std.specs.Bool.{OnTrue}
 use Rattle.std.proofs.lemmas.Bool.{cases_lt}
 use Rattle.std.proofs.lemmas.Grind.{common_steps}
 use Rattle.std.proofs.lemmas.List.{drop-append-le, length-map, map-append}
@@ -193,6 +194,11 @@ module _ {W : Type 0} where
         goes-by v h state e (with_finish v slot) may (refl, sym (or-false v.closed), refl) (sym (append-nil (ids_of v.unpicked)), sym (append-nil (ids_of v.waiting)), outs)
             (sizes-quiet v.limits h e v.core v.max refl refl state.sizes) (λ c. refl) refl,
       )
+
+  pub finish_follows : (v after : RuleView W) (slot : Slot) (cleared : Bool) → IsTrue cleared ↔ (slice_get v.out slot.place ≡ Some (Some slot.id))
+      → OnTrue cleared (after ≡ with_finish v slot) → OnTrue cleared (Follows v (Finish slot.id) after)
+  finish_follows v after slot true there event = rw event (finish-follows v slot (there.0 refl))
+  finish_follows v after slot false there event = tt
 
   -- an event by which no job comes, waits, runs or ends
   still : (v : RuleView W) → Moves v v Close

@@ -5,9 +5,8 @@
 //! history: its memory is that of its opening, whatever comes. `audit` judges a history by one pass of a
 //! rule over no work.
 //!
-//! The rule is that of the class documentation of `java.util.concurrent.ThreadPoolExecutor`. Two things
-//! in it surprise. While there are fewer workers than the core size, a submission gets a new worker even
-//! if others are idle. Extra workers come only once the queue is full.
+//! The rule is that of the class documentation of `java.util.concurrent.ThreadPoolExecutor`; `Rule::next_reply`
+//! tells it.
 #![tactic(auto)]
 
 mod error;

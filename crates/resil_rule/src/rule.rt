@@ -140,12 +140,13 @@ impl<W: Drop> Rule<W> {
         Ok(())
     }
 
-    /// The answer to the next submission, by the rule of admission: the first line that fits decides.
+    /// The answer to the next submission, by the rule of admission (ThreadPoolExecutor class documentation): the
+    /// first line that fits decides. That `Closed` and `Full` are two answers is our own.
     ///
     /// | When | Answer |
     /// |---|---|
     /// | the pool is closed | `Closed` |
-    /// | there are fewer workers than the core size | `Core` |
+    /// | there are fewer workers than the core size, even if some are idle | `Core` |
     /// | fewer jobs wait than the queue's capacity | `Queued` |
     /// | there are fewer workers than the greatest size | `Extra` |
     /// | otherwise | `Full` |
@@ -255,17 +256,14 @@ impl<W: Drop> Rule<W> {
     /// assert!(rt; rule.finish(picked.slot));
     /// assert!(rt; !rule.finish(picked.slot));
     /// ```
-    #[tactic(auto, using(crate::proofs::SlotLaws::places))]
+    #[tactic(auto, using(crate::proofs::SlotLaws::places, crate::proofs::RuleLaws::finish_follows))]
     pub fn finish(&mut self, slot: Slot) -> bool
         ensures out { IsTrue result ↔ (slice_get self.old.out slot.place ≡ Some (Some slot.id)) }
         ensures event { OnTrue result (self.new ≡ with_finish self.old slot) }
         ensures follows { OnTrue result (Follows self.old (Event.Finish slot.id) self.new) }
         ensures unchanged { OnFalse result (self.new ≡ self.old) }
     {
-        if !self.out.clear(slot) {
-            return false;
-        }
-        true
+        self.out.clear(slot)
     }
 
     /// Where a job is, if it is out. It looks through as many places as the greatest size of the opening,

@@ -50,7 +50,7 @@ pub fn audit(alloc: Global, limits: &Limits, history: &[Event]) -> Result<Verdic
 {
     let mut rule = Rule::new(alloc, *limits, 0)?;
     for (index, event) in history.iter().enumerate() {
-        if !follow(&mut rule, *event)? {
+        if !rule.follow(*event)? {
             return Ok(Verdict::FirstIllegal(index + 1));
         }
     }
@@ -64,27 +64,35 @@ pub fn verdicts_are_one()
     ensures { VerdictsAreOne }
 {}
 
-// Takes the rule one event further, and says whether it allows it. Errors: `Memory`, of a submission.
-#[tactic(auto, using(crate::proofs::RefusalLaws::barred))]
-fn follow(rule: &mut Rule<()>, event: Event) -> Result<bool, AdmitError>
-    requires { rule.old.unpicked ≡ [] }
-    ensures allowed { IfOk result (λ allowed. OnTrue allowed (Follows rule.old event rule.new)) }
-    ensures picked { IfOk result (λ allowed. OnTrue allowed (rule.new.unpicked ≡ [])) }
-    ensures refused { IfOk result (λ allowed. OnFalse allowed (IsBarred rule.old event)) }
-    ensures limits { rule.new.limits ≡ rule.old.limits }
-    ensures memory { IfErr result (λ e. e ≡ AdmitError.Memory) }
-{
-    match event {
-        Event::Submit { id, reply } => follow_submission(rule, id, reply),
-        // No job with a worker of its own waits to be picked, so a pick takes from the queue.
-        Event::Take(id) => Ok(rule.front() == Some(id) && rule.pick().is_some()),
-        Event::Finish(id) => match rule.find(id) {
-            Some(slot) => Ok(rule.finish(slot)),
-            None => Ok(false),
-        },
-        Event::IdleEnd => Ok(rule.idle_end()),
-        Event::Close => Ok(rule.close()),
-        Event::Resized { core, max } => Ok(rule.resize(core, max).is_ok()),
+impl Rule<()> {
+    /// Takes the rule one event further, and says whether it allows it: a submission with the reply that it has, a job that is taken by its
+    /// id. A job with a worker of its own is picked at once. What it doesn't allow leaves it as it was.
+    ///
+    /// # Errors
+    ///
+    /// `Memory`, of a submission, where memory runs out.
+    #[tactic(auto, using(crate::proofs::RefusalLaws::barred))]
+    pub fn follow(&mut self, event: Event) -> Result<bool, AdmitError>
+        requires { self.old.unpicked ≡ [] }
+        ensures allowed { IfOk result (λ allowed. OnTrue allowed (Follows self.old event self.new)) }
+        ensures refused { IfOk result (λ allowed. OnFalse allowed (IsBarred self.old event)) }
+        ensures unchanged { IfOk result (λ allowed. OnFalse allowed (self.new ≡ self.old)) }
+        ensures picked { self.new.unpicked ≡ [] }
+        ensures limits { self.new.limits ≡ self.old.limits }
+        ensures memory { IfErr result (λ e. e ≡ AdmitError.Memory) }
+    {
+        match event {
+            Event::Submit { id, reply } => follow_submission(self, id, reply),
+            // No job with a worker of its own waits to be picked, so a pick takes from the queue.
+            Event::Take(id) => Ok(self.front() == Some(id) && self.pick().is_some()),
+            Event::Finish(id) => match self.find(id) {
+                Some(slot) => Ok(self.finish(slot)),
+                None => Ok(false),
+            },
+            Event::IdleEnd => Ok(self.idle_end()),
+            Event::Close => Ok(self.close()),
+            Event::Resized { core, max } => Ok(self.resize(core, max).is_ok()),
+        }
     }
 }
 
@@ -92,8 +100,9 @@ fn follow(rule: &mut Rule<()>, event: Event) -> Result<bool, AdmitError>
 fn follow_submission(rule: &mut Rule<()>, id: Id, reply: Reply) -> Result<bool, AdmitError>
     requires { rule.old.unpicked ≡ [] }
     ensures allowed { IfOk result (λ allowed. OnTrue allowed (Follows rule.old (Event.Submit id reply) rule.new)) }
-    ensures picked { IfOk result (λ allowed. OnTrue allowed (rule.new.unpicked ≡ [])) }
     ensures refused { IfOk result (λ allowed. OnFalse allowed (IsBarred rule.old (Event.Submit id reply))) }
+    ensures unchanged { IfOk result (λ allowed. OnFalse allowed (rule.new ≡ rule.old)) }
+    ensures picked { rule.new.unpicked ≡ [] }
     ensures limits { rule.new.limits ≡ rule.old.limits }
     ensures memory { IfErr result (λ e. e ≡ AdmitError.Memory) }
 {
