@@ -7,8 +7,8 @@
 
 /* The version of the headers and of the library behind them, which is that of its file for pkg-config and of the crate for
  * rustc: as 0xMMmmpp, a number that grows, and as a text. */
-#define RESIL_VERSION 0x000400
-#define RESIL_VERSION_STRING "0.4.0"
+#define RESIL_VERSION 0x000500
+#define RESIL_VERSION_STRING "0.5.0"
 
 /* What a call answers where the handle that goes in is empty, or where a pointer to write to is null: nothing was done
  * and nothing was written. A call that answers a count answers 0 there. */

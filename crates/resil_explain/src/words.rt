@@ -13,6 +13,9 @@ use std::rt::Env;
 // How many words are looked at.
 const MOST_WORDS: usize = 64;
 
+// The version of both programs, which is that of the crates for rustc.
+const VERSION: &str = "0.5.0";
+
 // The commands of `resil_look` that take no more words.
 const LOOK_COMMANDS: &[&str] = &["judge", "stats", "timeline"];
 
@@ -66,17 +69,24 @@ fn say_words<R: Eprint>(rt: &R, word: Option<&&str>, allowed: &str) {
     }
 }
 
+// The same where no word names a command, with the version.
+fn say_commands<R: Eprint>(rt: &R, word: Option<&&str>, commands: &str) {
+    say_words(rt, word, commands);
+    drop(eprintln!(rt; "resil: this is version {VERSION}"));
+}
+
 // Says on standard error which of the words is refused, where they are.
 fn explain_words<R: Eprint>(rt: &R, alloc: Global, words: &[&str]) {
     let Some(most) = accepted(alloc, words) else {
         return;
     };
-    let allowed = if most == 0 {
-        "the commands are replay, audit, chain, weave and run"
-    } else {
-        "run takes --hold and --callers N, N from 1 to 64; the other commands take no more words"
-    };
-    say_words(rt, words.get(most.max(1)), allowed);
+    if most == 0 {
+        let commands = "the commands are replay, audit, chain, weave and run";
+        return say_commands(rt, words.get(1), commands);
+    }
+    let allowed =
+        "run takes --hold and --callers N, N from 1 to 64; the other commands take no more words";
+    say_words(rt, words.get(most), allowed);
 }
 
 // The same of the words of `resil_look`.
@@ -96,7 +106,10 @@ fn explain_look_words<R: Eprint>(rt: &R, words: &[&str]) {
                 "the commands judge, stats and timeline take no more words",
             )
         }
-        _ => (1, "the commands are judge, stats, timeline and simulate"),
+        word => {
+            let commands = "the commands are judge, stats, timeline and simulate";
+            return say_commands(rt, word, commands);
+        }
     };
     say_words(rt, words.get(place), allowed);
 }
