@@ -63,7 +63,7 @@ impl Machine {
     ///
     /// # Errors
     ///
-    /// `Memory` where memory runs out.
+    /// `Memory` when out of memory.
     pub fn new(alloc: Global, limits: Limits) -> Result<Machine, AdmitError>
         ensures empty { IfOk result (λ m. m ≡ record { limits = limits; history = []; picked = 0; jobs = [] }) }
         ensures memory { IfErr result (λ e. e ≡ AdmitError.Memory) }
@@ -86,7 +86,7 @@ impl Machine {
     /// # Errors
     ///
     /// In this order, with the job handed back and nothing changed: `WrongNumber` where the number isn't one
-    /// more than the caller's submissions so far; `Memory` where memory runs out.
+    /// more than the caller's submissions so far; `Memory` when out of memory.
     ///
     /// ```
     /// let mut machine = Machine::new(alloc, Limits::new(1, 2, 1)?)?;
@@ -237,7 +237,7 @@ impl Machine {
     ///
     /// In this order, with nothing changed: `CoreOutOfRange` where the core size isn't from 1 to
     /// `Limits::MAX_WORKERS`; `MaxOutOfRange` where the greatest size is below the core size, or above that of
-    /// the limits at making; `Memory` where memory runs out.
+    /// the limits at making; `Memory` when out of memory.
     ///
     /// ```
     /// let mut machine = Machine::new(alloc, Limits::new(1, 4, 100)?)?;

@@ -62,7 +62,7 @@ impl Bulkhead {
     /// # Errors
     ///
     /// In this order: `BadName` where the name isn't 1 to 64 bytes of ASCII letters, digits, `-`,
-    /// `_` and `.`; `TooManyPermits` where `max` is above 65,535; `Memory` where memory runs out.
+    /// `_` and `.`; `TooManyPermits` where `max` is above 65,535; `Memory` when out of memory.
     pub fn new(alloc: Global, name: &str, max: u32) -> Result<(Bulkhead, Pass), BulkheadError>
         ensures name { IfOk result (λ r. r.0.name ≡ name.now) }
         ensures max { IfOk result (λ r. r.0.permits.max ≡ max) }
@@ -86,7 +86,7 @@ impl Bulkhead {
     /// # Errors
     ///
     /// In this order: `BadName` where the name isn't 1 to 64 bytes of ASCII letters, digits, `-`,
-    /// `_` and `.`; `Memory` where memory runs out.
+    /// `_` and `.`; `Memory` when out of memory.
     ///
     /// ```
     /// let (bulkhead, mut pass) = Bulkhead::with_defaults(rt.alloc(), "prices")?;

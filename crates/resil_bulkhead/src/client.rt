@@ -53,7 +53,7 @@ impl Bulkhead {
     ///
     /// # Errors
     ///
-    /// `AllocError` where memory runs out.
+    /// `AllocError` when out of memory.
     ///
     /// ```
     /// for mut prices in bulkhead.clients(rt.alloc(), 4)? {

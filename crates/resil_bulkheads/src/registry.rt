@@ -50,7 +50,7 @@ impl BulkheadRegistry {
     ///
     /// # Errors
     ///
-    /// `Memory` where memory runs out.
+    /// `Memory` when out of memory.
     pub fn new(alloc: Global, max: u16) -> Result<BulkheadRegistry, RegistryError>
         ensures made { IfOk result (λ r. r ≡ record { lists = record { configurations = (default_name, max) ∷ []; instances = [] }; bulkheads = [] }) }
         ensures refused { IfErr result (λ refused. refused ≡ RegistryError.Memory) }
@@ -82,7 +82,7 @@ impl BulkheadRegistry {
     ///
     /// In this order, with nothing changed: `BadName` where the name isn't 1 to 64 bytes of ASCII
     /// letters, digits, `-`, `_` and `.`; `ReservedName` where it is `default`; `NameTaken` where a
-    /// configuration has that name; `Memory` where memory runs out.
+    /// configuration has that name; `Memory` when out of memory.
     pub fn add_config(&mut self, name: &str, max: u16) -> Result<(), RegistryError>
         ensures added { OnOk result (self.new.lists ≡ with_config self.old.lists name.now max) }
         ensures kept { self.new.bulkheads ≡ self.old.bulkheads }
@@ -142,7 +142,7 @@ impl BulkheadRegistry {
     /// # Errors
     ///
     /// In this order, with nothing changed: `BadName` where the name isn't 1 to 64 bytes of ASCII
-    /// letters, digits, `-`, `_` and `.`; `Memory` where memory runs out.
+    /// letters, digits, `-`, `_` and `.`; `Memory` when out of memory.
     ///
     /// ```
     /// let prices = registry.bulkhead(alloc, "prices")?;
@@ -167,7 +167,7 @@ impl BulkheadRegistry {
     ///
     /// In this order, with nothing changed: `BadName` where the bulkhead's name isn't 1 to 64 bytes
     /// of ASCII letters, digits, `-`, `_` and `.`; `NoSuchConfig` where no configuration has the
-    /// other name; `Memory` where memory runs out.
+    /// other name; `Memory` when out of memory.
     pub fn bulkhead_with(
         &mut self,
         alloc: Global,

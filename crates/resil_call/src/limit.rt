@@ -14,10 +14,10 @@ use std::time::{Clock, Duration, Instant};
 /// assert!(rt; !limit.allows(1));
 /// ```
 pub trait WaitLimit {
-    /// Of a wait of so many milliseconds it may say this, and be left so.
+    /// Of a wait of that many milliseconds it may say this, and be left so.
     ghost IsAllowed: { Self → ℕ → Bool → Self → Type 0 } = { λ _ _ _ _. Unit {0} };
 
-    /// Whether a wait of so many milliseconds may begin.
+    /// Whether a wait of that many milliseconds may begin.
     fn allows(&mut self, milliseconds: u64) -> bool
         ensures { IsAllowed self.old milliseconds result self.new };
 }
@@ -34,7 +34,7 @@ impl WaitLimit for NoLimit {
     }
 }
 
-/// A budget: all waits together take at most so many milliseconds.
+/// A budget: all waits together take at most that many milliseconds.
 #[derive(Clone, Copy, PartialEq, Eq, Debug)]
 pub struct WaitBudget(pub u64);
 
@@ -78,7 +78,7 @@ impl<'a, R: Clock> Deadline<'a, R> {
         }
     }
 
-    // Whether a wait of so many milliseconds ends in time, where so much is spent.
+    // Whether a wait of that many milliseconds ends in time, where so much is spent.
     fn fits(&self, spent: Duration, milliseconds: u64) -> bool
         ensures { IsTrue result ↔ (as_nanos spent + milliseconds * 1000000 ≤ as_nanos self.now.length) }
     {

@@ -15,13 +15,13 @@ use std::time::{Clock, Duration};
 /// }
 /// ```
 pub trait Pause {
-    /// It can pause so many more times.
+    /// It can pause that many more times.
     ghost HasRoom: { Self → ℕ → Type 0 } = { λ _ _. Unit {0} };
 
-    /// A pause of so many milliseconds may leave it so.
+    /// A pause of that many milliseconds may leave it so.
     ghost IsPaused: { Self → ℕ → Self → Type 0 } = { λ _ _ _. Unit {0} };
 
-    /// Pauses for so many milliseconds.
+    /// Pauses for that many milliseconds.
     fn pause(&mut self, milliseconds: u64)
         requires { (more : ℕ) × HasRoom self.old (1 + more) }
         ensures paused { IsPaused self.old milliseconds self.new }

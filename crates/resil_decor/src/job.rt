@@ -51,7 +51,7 @@ impl Job {
     ///
     /// # Errors
     ///
-    /// `Memory` where memory runs out; the plan comes back.
+    /// `Memory` when out of memory; the plan comes back.
     pub fn new(alloc: Global, plan: Plan) -> Result<Job, (DecorError, Plan)>
         ensures made { IfOk result (λ job. job ≡ plan) }
         ensures refused { IfErr result (λ e. e.0 ≡ DecorError.Memory) }
@@ -70,7 +70,7 @@ impl Job {
     ///
     /// # Errors
     ///
-    /// `Memory` where memory runs out.
+    /// `Memory` when out of memory.
     ///
     /// ```
     /// let plan = job.shared_plan()?;

@@ -37,7 +37,7 @@ impl Listed {
     ///
     /// # Errors
     ///
-    /// `Memory` where memory runs out.
+    /// `Memory` when out of memory.
     ///
     /// ```
     /// let mut answers = Listed::new(alloc, Vec::from_array(alloc, [true, false])?)?;

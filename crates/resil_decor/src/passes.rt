@@ -62,7 +62,7 @@ impl<'a, R> Passes<'a, R> {
     ///
     /// # Errors
     ///
-    /// `Memory` where memory runs out, before the first pass is split.
+    /// `Memory` when out of memory, before the first pass is split.
     pub fn split(&mut self, alloc: Global) -> Result<Passes<'a, R>, DecorError>
         ensures old { self.new ≡ self.old }
         ensures split { IfOk result (AreSplitFrom self.old) }

@@ -45,7 +45,7 @@ impl Plan {
     ///
     /// # Errors
     ///
-    /// `Memory` where memory runs out.
+    /// `Memory` when out of memory.
     pub fn copy(&self, alloc: Global) -> Result<Plan, DecorError>
         ensures copied { IfOk result (λ copy. copy ≡ self.now) }
         ensures refused { IfErr result (λ error. error ≡ DecorError.Memory) }

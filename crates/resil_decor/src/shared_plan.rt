@@ -37,7 +37,7 @@ impl SharedPlan {
     ///
     /// # Errors
     ///
-    /// The plan itself, where memory runs out.
+    /// The plan itself, when out of memory.
     pub fn new(alloc: Global, plan: Plan) -> Result<SharedPlan, Plan>
         ensures made { IfOk result (λ shared. shared ≡ plan) }
         ensures plan_back { IfErr result (λ back. back ≡ plan) }

@@ -71,7 +71,7 @@ pub(crate) fn remark(line: &[u8]) -> &'static str {
     }
 }
 
-/// The record of a body at a position, where the header is at 0, if there is one; `None` where memory runs out.
+/// The record of a body at a position, where the header is at 0, if there is one; `None` when out of memory.
 pub(crate) fn read_record(
     alloc: Global,
     body: &[u8],
@@ -102,7 +102,7 @@ pub(crate) fn line_of<'a>(input: &'a [u8], body: &[u8], record: &ByteRecord) -> 
     Line::from(input, place.saturating_add(ends.count()))
 }
 
-/// The body up to the end of its record at a position, where the header is at 0; `None` where memory runs out.
+/// The body up to the end of its record at a position, where the header is at 0; `None` when out of memory.
 pub(crate) fn part_upto(alloc: Global, body: &[u8], position: usize) -> Option<&[u8]> {
     match read_record(alloc, body, position.saturating_add(1))? {
         Some(next) => body.get(..start_of(&next)),

@@ -119,7 +119,7 @@ fn check_run(alloc: Global, table: &Table) -> Result<(), HeadFault> {
     build_chain(alloc, asked).map(drop)
 }
 
-// The part of a head that is refused, or `None` where memory runs out.
+// The part of a head that is refused, or `None` when out of memory.
 fn refused_part(told: Told<'_>, table: &Table) -> Option<Part> {
     let checked = match told.subject {
         Subject::Chain => chain_in(told.alloc, table).map(drop),
@@ -275,7 +275,7 @@ fn place_in(
     }
 }
 
-/// What the head of an input is refused for by this name, where that can be seen of its table. `None` too where memory runs out.
+/// What the head of an input is refused for by this name, where that can be seen of its table. `None` too when out of memory.
 pub(crate) fn fault_of<'a>(
     told: Told<'a>,
     head: &str,

@@ -82,7 +82,7 @@ impl<'a> fmt::Display for Line<'a> {
     }
 }
 
-/// The first line that is nearly the separator, with all bytes before its line feed: apart from blanks, it begins with two dashes.
+/// The first line that is nearly the separator, with all bytes before its newline: apart from blanks, it begins with two dashes.
 pub(crate) fn near_separator(input: &[u8]) -> Option<Line<'_>> {
     let mut lines = input.split(|byte| *byte == b'\n').enumerate();
     let (index, text) = lines.find(|(_, text)| text.trim_ascii_start().starts_with(b"--"))?;

@@ -45,7 +45,7 @@ fn requested_subject(alloc: Global, words: &[&str]) -> Option<Subject> {
     })
 }
 
-// How many of the words, from the first on, are together the longest that request something, or `None` where memory runs out.
+// How many of the words, from the first on, are together the longest that request something, or `None` when out of memory.
 fn accepted(alloc: Global, words: &[&str]) -> Option<usize> {
     let mut most = 0usize;
     for count in 2..words.len().min(MOST_WORDS) {

@@ -22,7 +22,7 @@ use toml::Table;
 /// # Errors
 ///
 /// `BadToml` where the bytes aren't UTF-8 or aren't a TOML document (a key that is there twice is
-/// one reason); `Memory` where memory runs out.
+/// one reason); `Memory` when out of memory.
 #[tactic(auto, using(crate::proofs::DocumentLaws::document_of_bytes, crate::proofs::DocumentLaws::document_of_text))]
 pub fn read_document(alloc: Global, bytes: &[u8]) -> Result<Table, HeadError>
     ensures answer { GivesBy table_view result (document_of bytes.now) }

@@ -199,7 +199,7 @@ fn row_line(alloc: Global, position: usize, name: &str) -> Result<String, AllocE
 ///
 /// # Errors
 ///
-/// `AllocError` where memory runs out.
+/// `AllocError` when out of memory.
 pub fn refusal_line(alloc: Global, why: Refusal) -> Result<String, AllocError>
     ensures { IfOk result (λ line. string_bytes line ≡ refusal_line why) }
 {

@@ -62,7 +62,7 @@ impl<T, F: FnMut(&T)> Observer<T> for Inspect<F> {
     }
 }
 
-/// A call of which an observer is told: before it, then after it with the very answer.
+/// A call that an observer is told about: before it, then after it with the very answer.
 #[derive(Drop)]
 pub struct Observed<C, O> {
     /// What is called.
@@ -98,7 +98,7 @@ impl<C: Call, O: Observer<C::Output>> Call for Observed<C, O> {
 /// println!(rt; "{} refused", counts.count(Counted::Refused))?;
 /// ```
 pub trait Observe: Call + Sized {
-    /// The call, of which this observer is told.
+    /// The call, which this observer is told about.
     fn observed<O>(self, observer: O) -> Observed<Self, O>
         ensures call { result.call ≡ self }
         ensures observer { result.observer ≡ observer }
@@ -109,7 +109,7 @@ pub trait Observe: Call + Sized {
         }
     }
 
-    /// The call, each answer of which a closure is told.
+    /// The call, whose answers a closure is told.
     fn inspect<F>(self, told: F) -> Observed<Self, Inspect<F>>
         ensures call { result.call ≡ self }
         ensures told { result.observer.0 ≡ told }

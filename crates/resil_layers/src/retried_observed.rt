@@ -1,4 +1,4 @@
-//! A retry around a call, as a call, of which an observer is told.
+//! A retry around a call, as a call that an observer is told about.
 
 ghost use Rattle.std.specs.Prelude.{ℕ, ◌≡◌, ◌≤◌};
 ghost use Rattle.resil_call.specs.declared.tried.Tried.{Tried};

@@ -1,6 +1,6 @@
 //! The bell: where workers that find no job wait, without taking turns.
 //!
-//! It is made of plain words beside the lock, of which no clause speaks: contracts hold whether or not it rings. `ready`
+//! It is made of plain words beside the lock, which no clause covers: contracts hold whether or not it rings. `ready`
 //! says whether the last turn left a worker something to do, a job to pick or the end of its pool. Only the seat
 //! that holds the lock writes it, so its writes stand in the order of the turns; a worker reads it without a turn.
 //!

@@ -1,6 +1,6 @@
 //! The door: where seats wait while another seat holds the lock.
 //!
-//! It is made of plain words beside the lock, of which no clause speaks. A seat that finds the lock taken pauses, twice
+//! It is made of plain words beside the lock, which no clause covers. A seat that finds the lock taken pauses, twice
 //! as long after each try, and then sleeps. Whoever releases the lock wakes one that sleeps, but not at each release: a
 //! wake-up takes as long as some turns, and then the machine moves to the cache of another processor. So the lock is
 //! left to the seats that are awake, and a sleeper is called in after many releases, or once a worker finds nothing

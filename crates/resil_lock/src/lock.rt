@@ -42,7 +42,7 @@ impl<S: Guarded> Lock<S> {
     ///
     /// # Errors
     ///
-    /// `AllocError` where memory runs out.
+    /// `AllocError` when out of memory.
     ///
     /// ```
     /// let (lock, mut opener) = Lock::new(alloc, state, &key)?;

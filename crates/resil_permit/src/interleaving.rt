@@ -107,7 +107,7 @@ impl Woven {
 ///
 /// # Errors
 ///
-/// In this order: `TooManyPermits` where `max` is above 65,535; `Memory` where memory runs out; and then the first step
+/// In this order: `TooManyPermits` where `max` is above 65,535; `Memory` when out of memory; and then the first step
 /// that can't be made, with its place, from 1. It is `StillLoaded` where it is no exchange and its caller has loaded a
 /// number, and `NotLoaded` where it is an exchange and its caller has loaded none. It is `NotHolding` for an add or a
 /// retire by a caller that holds no permit, and `NotRetired` for a raise by a caller that has retired none.

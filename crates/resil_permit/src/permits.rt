@@ -98,7 +98,7 @@ impl Permits {
     ///
     /// # Errors
     ///
-    /// In this order: `TooManyPermits` where `max` is above 65,535; `Memory` where memory runs out.
+    /// In this order: `TooManyPermits` where `max` is above 65,535; `Memory` when out of memory.
     #[tactic(auto, using(crate::proofs::ProtocolSteps::opens))]
     pub fn new(alloc: Global, max: u32) -> Result<(Permits, Pass), PermitError>
         ensures max { IfOk result (λ r. r.0.max ≡ max) }

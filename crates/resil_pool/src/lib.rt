@@ -10,8 +10,8 @@
 //!
 //! `lock` has the turns at that lock, which is the one of `resil_lock`. `pool` opens and closes, `submit` and `worker`
 //! are the two sides of a pool, and `resize` changes its sizes. `parts` is what their threads hold, `draining` ends it,
-//! and `hold` closes it after rows. `laws` has the laws of the turn. All but `close_held` is for everyone, by way of
-//! `resil_workers`, which runs rows on a pool of their own.
+//! and `hold` closes it after rows. `laws` has the laws of the turn. Import these from `resil_workers`, which re-exports
+//! all but `close_held`.
 #![tactic(auto)]
 
 mod draining;

@@ -99,7 +99,7 @@ impl Model for Pool {
 ///
 /// # Errors
 ///
-/// In this order: `TooManyCallers` where there are more than `MAX_CALLERS`; `Memory` where memory runs out.
+/// In this order: `TooManyCallers` where there are more than `MAX_CALLERS`; `Memory` when out of memory.
 ///
 /// ```
 /// let limits = Limits::new(1, 4, 100)?;

@@ -46,7 +46,7 @@ impl Pool {
     ///
     /// # Errors
     ///
-    /// `Memory` where memory runs out; the job is handed back, and the caller's next number stays the same.
+    /// `Memory` when out of memory; the job is handed back, and the caller's next number stays the same.
     ///
     /// ```
     /// let ticket = pool.submit(&rt, alloc, &mut caller, job).map_err(|refused| refused.0)?;

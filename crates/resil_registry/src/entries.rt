@@ -71,7 +71,7 @@ impl<V> Entries<V> {
     }
 
     // Adds a new name at the end, and answers its index. Errors: the value comes back, with nothing
-    // changed, where memory runs out.
+    // changed, when out of memory.
     pub(crate) fn append(&mut self, name: &str, value: V) -> Result<usize, V>
     where
         V: Drop,

@@ -55,7 +55,7 @@ impl<C: Drop> Registry<C> {
     ///
     /// # Errors
     ///
-    /// `Memory` where memory runs out; the configuration comes back.
+    /// `Memory` when out of memory; the configuration comes back.
     pub fn new(alloc: Global, default: C) -> Result<Registry<C>, (RegistryError, C)>
         ensures made { IfOk result (λ r. r ≡ record { configurations = (default_name, default) ∷ []; instances = [] }) }
         ensures refused { IfErr result (λ refused. refused ≡ (RegistryError.Memory, default)) }
@@ -116,7 +116,7 @@ impl<C: Drop> Registry<C> {
     /// # Errors
     ///
     /// In this order, with nothing changed: `BadName` where the name isn't 1 to 64 bytes of ASCII
-    /// letters, digits, `-`, `_` and `.`; `Memory` where memory runs out.
+    /// letters, digits, `-`, `_` and `.`; `Memory` when out of memory.
     ///
     /// ```
     /// let prices = registry.obtain("prices")?;
@@ -144,7 +144,7 @@ impl<C: Drop> Registry<C> {
     ///
     /// In this order, with nothing changed: `BadName` where the instance's name isn't 1 to 64 bytes
     /// of ASCII letters, digits, `-`, `_` and `.`; `NoSuchConfig` where no configuration has the
-    /// other name; `Memory` where memory runs out.
+    /// other name; `Memory` when out of memory.
     ///
     /// ```
     /// registry.add_config("small", 2).map_err(|refused| refused.0)?;

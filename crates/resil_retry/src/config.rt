@@ -189,7 +189,7 @@ impl RetryConfig {
     ///
     /// # Errors
     ///
-    /// `Memory` where memory runs out.
+    /// `Memory` when out of memory.
     pub fn copy(&self, alloc: Global) -> Result<RetryConfig, RetryError>
         ensures copied { IfOk result (λ copy. copy ≡ self.now) }
         ensures refused { IfErr result (λ error. error ≡ RetryError.Memory) }

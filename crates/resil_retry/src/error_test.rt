@@ -90,7 +90,7 @@ impl ErrorTest {
     ///
     /// # Errors
     ///
-    /// `Memory` where memory runs out.
+    /// `Memory` when out of memory.
     pub fn copy(&self, alloc: Global) -> Result<ErrorTest, RetryError>
         ensures copied { IfOk result (λ copy. copy ≡ self.now) }
         ensures refused { IfErr result (λ error. error ≡ RetryError.Memory) }
@@ -117,7 +117,7 @@ fn is_named(named: &[Kind], ignored: &[Kind], kind: Kind) -> bool
 }
 
 // For each kind whether a test of these lists names it, where they are long. Errors: `AllocError`
-// where memory runs out.
+// when out of memory.
 fn table_of(
     alloc: Global,
     named: &[Kind],

@@ -29,7 +29,7 @@ impl Model for KindTable {
 }
 
 impl KindTable {
-    // A table with this answer for every kind. Errors: `AllocError` where memory runs out.
+    // A table with this answer for every kind. Errors: `AllocError` when out of memory.
     pub(crate) fn new(alloc: Global, answer: bool) -> Result<KindTable, AllocError>
         ensures { IfOk result (λ table. (kind : Kind) → HasIndex kind → answer_of table kind ≡ answer) }
     {

@@ -30,7 +30,7 @@ impl Waits {
     ///
     /// # Errors
     ///
-    /// `Memory` where memory runs out.
+    /// `Memory` when out of memory.
     pub fn new(alloc: Global, room: usize) -> Result<Waits, RetryError>
         ensures made { IfOk result (λ waits. waits ≡ record { items = []; room = room }) }
         ensures refused { IfErr result (λ error. error ≡ RetryError.Memory) }

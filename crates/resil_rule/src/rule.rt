@@ -94,7 +94,7 @@ impl<W: Drop> Rule<W> {
     ///
     /// # Errors
     ///
-    /// `Memory` where memory runs out.
+    /// `Memory` when out of memory.
     #[tactic(auto, using(crate::proofs::SlotLaws::places))]
     pub fn new(alloc: Global, limits: Limits, callers: usize) -> Result<Rule<W>, AdmitError>
         ensures opened { IfOk result (λ c. c ≡ opened limits callers) }

@@ -40,7 +40,7 @@ impl Model for Slots {
 }
 
 impl Slots {
-    // So many places, each of them free. Errors: `AllocError` where memory runs out.
+    // So many places, each of them free. Errors: `AllocError` when out of memory.
     #[tactic(auto, using(crate::proofs::SlotLaws::places))]
     pub(crate) fn new(alloc: Global, count: usize) -> Result<Slots, AllocError>
         ensures { IfOk result (λ s. s ≡ replicate count nothing) }

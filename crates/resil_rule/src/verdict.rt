@@ -36,7 +36,7 @@ pub enum Verdict {
 ///
 /// # Errors
 ///
-/// `Memory` where memory runs out.
+/// `Memory` when out of memory.
 ///
 /// ```
 /// let limits = Limits::new(1, 1, 1)?;
@@ -70,7 +70,7 @@ impl Rule<()> {
     ///
     /// # Errors
     ///
-    /// `Memory`, of a submission, where memory runs out.
+    /// `Memory`, of a submission, when out of memory.
     #[tactic(auto, using(crate::proofs::RefusalLaws::barred))]
     pub fn follow(&mut self, event: Event) -> Result<bool, AdmitError>
         requires { self.old.unpicked ≡ [] }

@@ -294,7 +294,7 @@ fn finish_batch<'a, R: Threads + Wait + Sync, H: Hook + Sync>(
 /// # Errors
 ///
 /// In this order: `TooManyCallers` where there are more than `MAX_CALLERS`; `BadCaller` where a row's caller isn't from
-/// 1 to the number of callers; `Memory` where memory runs out; `NoThread` where a thread can't be started;
+/// 1 to the number of callers; `Memory` when out of memory; `NoThread` where a thread can't be started;
 /// `Stranger` as a drain answers it; `ReceiptsDiffer` only where `hold` is asked for and the history before the closing
 /// isn't the rows' submissions in row order. With `hold` a row's want of memory comes before
 /// a missing thread. Where memory or a thread is missing once workers were started, the pool is closed and no report is given.
