@@ -127,13 +127,9 @@ module _ {W K : Type 0} where
   SeesRefusal limits before refused.Spent after = SeesMore limits before after × (length (submissions (events_in after.seen) 1) ≡ 18446744073709551615)
   SeesRefusal limits before refused.Memory after = IsPrefix before.seen after.seen × (after.own ≡ before.own)
 
-  -- A seat that began so has seen that this work was accepted under this id, with this reply.
-  abbrev pub WasAcceptedWith : Sizes → View K (Entry W) → Id → Reply → W → Type 0
-  WasAcceptedWith limits before id given work = (after : View K (Entry W)) × SeesAccepted limits before id given work after
-
-  -- The same, whichever the reply.
+  -- A seat that began so has seen that this work was accepted under this id, whichever the reply.
   abbrev pub WasAccepted : Sizes → View K (Entry W) → Id → W → Type 0
-  WasAccepted limits before id work = (given : Reply) × WasAcceptedWith limits before id given work
+  WasAccepted limits before id work = (given : Reply) × (after : View K (Entry W)) × SeesAccepted limits before id given work after
 
   -- A seat that began so has seen that a work of this type was refused, and why.
   abbrev pub WasRefused : Sizes → View K (Entry W) → Refused → W → Type 0

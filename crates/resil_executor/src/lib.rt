@@ -43,4 +43,4 @@ pub use theorems::{
     picked_is_ended,
 };
 pub use threads::{Ended, Workers, work_while, work_while_with};
-pub use works::{ClosurePool, WorkPool};
+pub use works::WorkPool;

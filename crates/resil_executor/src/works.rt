@@ -1,15 +1,13 @@
 //! Works that answer: submitted, and waited for, in one call each.
-ghost use Rattle.std.specs.Prelude.{◌≡◌, true, IfOk, IfErr};
-ghost use Rattle.resil_rule.specs.RuleView.{is_acceptance};
+ghost use Rattle.std.specs.Prelude.{◌≡◌, IfOk, IfErr};
 ghost use Rattle.resil_rule.specs.declared.event.Reply.{Reply as AReply};
-ghost use Rattle.resil_executor.specs.Kept.{LacksRoom};
-ghost use Rattle.resil_executor.specs.Turn.{SeesAccepted, SeesRefusal, WasAccepted, WasAcceptedWith, WasRefused};
+ghost use Rattle.resil_executor.specs.Turn.{SeesAccepted, SeesRefusal, WasAccepted, WasRefused};
 ghost use Rattle.resil_executor.specs.Seats.{limits_of, new_visitor, IsOf, known_to};
 
 use crate::executor::{Executor, Visitor};
 use crate::state::Refused;
-use resil_rule::{Id, NoRecord, Record, Reply};
-use resil_task::by_hand::{Job, Task};
+use resil_rule::{Id, NoRecord, Record};
+use resil_task::by_hand::Task;
 use resil_task::{Answers, Pending};
 use std::alloc::Global;
 use std::sync::Wait;
@@ -25,13 +23,6 @@ use std::sync::Wait;
 /// });
 /// ```
 pub type WorkPool<W, H = NoRecord> = Executor<Task<W>, H>;
-
-/// A pool of threads for boxed closures, which answer by the replier of a `one_shot` or not at all.
-///
-/// ```
-/// let (letters, closer) = ClosurePool::open(alloc, Limits::new(2, 4, 100)?, NoRecord)?;
-/// ```
-pub type ClosurePool<H = NoRecord> = Executor<Job, H>;
 
 impl<X: Answers, H: Record> Executor<Task<X>, H> {
     /// Submits a work, in one turn, and gives its number and what its answer is waited for with (Resilience4j user guide,
@@ -100,35 +91,5 @@ impl<X: Answers, H: Record> Executor<Task<X>, H> {
             },
             Err((_error, work)) => Err((Refused::Memory, work)),
         }
-    }
-}
-
-impl<H: Record> Executor<Job, H> {
-    /// Submits a boxed closure, in one turn, and gives its number and the reply. The box is made in `main`, or in a closure there.
-    ///
-    /// # Errors
-    ///
-    /// Those of `submit_job`, with the closure handed back.
-    ///
-    /// ```
-    /// let (half_to, half) = one_shot::<Plain<u64>>(alloc, &())?;
-    /// let reply = Box::new(alloc, move || half_to.reply(Plain(7)))?;
-    /// drop(letters.submit_closure(&rt, Job { call: reply }));
-    /// ```
-    pub fn submit_closure<R: Wait>(
-        &self,
-        rt: &R,
-        closure: Job,
-    ) -> Result<(Id, Reply), (Refused, Job)>
-        ensures accepted { IfOk result (λ r. WasAccepted (limits_of self.now) (new_visitor self.now) r.0 closure) }
-        ensures reply { IfOk result (λ r. WasAcceptedWith (limits_of self.now) (new_visitor self.now) r.0 r.1 closure) }
-        ensures own { IfOk result (λ r. r.0.caller ≡ 1) }
-        ensures acceptance { IfOk result (λ r. is_acceptance r.1 ≡ true) }
-        ensures refused { IfErr result (λ e. WasRefused (limits_of self.now) (new_visitor self.now) e.0 closure) }
-        ensures memory { IfErr result (λ e. e.0 ≡ Refused.Memory → LacksRoom H.HasRoom) }
-        ensures closure_back { IfErr result (λ e. e.1 ≡ closure) }
-    {
-        let (_visitor, submitted) = self.submit_new(rt, closure);
-        submitted
     }
 }

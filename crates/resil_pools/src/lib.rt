@@ -9,7 +9,6 @@
 //!
 //! Pools (`resil_executor`, user guide of Resilience4j, ThreadPoolBulkhead):
 //! - `WorkPool`: a pool of threads for works that answer
-//! - `ClosurePool`: one for boxed closures
 //! - `Executor`: one for whatever can be run
 //! - `work_while`, `work_while_with`: threads work for a pool while a closure runs, and the pool is at its end then
 //! - `Workers`: what the threads lend to the works, one for each
@@ -34,12 +33,12 @@
 //!
 //! By hand:
 //! - `by_hand`: turns at a pool, with a `Visitor` or an `ExecutorWorker`
-//! - `tasks`: what is below works: `Run`, closures that reply, the two ends of an answer
+//! - `tasks`: what is below works: `Run`, repliers, the two ends of an answer
 #![tactic(auto)]
 
 pub use resil_executor::{
-    ClosurePool, Ended, Executor, ExecutorCloser, LastHistory, NoAnswer, Numbers, PoolText,
-    Refused, WorkPool, Workers, by_hand, work_while, work_while_with,
+    Ended, Executor, ExecutorCloser, LastHistory, NoAnswer, Numbers, PoolText, Refused, WorkPool,
+    Workers, by_hand, work_while, work_while_with,
 };
 pub use resil_rule::{
     AdmitError, AllEvents, Event, Id, LastEvents, Limits, NoRecord, Record, Reply, Verdict, audit,

@@ -3,7 +3,7 @@
 ghost use Rattle.std.specs.Prelude.{◌≡◌, ◌/◌};
 
 use crate::shared::assert_that;
-use resil_task::by_hand::{Job, Plain, Run, Task, one_shot};
+use resil_task::by_hand::{Plain, Run, Task, one_shot};
 use resil_task::{Answers, Pending, Work};
 use std::alloc::Global;
 use std::process::Abort;
@@ -120,24 +120,13 @@ fn nobody_has_to_wait(rt: HostRuntime) {
     drop(pending);
 }
 
-/// Runs a job.
-fn run_job(job: Job) {
-    job.run(&mut ());
-}
-
 #[test]
-fn closure_answers_by_its_replier(rt: HostRuntime) {
+fn reply_comes_or_none_of_a_replier_let_go(rt: HostRuntime) {
     let alloc = rt.alloc();
     let (half_to, half) = one_shot::<Plain<u64>>(alloc, &()).expect(&rt, "room for a reply");
     let (none_to, none) = one_shot::<Plain<u64>>(alloc, &()).expect(&rt, "room for a reply");
-    let reply = Box::new(alloc, move || half_to.reply(Plain(7)));
-    let let_go = Box::new(alloc, move || drop(none_to));
-    run_job(Job {
-        call: reply.expect(&rt, "room for a closure"),
-    });
-    run_job(Job {
-        call: let_go.expect(&rt, "room for a closure"),
-    });
+    half_to.reply(Plain(7));
+    drop(none_to);
     assert_that(&rt, matches!(half.wait(&rt), Some(Plain(7))), "the reply 7");
     assert_that(
         &rt,

@@ -1,87 +1,18 @@
-//! Pools of works other than one type of task: closures of different kinds, and works that submit to their own pool.
+//! Works that need something of their worker: those that submit to their own pool, and those that are lent a counter.
 
 ghost use Rattle.resil_executor.specs.Seats.{IsOf};
 
 use crate::shared::{assert_that, is_legal, opened};
 use resil_executor::by_hand::{ExecutorWorker, Look};
-use resil_executor::{
-    ClosurePool, Ended, Executor, ExecutorCloser, WorkPool, Workers, work_while, work_while_with,
-};
+use resil_executor::{Ended, Executor, ExecutorCloser, WorkPool, Workers, work_while_with};
 use resil_rule::{AdmitError, AllEvents, NoRecord};
-use resil_task::by_hand::{Job, Plain, Receiver, Run, Task, one_shot};
+use resil_task::by_hand::{Run, Task};
 use resil_task::{Answers, WorkAt};
 use std::alloc::Global;
 use std::process::Abort;
 use std::sync::Wait;
 use std::sync::atomic::{AtomicU32, Ordering};
 use std::thread::Threads;
-
-/// Submits a closure. One that is refused is let go.
-fn submit<R: Wait>(rt: &R, pool: &ClosurePool, job: Job) {
-    drop(pool.submit_closure(rt, job));
-}
-
-/// Two jobs, and what their replies are waited for with.
-#[derive(Drop)]
-struct Asked {
-    one: Job,
-    two: Job,
-    half: Receiver<Option<Plain<u64>>>,
-    yes: Receiver<Option<Plain<bool>>>,
-}
-
-/// Whether two jobs reply with the half of 14 and a yes. Both are submitted before the first reply is waited for.
-fn are_answered<R: Wait>(rt: &R, pool: &ClosurePool, asked: Asked) -> bool {
-    submit(rt, pool, asked.one);
-    submit(rt, pool, asked.two);
-    let half = asked.half.wait(rt);
-    let yes = asked.yes.wait(rt);
-    matches!((half, yes), (Some(Plain(7)), Some(Plain(true))))
-}
-
-/// Whether they do so while the threads of a pool work.
-fn serves<R: Threads + Wait + Sync>(
-    rt: &R,
-    pool: &ClosurePool,
-    closer: ExecutorCloser<Job>,
-    asked: Asked,
-) -> bool
-    requires mine { IsOf pool.now closer.seat }
-{
-    let Ended { answer, .. } = work_while(rt, pool, closer, 20, || are_answered(rt, pool, asked));
-    matches!(answer, Ok(true))
-}
-
-/// Asserts that they do so with a pool of their own.
-fn serve<R: Abort + Threads + Wait + Sync>(rt: &R, alloc: Global, asked: Asked) {
-    let (pool, closer) = opened(alloc, (1, 2, 8), NoRecord).expect(rt, "a pool");
-    assert_that(
-        rt,
-        serves(rt, &pool, closer, asked),
-        "the replies 7 and true",
-    );
-}
-
-#[test]
-fn closures_of_different_kinds_share_a_pool(rt: HostRuntime) {
-    let alloc = rt.alloc();
-    let (half_to, half) = one_shot::<Plain<u64>>(alloc, &()).expect(&rt, "room for a reply");
-    let (yes_to, yes) = one_shot::<Plain<bool>>(alloc, &()).expect(&rt, "room for a reply");
-    let number: u64 = 14;
-    let halve = Box::new(alloc, move || half_to.reply(Plain(number / 2)));
-    let agree = Box::new(alloc, move || yes_to.reply(Plain(true)));
-    let asked = Asked {
-        one: Job {
-            call: halve.expect(&rt, "room for a closure"),
-        },
-        two: Job {
-            call: agree.expect(&rt, "room for a closure"),
-        },
-        half,
-        yes,
-    };
-    serve(&rt, alloc, asked);
-}
 
 /// Submits itself once more to its own pool, this many times.
 #[derive(Drop)]
