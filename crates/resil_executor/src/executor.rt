@@ -15,7 +15,7 @@ use std::alloc::Global;
 ///
 /// ```
 /// let (pool, mut closer) = Executor::open(alloc, Limits::new(2, 4, 100)?, NoRecord)?;
-/// let (_visitor, submitted) = pool.submit_new(&rt, work);
+/// let submitted = pool.submit_job(&rt, &mut pool.visitor(), work);
 /// pool.close(&rt, &mut closer);
 /// ```
 #[derive(Drop)]

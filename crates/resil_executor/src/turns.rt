@@ -123,31 +123,6 @@ impl<W: Drop, H: Record> Executor<W, H> {
         answer
     }
 
-    /// The same by any thread, which needs nothing but the pool. The visitor that comes back has seen the submission: only a
-    /// turn at this pool can have shown it.
-    ///
-    /// # Errors
-    ///
-    /// Those of `submit_job`.
-    pub fn submit_new<R: Wait>(
-        &self,
-        rt: &R,
-        work: W,
-    ) -> (Visitor<W, H>, Result<(Id, Reply), (Refused, W)>)
-        ensures mine { IsOf self.now result.0.seat }
-        ensures accepted { IfOk result.1 (λ r. SeesAccepted (limits_of self.now) (new_visitor self.now) r.0 r.1 work (known_to result.0.seat)) }
-        ensures refused { IfErr result.1 (λ e. SeesRefusal (limits_of self.now) (new_visitor self.now) e.0 (known_to result.0.seat)) }
-        ensures memory { IfErr result.1 (λ e. e.0 ≡ Refused.Memory → LacksRoom H.HasRoom × (length (submissions (events_in (known_to result.0.seat).seen) 1) < 18446744073709551615)) }
-        ensures counted { length (submissions (events_in (known_to result.0.seat).seen) 1) ≤ 18446744073709551615 }
-        ensures own { IfOk result.1 (λ r. r.0.caller ≡ 1) }
-        ensures acceptance { IfOk result.1 (λ r. is_acceptance r.1 ≡ true) }
-        ensures work_back { IfErr result.1 (λ e. e.1 ≡ work) }
-    {
-        let mut visitor = self.visitor();
-        let answer = self.submit_job(rt, &mut visitor, work);
-        (visitor, answer)
-    }
-
     /// Closes the pool, in one turn, and says whether it was open. All workers wake. Work that was accepted is still run.
     pub fn close<R: Wait>(&self, rt: &R, closer: &mut ExecutorCloser<W, H>) -> bool
         requires mine { IsOf self.now closer.old.seat }

@@ -41,7 +41,7 @@ fn submit_all<'a, R: Abort + Wait>(
     most: &'a AtomicU32,
 ) {
     for _ in 0..200 {
-        let (_, submitted) = pool.submit_new(rt, Inside { inside, most });
+        let submitted = pool.submit_job(rt, &mut pool.visitor(), Inside { inside, most });
         assert_that(rt, submitted.is_ok(), "a work accepted");
     }
 }

@@ -95,7 +95,7 @@ impl Run<()> for Nothing {
 /// A pool of two workers and a queue, with three works.
 fn with_three<R: Abort + Wait>(rt: &R, pool: &Executor<Nothing>) {
     for _ in 0..3 {
-        let (_, submitted) = pool.submit_new(rt, Nothing);
+        let submitted = pool.submit_job(rt, &mut pool.visitor(), Nothing);
         assert_that(rt, submitted.is_ok(), "a work accepted");
     }
 }

@@ -150,7 +150,7 @@ fn replies_come_in_time(rt: HostRuntime) -> Result<(), AdmitError> {
     drop(work_while(&rt, &pool, closer, 20, || {
         are_in_time(&rt, TRIPS, || {
             let (replier, reply) = passed(&rt, one_shot::<Plain<bool>>(alloc, &()));
-            drop(pool.submit_new(&rt, Reply(replier)));
+            drop(pool.submit_job(&rt, &mut pool.visitor(), Reply(replier)));
             reply.wait(&rt).is_some()
         })
     }));

@@ -30,7 +30,8 @@ impl<'a, R: Wait> Run<Own<'a, R>> for Again {
 
     fn run(self, context: &mut Own<'a, R>) {
         if self.0 > 0 {
-            drop(context.pool.submit_new(context.rt, Again(self.0 - 1)));
+            let pool = context.pool;
+            drop(pool.submit_job(context.rt, &mut pool.visitor(), Again(self.0 - 1)));
         }
     }
 }
@@ -64,7 +65,7 @@ fn run_three<R: Abort + Wait>(
     requires mine { IsOf pool.now closer.old.seat }
 {
     let mut worker = pool.hire(closer);
-    drop(pool.submit_new(rt, Again(2)));
+    drop(pool.submit_job(rt, &mut pool.visitor(), Again(2)));
     assert_that(rt, run_one(rt, pool, &mut worker), "a first work");
     assert_that(rt, run_one(rt, pool, &mut worker), "a second work");
     assert_that(rt, run_one(rt, pool, &mut worker), "a third work");
