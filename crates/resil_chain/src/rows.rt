@@ -6,11 +6,12 @@
 //! read keeps every job from running.
 
 ghost use Rattle.std.specs.Prelude.{◌≡◌, option_map, MatchResult, IfOk};
-ghost use Rattle.resil_chain.specs.Rows.{parse_grant, parse_grants, IsChainBody, IsChainBodyError};
+ghost use Rattle.csv.specs.Records.{fields_of};
+ghost use Rattle.resil_chain.specs.Rows.{parse_chain_row, parse_grant, parse_grants, IsChainBody, IsChainBodyError};
 
 use csv::ByteRecord;
 use resil_heads::forms::{Body, Form};
-use resil_input::csv_rows::{self, BodyError, RowFormat, has_fields};
+use resil_input::csv_rows::{self, BodyError};
 use resil_input::fields::field_at;
 use resil_input::script::parse_script;
 use resil_retry::Script;
@@ -34,10 +35,6 @@ impl Model for ChainRow {
     ghost view = { λ row. record { script = row.script; grants = row.grants.items } };
 }
 
-/// The bodies of `chain`: the header `script,grants`, and a [`ChainRow`] for each record.
-#[derive(Clone, Copy)]
-pub struct Rows;
-
 // The fields of the header.
 const HEADER: &[&str] = &["script", "grants"];
 
@@ -48,30 +45,6 @@ pub const BODY: Body = Body {
     rows: &[],
     has_resizes: false,
 };
-
-impl RowFormat for Rows {
-    type Row = ChainRow;
-
-    ghost use Rattle.resil_chain.specs.Rows.{chain_rows_header, parse_chain_row};
-
-    ghost header = { chain_rows_header };
-
-    ghost row_of = { λ _ fields. parse_chain_row fields };
-
-    fn is_header(&self, fields: &ByteRecord) -> bool {
-        has_fields(fields, HEADER)
-    }
-
-    fn row_of(&self, alloc: Global, fields: &ByteRecord) -> Result<Option<ChainRow>, AllocError> {
-        let Some(script) = parse_script(alloc, field_at(fields, 0))? else {
-            return Ok(None);
-        };
-        let Some(grants) = parse_grants(alloc, field_at(fields, 1))? else {
-            return Ok(None);
-        };
-        Ok(Some(ChainRow { script, grants }))
-    }
-}
 
 // Reads an answer: `y` grants a permit, `n` doesn't.
 fn parse_grant(letter: u8) -> Option<bool>
@@ -98,6 +71,19 @@ fn parse_grants(alloc: Global, letters: &[u8]) -> Result<Option<Vec<bool>>, Allo
     Ok(Some(grants))
 }
 
+// Reads a row from the fields of a record. Errors: `AllocError` where memory runs out.
+fn parse_chain_row(alloc: Global, fields: &ByteRecord) -> Result<Option<ChainRow>, AllocError>
+    ensures { IfOk result (λ row. row ≡ parse_chain_row (fields_of fields.now)) }
+{
+    let Some(script) = parse_script(alloc, field_at(fields, 0))? else {
+        return Ok(None);
+    };
+    let Some(grants) = parse_grants(alloc, field_at(fields, 1))? else {
+        return Ok(None);
+    };
+    Ok(Some(ChainRow { script, grants }))
+}
+
 /// Reads the rows of a body of `chain`, in order.
 ///
 /// # Errors
@@ -107,5 +93,5 @@ fn parse_grants(alloc: Global, letters: &[u8]) -> Result<Option<Vec<bool>>, Allo
 pub fn read_rows(alloc: Global, body: &[u8]) -> Result<Vec<ChainRow>, BodyError>
     ensures { MatchResult result (λ rows. IsChainBody body.now rows.items) (IsChainBodyError body.now) }
 {
-    csv_rows::read_rows(alloc, &Rows, body)
+    csv_rows::read_rows(alloc, HEADER, |fields| parse_chain_row(alloc, fields), body)
 }

@@ -4,7 +4,7 @@ use Rattle.std.specs.Result.{IsErrAnd}
 use Rattle.std.proofs.lemmas.List.{length-append, length-map, map_push}
 use Rattle.std.specs.List.{prefix_len}
 use Rattle.std.specs.Option.{is_some}
-use Rattle.resil_input.specs.CsvRows.{IsBody, IsBodyError, ParseAs, row_under}
+use Rattle.resil_input.specs.CsvRows.{IsBody, IsBodyError, ParseAs, records_of, row_under}
 use Rattle.resil_input.specs.declared.csv_rows.BodyError.{BodyError}
 use Rattle.resil_input.specs.declared.csv_rows.BodyError.TheVariants as error
 
@@ -22,6 +22,13 @@ ParseAs-length header row_of records rows spell = sym (length-map records (row_u
 pub append-next : (all : List (List (List ℕ))) (fields : List (List ℕ)) (records left more : List (List (List ℕ)))
     → all ≡ records ++ left → left ≡ fields ∷ more → all ≡ (records ++ fields ∷ []) ++ more
 append-next all fields records left more e next = e ∙ rw next (sym (append_assoc records (fields ∷ []) more))
+
+-- the first record that is no row
+pub bad-row : {Row : Type 0} (header : List (List ℕ)) (row_of : List (List ℕ) → Option Row) (body : List ℕ) (records left more : List (List (List ℕ))) (bad : List (List ℕ)) (rows : List Row) (position : ℕ)
+    → records_of body ≡ header ∷ (records ++ left) → left ≡ bad ∷ more → ParseAs header row_of records rows → row_under header row_of bad ≡ None → position ≡ length rows + 1
+    → IsBodyError header row_of body (error.BadRow position)
+bad-row header row_of body records left more bad rows position all next spell none here =
+    (records, bad, more, rows, rw next at all, spell, none, omega (arith, here, ParseAs-length header row_of records rows spell))
 
 -- an error that is passed on as it is
 pub handed-on : {T E : Type 0} (r : Result T E) (P : T → Type 0) (Q : E → Type 0) (why : E) → IsErrAnd r (λ e. e ≡ why) → Q why → MatchResult r P Q

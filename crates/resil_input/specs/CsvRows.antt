@@ -1,5 +1,7 @@
 -- The rows of a body, whose records are the header and one record a row, and why a body has none.
-use Rattle.std.specs.Prelude.{ℕ, suc, ◌≡◌, ◌≢◌, ◌==◌, ◌++◌, ◌∷◌, List, Option, Some, None, if◌then◌else◌, length, map, slice_get, ⊤}
+use Rattle.std.specs.Prelude.{ℕ, suc, ◌≡◌, ◌≢◌, ◌==◌, ◌++◌, ◌∷◌, List, Option, Some, None, if◌then◌else◌, length, map, slice_get, Result, IfOk, ⊤}
+use denote.Ref.{Bor}
+use Rattle.csv.specs.Records.{Row as Record, fields_of}
 use Rattle.csv.specs.Reading.{records, default_config, strip_bom}
 use Rattle.resil_input.specs.declared.csv_rows.BodyError.{BodyError}
 use Rattle.resil_input.specs.declared.csv_rows.BodyError.TheVariants as error
@@ -11,6 +13,11 @@ records_of body = records default_config (strip_bom body)
 -- the row that a record under a header is read as: it has as many fields as the header
 abbrev pub row_under : {Row : Type 0} → List (List ℕ) → (List (List ℕ) → Option Row) → List (List ℕ) → Option Row
 row_under header row_of fields = if length fields == length header then row_of fields else None
+
+-- what answers for each record with as many fields as the header tells its row, where it doesn't fail
+abbrev pub AnswersRows : {Row E : Type 0} → (Bor Record → Result (Option Row) E → Type 0) → List (List ℕ) → (List (List ℕ) → Option Row) → Type 0
+AnswersRows {Row} {E} answers header row_of =
+    (fields : Bor Record) (answer : Result (Option Row) E) → answers fields answer → length (fields_of fields.now) ≡ length header → IfOk answer (λ row. row ≡ row_of (fields_of fields.now))
 
 -- these records are read as these rows, one row a record
 abbrev pub ParseAs : {Row : Type 0} → List (List ℕ) → (List (List ℕ) → Option Row) → List (List (List ℕ)) → List Row → Type 0

@@ -4,11 +4,11 @@
 //! ends are left to `csv`. The records that were read and those that the reader has yet to give are
 //! together that list after each read, so no record is lost and none is read twice.
 
-ghost use Rattle.std.specs.Prelude.{◌≡◌, ◌∷◌, ℕ, List, Option, Some, None, length, map, MatchResult, IfOk, IfErr, IsTrue, ◌↔◌};
+ghost use Rattle.std.specs.Prelude.{◌≡◌, ℕ, List, Option, None, map, MatchResult, IfOk, IfErr, IsTrue, ◌↔◌};
 ghost use Rattle.csv.specs.Records.{fields_of};
 ghost use Rattle.resil_input.specs.declared.csv_rows.BodyError.TheVariants.{Memory};
-ghost use Rattle.resil_input.specs.CsvRows.{IsBody, IsBodyError, records_of, RowsUnique, RowsExcludeErrors, ErrorsUnique};
-ghost use Rattle.resil_input.specs.ReaderState.{IsBetweenRecords, IsInBody, GivesNext, records_left};
+ghost use Rattle.resil_input.specs.CsvRows.{AnswersRows, IsBody, IsBodyError, records_of, RowsUnique, RowsExcludeErrors, ErrorsUnique};
+ghost use Rattle.resil_input.specs.ReaderState.{IsBetweenRecords, GivesNext, records_left};
 
 use crate::fields::{field_at, is_text};
 use csv::{ByteRecord, ErrorKind, Reader, ReaderBuilder};
@@ -43,31 +43,6 @@ impl<T: Drop> From<AllocFailed<T>> for BodyError {
     fn from(_refused: AllocFailed<T>) -> BodyError {
         BodyError::Memory
     }
-}
-
-/// How the bodies of a command look: the header, and which row a record is.
-pub trait RowFormat {
-    /// A row of such a body.
-    type Row: Drop;
-
-    // The fields of the header.
-    ghost header: { List (List ℕ) };
-
-    // The row that is read from fields, where they are as many as the header's.
-    ghost row_of: { Self → List (List ℕ) → Option Self.Row };
-
-    /// Whether a record is the header of these bodies.
-    fn is_header(&self, fields: &ByteRecord) -> bool
-        ensures { IsTrue result ↔ (fields_of fields.now ≡ header) };
-
-    /// Reads the row of a record with as many fields as the header, or `None` where it is no row.
-    ///
-    /// # Errors
-    ///
-    /// `AllocError` where memory runs out.
-    fn row_of(&self, alloc: Global, fields: &ByteRecord) -> Result<Option<Self::Row>, AllocError>
-        requires { length (fields_of fields.now) ≡ length header }
-        ensures { IfOk result (λ row. row ≡ row_of self.now (fields_of fields.now)) };
 }
 
 /// Whether a record has exactly these fields, in this order.
@@ -111,22 +86,30 @@ fn next_record(reader: &mut Reader<&[u8]>, fields: &mut ByteRecord) -> Result<Ne
     }
 }
 
-// Reads the records after the header as rows, in order. Errors: `Memory` where memory runs out;
-// `BadRow` with the position of the first record that is no row.
-fn read_records<F: RowFormat>(
+// Reads the header and the rows of a body that the reader has yet to read. Errors: as for
+// `read_rows`.
+fn read_body<R: Drop, F: Fn(&ByteRecord) -> Result<Option<R>, AllocError>>(
     alloc: Global,
-    format: &F,
+    header: &[&str],
+    row_of: &F,
     reader: &mut Reader<&[u8]>,
-    fields: &mut ByteRecord,
-) -> Result<Vec<F::Row>, BodyError>
-    requires { IsInBody F.header reader.old }
-    ensures { (body : List ℕ) → records_of body ≡ F.header ∷ records_left reader.old
-        → MatchResult result (λ rows. IsBody F.header (F.row_of format.now) body rows.items) (IsBodyError F.header (F.row_of format.now) body) }
+) -> Result<Vec<R>, BodyError>
+    requires calls { F.IsAlwaysCallable row_of.now }
+    requires between { IsBetweenRecords reader.old }
+    requires first { reader.old.expected ≡ None }
+    ensures { let names = map (λ name. name.now) header.now in
+        (body : List ℕ) (parse : List (List ℕ) → Option R) → records_left reader.old ≡ records_of body → AnswersRows (F.post row_of.now) names parse
+        → MatchResult result (λ rows. IsBody names parse body rows.items) (IsBodyError names parse body) }
 {
+    let mut fields = ByteRecord::new(alloc);
+    match next_record(reader, &mut fields)? {
+        Next::Record if has_fields(&fields, header) => {}
+        _ => return Err(BodyError::BadHeader),
+    }
     let mut rows = Vec::new(alloc);
     'rows: loop {
-        match next_record(reader, fields)? {
-            Next::Record => match format.row_of(alloc, fields)? {
+        match next_record(reader, &mut fields)? {
+            Next::Record => match row_of(&fields)? {
                 Some(row) => rows.push(row)?,
                 None => return Err(BodyError::BadRow(rows.len() + 1)),
             },
@@ -136,50 +119,35 @@ fn read_records<F: RowFormat>(
     }
 }
 
-// Reads the header and the rows of a body that the reader has yet to read. Errors: as for
-// `read_rows`.
-fn read_body<F: RowFormat>(
-    alloc: Global,
-    format: &F,
-    reader: &mut Reader<&[u8]>,
-) -> Result<Vec<F::Row>, BodyError>
-    requires between { IsBetweenRecords reader.old }
-    requires first { reader.old.expected ≡ None }
-    ensures { (body : List ℕ) → records_left reader.old ≡ records_of body
-        → MatchResult result (λ rows. IsBody F.header (F.row_of format.now) body rows.items) (IsBodyError F.header (F.row_of format.now) body) }
-{
-    let mut fields = ByteRecord::new(alloc);
-    match next_record(reader, &mut fields)? {
-        Next::Record if format.is_header(&fields) => {
-            read_records(alloc, format, reader, &mut fields)
-        }
-        _ => Err(BodyError::BadHeader),
-    }
-}
-
-/// Reads the rows of a body, in order.
+/// Reads the rows of a body, in order: the records behind one with the fields of the header.
+/// `row_of` reads the row of a record with as many fields as the header, or `None` where it is no
+/// row; it fails where memory runs out.
 ///
 /// # Errors
 ///
 /// The first that is met: `Memory` where memory runs out; `BadHeader` where the first record is
 /// missing or isn't the header; `BadRow` with the position of the first record that is no row.
-pub fn read_rows<F: RowFormat>(
+pub fn read_rows<R: Drop, F: Fn(&ByteRecord) -> Result<Option<R>, AllocError> + Drop>(
     alloc: Global,
-    format: &F,
+    header: &[&str],
+    row_of: F,
     body: &[u8],
-) -> Result<Vec<F::Row>, BodyError>
-    ensures { MatchResult result (λ rows. IsBody F.header (F.row_of format.now) body.now rows.items) (IsBodyError F.header (F.row_of format.now) body.now) }
+) -> Result<Vec<R>, BodyError>
+    requires { F.IsAlwaysCallable row_of }
+    ensures { let names = map (λ name. name.now) header.now in
+        (parse : List (List ℕ) → Option R) → AnswersRows (F.post row_of) names parse
+        → MatchResult result (λ rows. IsBody names parse body.now rows.items) (IsBodyError names parse body.now) }
 {
     let mut reader = ReaderBuilder::new()
         .has_headers(false)
         .from_reader(alloc, body);
-    read_body(alloc, format, &mut reader)
+    read_body(alloc, header, &row_of, &mut reader)
 }
 
 /// The law of bodies: a body alone determines how it is read. It has one list of rows at most, a
 /// body with rows has no error but `Memory`, and a body has one error at most beside `Memory`.
-pub fn readings_unique<F: RowFormat>(format: &F)
-    ensures rows { RowsUnique F.header (F.row_of format.now) }
-    ensures fault { RowsExcludeErrors F.header (F.row_of format.now) }
-    ensures faults { ErrorsUnique F.header (F.row_of format.now) }
+pub fn readings_unique<R>()
+    ensures rows { (header : List (List ℕ)) (parse : List (List ℕ) → Option R) → RowsUnique header parse }
+    ensures fault { (header : List (List ℕ)) (parse : List (List ℕ) → Option R) → RowsExcludeErrors header parse }
+    ensures faults { (header : List (List ℕ)) (parse : List (List ℕ) → Option R) → ErrorsUnique header parse }
 {}

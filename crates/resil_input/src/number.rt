@@ -1,11 +1,13 @@
-//! The numbers in the fields of a body: decimal, from 1, with neither a plus sign nor leading
-//! zeros.
+//! The numbers in the fields of a body: decimal, from 1 or from 0, with neither a plus sign nor
+//! leading zeros.
 //!
 //! A number is read from exactly one text, the decimal one that the program itself writes. So what
 //! the program wrote is read as what it was.
 
-ghost use Rattle.std.specs.Prelude.{◌≡◌};
-ghost use Rattle.resil_input.specs.Number.{parse_number, parse_caller, NumbersRoundTrip, NumbersAreDecimal};
+ghost use Rattle.std.specs.Prelude.{◌≡◌, ◌^◌};
+ghost use Rattle.resil_input.specs.Number.{parse_number, parse_caller, parse_from_zero, NumbersRoundTrip, NumbersAreDecimal};
+
+use crate::fields::is_text;
 
 /// Reads a number from 1 to 18,446,744,073,709,551,615, or `None` where a field isn't the decimal
 /// text of one.
@@ -24,6 +26,18 @@ pub fn parse_caller(field: &[u8]) -> Option<u16>
     ensures { result ≡ parse_caller field.now }
 {
     u16::try_from(parse_number(field)?).ok()
+}
+
+/// Reads a number from 0 to 18,446,744,073,709,551,615, or `None` where a field isn't the decimal
+/// text of one.
+pub fn parse_from_zero(field: &[u8]) -> Option<u64>
+    ensures { result ≡ parse_from_zero (2 ^ 64) field.now }
+{
+    if is_text(field, "0") {
+        Some(0)
+    } else {
+        parse_number(field)
+    }
 }
 
 /// The law of these numbers: a number is read from its decimal text, and from no other text.

@@ -7,12 +7,13 @@ use Rattle.resil_rule.specs.declared.event.Event.{Event}
 use Rattle.resil_rule.specs.declared.event.Event.TheVariants.{Submit, Take, Finish, IdleEnd, Close, Resized}
 use Rattle.resil_replay.specs.Events.{parse_event}
 use Rattle.resil_replay.specs.History.{event_fields, history_header, record_fields}
-use Rattle.resil_replay.specs.Timed.{FitsTimed, IsHistoryBody, IsTimedBody, TimedHistoriesRoundTrip, events_in, parse_time, parse_timed, timed_fields, timed_header, timed_text, times_in}
+use Rattle.resil_replay.specs.Timed.{FitsTimed, IsHistoryBody, IsTimedBody, TimedHistoriesRoundTrip, events_in, parse_timed, timed_fields, timed_header, timed_text, times_in}
 use Rattle.resil_replay.specs.declared.history.Version.{Version}
 use Rattle.resil_replay.specs.declared.history.Version.TheVariants.{One, Two}
 use Rattle.resil_replay.specs.declared.timed.Timed.{Timed}
 use Rattle.resil_input.specs.CsvRows.{ParseAs, records_of, row_under}
 use Rattle.resil_input.specs.CsvTable.{ArePlain, record_text}
+use Rattle.resil_input.specs.Number.{parse_from_zero}
 use Rattle.resil_input.proofs.NumberLaws.{from_zero-round_trip}
 use Rattle.resil_input.proofs.PlainLaws.{IsPlain_number}
 use Rattle.resil_input.proofs.RecordLaws.{records_from-end}
@@ -48,7 +49,7 @@ plain-fields (Resized core max) at = rw (IsPlain_number core, IsPlain_number max
 timed-read : (timed : Timed) → FitsTimed timed → row_under timed_header parse_timed (timed_fields timed) ≡ Some timed
 timed-read timed fits =
     let event = front-fields timed.event (decimal timed.at) ∙ event-read Two timed.event fits.0 in
-    let time : parse_time (get_or (timed_fields timed) 6 []) ≡ Some timed.at = rw (last-field timed.event (decimal timed.at)) (from_zero-round_trip (2 ^ 64) timed.at (omega arith) fits.1) in
+    let time : parse_from_zero (2 ^ 64) (get_or (timed_fields timed) 6 []) ≡ Some timed.at = rw (last-field timed.event (decimal timed.at)) (from_zero-round_trip (2 ^ 64) timed.at (omega arith) fits.1) in
     rw (wide timed.event (decimal timed.at), event, time) refl
 
 -- ---- All of them.

@@ -18,13 +18,9 @@ use Rattle.resil_input.specs.declared.csv_rows.BodyError.TheVariants as error
 abbrev pub timed_header : List (List ℕ)
 timed_header = codes "event" ∷ codes "caller" ∷ codes "number" ∷ codes "reply" ∷ codes "core" ∷ codes "max" ∷ codes "at" ∷ []
 
--- a time, from 0 to 2 ^ 64 - 1, that a field is read as
-abbrev pub parse_time : List ℕ → Option ℕ
-parse_time field = parse_from_zero (2 ^ 64) field
-
--- the event that a record is read as, as in version 2, and its time
+-- the event that a record is read as, as in version 2, and its time, from 0 to 2 ^ 64 - 1
 abbrev pub parse_timed : List (List ℕ) → Option Timed
-parse_timed fields = option_and_then (λ event. option_map (λ at. record { event = event; at = at }) (parse_time (get_or fields 6 []))) (parse_event fields)
+parse_timed fields = option_and_then (λ event. option_map (λ at. record { event = event; at = at }) (parse_from_zero (2 ^ 64) (get_or fields 6 []))) (parse_event fields)
 
 -- the events of a history, and their times
 abbrev pub events_in : List Timed → List Event

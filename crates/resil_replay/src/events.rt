@@ -5,8 +5,9 @@
 //! by itself: a history that is read here may be illegal, which is for the audit to say. The text of a
 //! history is read as that history.
 
-ghost use Rattle.std.specs.Prelude.{◌≡◌, MatchResult};
+ghost use Rattle.std.specs.Prelude.{◌≡◌, map, MatchResult};
 ghost use Rattle.csv.specs.Records.{fields_of};
+ghost use Rattle.resil_input.specs.CsvRows.{IsBody, IsBodyError};
 ghost use Rattle.resil_replay.specs.Events.{parse_reply, parse_event, IsAuditBody, IsAuditBodyError, HistoriesRoundTrip};
 ghost use Rattle.resil_replay.specs.Versions.{VersionsUnique, VersionsExcludeErrors, VersionErrorsUnique};
 ghost use Rattle.resil_replay.specs.History.{history_header};
@@ -15,10 +16,10 @@ use crate::id::{CALLER, NUMBER, parse_id};
 use crate::sizes::{SIZE, parse_sizes};
 use csv::ByteRecord;
 use resil_heads::forms::{Body, Form};
-use resil_input::csv_rows::{self, BodyError, RowFormat, has_fields};
+use resil_input::csv_rows::{self, BodyError};
 use resil_input::fields::{field_at, is_text};
 use resil_rule::{Event, Reply};
-use std::alloc::{AllocError, Global};
+use std::alloc::Global;
 
 // The fields of the header of version 1.
 const SHORT_HEADER: &[&str] = &["event", "caller", "number", "reply"];
@@ -40,35 +41,6 @@ pub const BODY: Body = Body {
     ],
     has_resizes: true,
 };
-
-/// The bodies of a version: its header, and an [`Event`] for each record. That of version 2 has the
-/// sizes of a resize.
-#[derive(Clone, Copy)]
-pub struct Rows<const SIZED: bool>;
-
-impl<const SIZED: bool> RowFormat for Rows<SIZED> {
-    type Row = Event;
-
-    ghost use Rattle.resil_replay.specs.History.{history_header};
-    ghost use Rattle.resil_replay.specs.Versions.{version_with};
-    ghost use Rattle.resil_replay.specs.Events.{parse_event};
-
-    ghost header = { history_header (version_with SIZED) };
-
-    ghost row_of = { λ _ fields. parse_event fields };
-
-    fn is_header(&self, fields: &ByteRecord) -> bool {
-        if SIZED {
-            has_fields(fields, LONG_HEADER)
-        } else {
-            has_fields(fields, SHORT_HEADER)
-        }
-    }
-
-    fn row_of(&self, _alloc: Global, fields: &ByteRecord) -> Result<Option<Event>, AllocError> {
-        Ok(parse_event(fields))
-    }
-}
 
 // Reads the name of a reply.
 fn parse_reply(name: &[u8]) -> Option<Reply>
@@ -125,6 +97,14 @@ pub(crate) fn parse_event(fields: &ByteRecord) -> Option<Event>
     }
 }
 
+// Reads the events of a body under a header. Errors: as for `read_rows`.
+fn read_under(alloc: Global, header: &[&str], body: &[u8]) -> Result<Vec<Event>, BodyError>
+    ensures { let names = map (λ name. name.now) header.now in
+        MatchResult result (λ events. IsBody names parse_event body.now events.items) (IsBodyError names parse_event body.now) }
+{
+    csv_rows::read_rows(alloc, header, |fields| Ok(parse_event(fields)), body)
+}
+
 /// Reads the history in a body of `audit`, in the version that its header tells.
 ///
 /// # Errors
@@ -135,9 +115,9 @@ pub(crate) fn parse_event(fields: &ByteRecord) -> Option<Event>
 pub fn read_rows(alloc: Global, body: &[u8]) -> Result<Vec<Event>, BodyError>
     ensures { MatchResult result (λ history. IsAuditBody body.now history.items) (IsAuditBodyError body.now) }
 {
-    match csv_rows::read_rows(alloc, &Rows::<false>, body) {
+    match read_under(alloc, SHORT_HEADER, body) {
         Ok(history) => Ok(history),
-        Err(BodyError::BadHeader) => csv_rows::read_rows(alloc, &Rows::<true>, body),
+        Err(BodyError::BadHeader) => read_under(alloc, LONG_HEADER, body),
         Err(why) => Err(why),
     }
 }

@@ -4,8 +4,9 @@
 //! rows are read before the first is carried out, so a row that can't be read is reported even where
 //! the pool would refuse an earlier one.
 
-ghost use Rattle.std.specs.Prelude.{◌≡◌, MatchResult};
+ghost use Rattle.std.specs.Prelude.{◌≡◌, map, MatchResult};
 ghost use Rattle.csv.specs.Records.{fields_of};
+ghost use Rattle.resil_input.specs.CsvRows.{IsBody, IsBodyError};
 ghost use Rattle.resil_replay.specs.Versions.{VersionsUnique, VersionsExcludeErrors, VersionErrorsUnique};
 ghost use Rattle.resil_replay.specs.Rows.{replay_rows_header, parse_replay_row, IsReplayBody, IsReplayBodyError};
 
@@ -15,9 +16,9 @@ use crate::sizes::{SIZE, parse_sizes};
 use csv::ByteRecord;
 use resil_admission::Id;
 use resil_heads::forms::{Body, Form};
-use resil_input::csv_rows::{self, BodyError, RowFormat, has_fields};
+use resil_input::csv_rows::{self, BodyError};
 use resil_input::fields::{field_at, is_text};
-use std::alloc::{AllocError, Global};
+use std::alloc::Global;
 
 /// One row of a `replay`.
 #[derive(Clone, Copy)]
@@ -66,33 +67,6 @@ pub const BODY: Body = Body {
     has_resizes: true,
 };
 
-/// The bodies with the long header or the short one, and a [`ReplayRow`] for each record.
-#[derive(Clone, Copy)]
-pub struct Rows<const SIZED: bool>;
-
-impl<const SIZED: bool> RowFormat for Rows<SIZED> {
-    type Row = ReplayRow;
-
-    ghost use Rattle.resil_replay.specs.Versions.{version_with};
-    ghost use Rattle.resil_replay.specs.Rows.{replay_rows_header, parse_replay_row};
-
-    ghost header = { replay_rows_header (version_with SIZED) };
-
-    ghost row_of = { λ _ fields. parse_replay_row fields };
-
-    fn is_header(&self, fields: &ByteRecord) -> bool {
-        if SIZED {
-            has_fields(fields, LONG_HEADER)
-        } else {
-            has_fields(fields, SHORT_HEADER)
-        }
-    }
-
-    fn row_of(&self, _alloc: Global, fields: &ByteRecord) -> Result<Option<ReplayRow>, AllocError> {
-        Ok(parse_replay_row(fields))
-    }
-}
-
 // Reads a row from the fields of a record. Those that the row doesn't use must be empty.
 fn parse_replay_row(fields: &ByteRecord) -> Option<ReplayRow>
     ensures { result ≡ parse_replay_row (fields_of fields.now) }
@@ -124,6 +98,14 @@ fn parse_replay_row(fields: &ByteRecord) -> Option<ReplayRow>
     }
 }
 
+// Reads the rows of a body under a header. Errors: as for `read_rows`.
+fn read_under(alloc: Global, header: &[&str], body: &[u8]) -> Result<Vec<ReplayRow>, BodyError>
+    ensures { let names = map (λ name. name.now) header.now in
+        MatchResult result (λ rows. IsBody names parse_replay_row body.now rows.items) (IsBodyError names parse_replay_row body.now) }
+{
+    csv_rows::read_rows(alloc, header, |fields| Ok(parse_replay_row(fields)), body)
+}
+
 /// Reads the rows of a body of `replay`, in order, under the short header or the long one.
 ///
 /// # Errors
@@ -134,14 +116,14 @@ fn parse_replay_row(fields: &ByteRecord) -> Option<ReplayRow>
 pub fn read_rows(alloc: Global, body: &[u8]) -> Result<ReplayBody, BodyError>
     ensures { MatchResult result (λ read. IsReplayBody body.now read.version read.rows.items) (IsReplayBodyError body.now) }
 {
-    match csv_rows::read_rows(alloc, &Rows::<false>, body) {
+    match read_under(alloc, SHORT_HEADER, body) {
         Ok(rows) => Ok(ReplayBody {
             version: Version::One,
             rows,
         }),
         Err(BodyError::BadHeader) => Ok(ReplayBody {
             version: Version::Two,
-            rows: csv_rows::read_rows(alloc, &Rows::<true>, body)?,
+            rows: read_under(alloc, LONG_HEADER, body)?,
         }),
         Err(why) => Err(why),
     }

@@ -6,8 +6,7 @@ ghost use Rattle.std.specs.Prelude.{◌≡◌};
 ghost use Rattle.resil_replay.specs.Sizes.{parse_size, parse_sizes, SizesAreDecimal, SizesRoundTrip};
 
 use resil_heads::forms::Form;
-use resil_input::fields::is_text;
-use resil_input::number::parse_number;
+use resil_input::number::parse_from_zero;
 
 /// What the field of a size may be.
 pub(crate) const SIZE: Form = Form::Number(0, 4_294_967_295);
@@ -16,11 +15,7 @@ pub(crate) const SIZE: Form = Form::Number(0, 4_294_967_295);
 fn parse_size(field: &[u8]) -> Option<u32>
     ensures { result ≡ parse_size field.now }
 {
-    if is_text(field, "0") {
-        Some(0)
-    } else {
-        u32::try_from(parse_number(field)?).ok()
-    }
+    u32::try_from(parse_from_zero(field)?).ok()
 }
 
 /// Reads a core size and a greatest size from two fields, each from 0 to 4,294,967,295.

@@ -8,7 +8,7 @@ ghost use Rattle.std.specs.Prelude.{◌≡◌, ◌++◌, Some, IfOk, MatchOption
 ghost use Rattle.csv.specs.Records.{fields_of};
 ghost use Rattle.resil_input.specs.CsvTable.{HasColumns, record_text, text_so_far};
 ghost use Rattle.resil_input.specs.CsvRows.{IsBodyError};
-ghost use Rattle.resil_replay.specs.Timed.{AreAscending, GoesBackAt, IsHistoryBody, IsHistoryBodyError, TimedHistoriesRoundTrip, events_in, parse_time, parse_timed, timed_fields, timed_header, timed_text, times_in};
+ghost use Rattle.resil_replay.specs.Timed.{AreAscending, GoesBackAt, IsHistoryBody, IsHistoryBodyError, IsTimedBody, TimedHistoriesRoundTrip, events_in, parse_timed, timed_fields, timed_header, timed_text, times_in};
 
 use crate::events::{self, parse_event};
 use crate::history::reply_name;
@@ -17,10 +17,10 @@ use crate::sizes::SIZE;
 use csv::ByteRecord;
 use itoa::Buffer;
 use resil_heads::forms::{Body, Form};
-use resil_input::csv_rows::{self, BodyError, RowFormat, has_fields};
+use resil_input::csv_rows::{self, BodyError};
 use resil_input::csv_table::CsvTable;
-use resil_input::fields::{field_at, is_text};
-use resil_input::number::parse_number;
+use resil_input::fields::field_at;
+use resil_input::number::parse_from_zero;
 use resil_rule::Event;
 use std::alloc::{AllocError, Global};
 
@@ -68,46 +68,25 @@ pub struct History {
     pub times: Option<Vec<u64>>,
 }
 
-/// The bodies of version 3: its header, and a [`Timed`] for each record.
-#[derive(Clone, Copy)]
-pub struct Rows;
-
-impl RowFormat for Rows {
-    type Row = Timed;
-
-    ghost use Rattle.resil_replay.specs.Timed.{parse_timed, timed_header};
-
-    ghost header = { timed_header };
-
-    ghost row_of = { λ _ fields. parse_timed fields };
-
-    fn is_header(&self, fields: &ByteRecord) -> bool {
-        has_fields(fields, TIMED_HEADER)
-    }
-
-    fn row_of(&self, _alloc: Global, fields: &ByteRecord) -> Result<Option<Timed>, AllocError> {
-        Ok(parse_timed(fields))
-    }
-}
-
-/// Reads a time, from 0 to 18,446,744,073,709,551,615.
-pub fn parse_time(field: &[u8]) -> Option<u64>
-    ensures { result ≡ parse_time field.now }
-{
-    if is_text(field, "0") {
-        Some(0)
-    } else {
-        parse_number(field)
-    }
-}
-
 // Reads an event and its time from the fields of a record.
 fn parse_timed(fields: &ByteRecord) -> Option<Timed>
     ensures { result ≡ parse_timed (fields_of fields.now) }
 {
     let event = parse_event(fields)?;
-    let at = parse_time(field_at(fields, 6))?;
+    let at = parse_from_zero(field_at(fields, 6))?;
     Some(Timed { event, at })
+}
+
+/// Reads the events and times of a body of version 3, in order.
+///
+/// # Errors
+///
+/// The first that is met: `Memory` where memory runs out; `BadHeader` where the first record is missing or isn't the header; `BadRow`
+/// with the position of the first record that is no event, or has no time.
+pub fn read_rows(alloc: Global, body: &[u8]) -> Result<Vec<Timed>, BodyError>
+    ensures { MatchResult result (λ rows. IsTimedBody body.now rows.items) (IsBodyError timed_header parse_timed body.now) }
+{
+    csv_rows::read_rows(alloc, TIMED_HEADER, |fields| Ok(parse_timed(fields)), body)
 }
 
 /// The events alone.
@@ -136,7 +115,7 @@ pub fn times_in(alloc: Global, history: &[Timed]) -> Result<Vec<u64>, AllocError
 fn read_timed(alloc: Global, body: &[u8]) -> Result<History, BodyError>
     ensures { MatchResult result (λ read. IsHistoryBody body.now read.events.items (option_map (λ times. times.items) read.times)) (IsBodyError timed_header parse_timed body.now) }
 {
-    let rows = csv_rows::read_rows(alloc, &Rows, body)?;
+    let rows = read_rows(alloc, body)?;
     let events = events_in(alloc, &rows)?;
     let times = times_in(alloc, &rows)?;
     Ok(History {

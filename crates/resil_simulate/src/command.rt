@@ -13,7 +13,7 @@ use crate::rows::read_rows;
 use crate::table::table_text;
 use resil_heads::load::{LoadHead, read_load_head};
 use resil_heads::{CommandError, Refusal};
-use resil_input::csv_rows::{self, BodyError};
+use resil_input::csv_rows::BodyError;
 use resil_input::framing::split_input;
 use resil_replay::timed::{self, events_in, timed_text, times_in};
 use resil_rule::Limits;
@@ -97,7 +97,7 @@ fn read_arrivals(alloc: Global, body: &[u8], head: &LoadHead) -> Result<Vec<Arri
     match read_rows(alloc, body) {
         Ok(rows) => Ok(load_of(alloc, &rows, head.idle_for)?),
         Err(BodyError::BadHeader) => {
-            let history = csv_rows::read_rows(alloc, &timed::Rows, body)?;
+            let history = timed::read_rows(alloc, body)?;
             let load = load_of_history(alloc, &history, head.idle_for, head.takes)?;
             Ok(load)
         }

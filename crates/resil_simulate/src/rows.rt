@@ -6,10 +6,10 @@ ghost use Rattle.resil_simulate.specs.Rows.{IsLoadBody, IsLoadBodyError, parse_r
 
 use csv::ByteRecord;
 use resil_heads::load::LOAD_BODY;
-use resil_input::csv_rows::{self, BodyError, RowFormat, has_fields};
+use resil_input::csv_rows::{self, BodyError};
 use resil_input::fields::field_at;
-use resil_replay::timed::parse_time;
-use std::alloc::{AllocError, Global};
+use resil_input::number::parse_from_zero;
+use std::alloc::Global;
 
 /// A job of a load, in microseconds.
 #[derive(Clone, Copy)]
@@ -20,34 +20,12 @@ pub struct Row {
     pub takes: u32,
 }
 
-/// The bodies of `simulate`: the header `at,takes`, and a [`Row`] for each record.
-#[derive(Clone, Copy)]
-pub struct Rows;
-
-impl RowFormat for Rows {
-    type Row = Row;
-
-    ghost use Rattle.resil_simulate.specs.Rows.{load_header, parse_row};
-
-    ghost header = { load_header };
-
-    ghost row_of = { λ _ fields. parse_row fields };
-
-    fn is_header(&self, fields: &ByteRecord) -> bool {
-        has_fields(fields, LOAD_BODY.header)
-    }
-
-    fn row_of(&self, _alloc: Global, fields: &ByteRecord) -> Result<Option<Row>, AllocError> {
-        Ok(parse_row(fields))
-    }
-}
-
 // Reads a job from the fields of a record.
 fn parse_row(fields: &ByteRecord) -> Option<Row>
     ensures { result ≡ parse_row (fields_of fields.now) }
 {
-    let at = parse_time(field_at(fields, 0))?;
-    let takes = u32::try_from(parse_time(field_at(fields, 1))?).ok()?;
+    let at = parse_from_zero(field_at(fields, 0))?;
+    let takes = u32::try_from(parse_from_zero(field_at(fields, 1))?).ok()?;
     Some(Row { at, takes })
 }
 
@@ -60,5 +38,10 @@ fn parse_row(fields: &ByteRecord) -> Option<Row>
 pub fn read_rows(alloc: Global, body: &[u8]) -> Result<Vec<Row>, BodyError>
     ensures { MatchResult result (λ rows. IsLoadBody body.now rows.items) (IsLoadBodyError body.now) }
 {
-    csv_rows::read_rows(alloc, &Rows, body)
+    csv_rows::read_rows(
+        alloc,
+        LOAD_BODY.header,
+        |fields| Ok(parse_row(fields)),
+        body,
+    )
 }

@@ -1,10 +1,10 @@
 -- The results of a run behind a history: the line that parts them, and their rows.
-use Rattle.std.specs.Prelude.{ℕ, ◌-◌, ◌==◌, ◌&&◌, ◌||◌, ◌∷◌, [], Bool, false, List, Option, Some, None, if◌then◌else◌, codes, length, option_and_then, slice_index, take}
+use Rattle.std.specs.Prelude.{ℕ, ◌-◌, ◌^◌, ◌==◌, ◌&&◌, ◌||◌, ◌∷◌, [], Bool, false, List, Option, Some, None, if◌then◌else◌, codes, length, option_and_then, slice_index, take}
 use Rattle.std.specs.List.{concat, list_all, slice_split}
 use Rattle.std.specs.Option.{is_some, option_map_or}
 use Rattle.resil_input.specs.CsvRows.{IsBody, IsBodyError}
 use Rattle.resil_input.specs.Framing.{lines_of, with_prefix}
-use Rattle.resil_input.specs.Number.{parse_caller, parse_number}
+use Rattle.resil_input.specs.Number.{parse_caller, parse_from_zero, parse_number}
 use Rattle.resil_input.specs.OutcomeText.{parse_outcome}
 use Rattle.resil_input.specs.TextEquality.{is_same}
 use Rattle.resil_input.specs.declared.csv_rows.BodyError.{BodyError}
@@ -44,30 +44,26 @@ history_part body = option_map_or (λ parts. parts.0) (results_of body) body
 
 -- ---- The rows of results.
 
--- a number from 0 on that a field is read as
-abbrev pub parse_count : List ℕ → Option ℕ
-parse_count field = if is_same field (codes "0") then Some 0 else parse_number field
-
 -- the items of a field, with semicolons (59) between them; an empty field has none
 abbrev pub are_items : (List ℕ → Bool) → List ℕ → Bool
 are_items is_item field = (length field == 0) || list_all is_item (slice_split (λ byte. byte == 59) field)
 
 -- a wait, in milliseconds
 abbrev pub is_wait : List ℕ → Bool
-is_wait item = is_some (parse_count item)
+is_wait item = is_some (parse_from_zero (2 ^ 64) item)
 
 -- the id of a bulkhead, and `y` (121) or `n` (110) behind it
 abbrev pub is_answer : List ℕ → Bool
 is_answer item =
     let end = length item - 1 in
-    is_some (parse_count (take end item)) && ((slice_index item end == 121) || (slice_index item end == 110))
+    is_some (parse_from_zero (2 ^ 64) (take end item)) && ((slice_index item end == 121) || (slice_index item end == 110))
 
 -- the result that six fields are read as: the job's id, its outcome, its calls, its waits, and the answers that it got
 abbrev pub parse_result_fields : List ℕ → List ℕ → List ℕ → List ℕ → List ℕ → List ℕ → Option JobResult
 parse_result_fields caller number outcome calls waits asked =
     option_and_then (λ c. option_and_then (λ n. option_and_then (λ o. option_and_then (λ k.
     if are_items is_wait waits && are_items is_answer asked then Some (record { id = record { caller = c; number = n }; outcome = o; calls = k }) else None)
-    (parse_count calls)) (parse_outcome outcome)) (parse_number number)) (parse_caller caller)
+    (parse_from_zero (2 ^ 64) calls)) (parse_outcome outcome)) (parse_number number)) (parse_caller caller)
 
 -- the result that a record is read as
 abbrev pub parse_result : List (List ℕ) → Option JobResult

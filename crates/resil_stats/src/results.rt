@@ -7,12 +7,12 @@
 ghost use Rattle.std.specs.Prelude.{◌≡◌, ◌&&◌, ℕ, [], get_or, MatchResult, option_map};
 ghost use Rattle.csv.specs.Records.{fields_of};
 ghost use Rattle.resil_input.specs.Framing.{lines_of};
-ghost use Rattle.resil_stats.specs.Results.{AreResults, IsResultsError, are_items, begins_results, is_answer, is_empty_line, is_results_line, is_wait, parse_count, parse_result_fields, results_of};
+ghost use Rattle.resil_stats.specs.Results.{AreResults, IsResultsError, are_items, begins_results, is_answer, is_empty_line, is_results_line, is_wait, parse_result_fields, results_of};
 
 use csv::ByteRecord;
-use resil_input::csv_rows::{self, BodyError, RowFormat, has_fields};
+use resil_input::csv_rows::{self, BodyError};
 use resil_input::fields::field_at;
-use resil_input::number::{parse_caller, parse_number};
+use resil_input::number::{parse_caller, parse_from_zero, parse_number};
 use resil_input::outcome_text::parse_outcome;
 use resil_retry::Outcome;
 use resil_rule::Id;
@@ -30,32 +30,8 @@ pub struct JobResult {
     pub calls: u64,
 }
 
-/// The results of a run: the header `caller,number,outcome,calls,waits,asked`, and a [`JobResult`] for
-/// each record.
-#[derive(Clone, Copy)]
-pub struct Rows;
-
-impl RowFormat for Rows {
-    type Row = JobResult;
-
-    ghost use Rattle.resil_input.specs.CsvTable.{results_header};
-    ghost use Rattle.resil_stats.specs.Results.{parse_result};
-
-    ghost header = { results_header };
-
-    ghost row_of = { λ _ fields. parse_result fields };
-
-    fn is_header(&self, fields: &ByteRecord) -> bool {
-        has_fields(
-            fields,
-            &["caller", "number", "outcome", "calls", "waits", "asked"],
-        )
-    }
-
-    fn row_of(&self, _alloc: Global, fields: &ByteRecord) -> Result<Option<JobResult>, AllocError> {
-        Ok(parse_result(fields))
-    }
-}
+// The fields of the header.
+const HEADER: &[&str] = &["caller", "number", "outcome", "calls", "waits", "asked"];
 
 // Whether a line is empty, apart from its line end.
 fn is_empty_line(line: &[u8]) -> bool
@@ -109,22 +85,11 @@ pub fn split_results(body: &[u8]) -> Option<(&[u8], &[u8])>
     None
 }
 
-// Reads a number from 0 to 18,446,744,073,709,551,615.
-fn parse_count(field: &[u8]) -> Option<u64>
-    ensures { result ≡ parse_count field.now }
-{
-    if field == b"0".as_slice() {
-        Some(0)
-    } else {
-        parse_number(field)
-    }
-}
-
 // Whether an item is a wait, in milliseconds.
 fn is_wait(item: &[u8]) -> bool
     ensures { result ≡ is_wait item.now }
 {
-    parse_count(item).is_some()
+    parse_from_zero(item).is_some()
 }
 
 // Whether an item is the id of a bulkhead, with `y` or `n` behind it.
@@ -135,7 +100,7 @@ fn is_answer(item: &[u8]) -> bool
         return false;
     };
     let letter = item[end];
-    parse_count(&item[..end]).is_some() && (letter == b'y' || letter == b'n')
+    parse_from_zero(&item[..end]).is_some() && (letter == b'y' || letter == b'n')
 }
 
 // Whether a field is waits, with semicolons between them, or empty.
@@ -162,7 +127,7 @@ fn parse_result(fields: &ByteRecord) -> Option<JobResult>
     let caller = parse_caller(field_at(fields, 0))?;
     let number = parse_number(field_at(fields, 1))?;
     let outcome = parse_outcome(field_at(fields, 2))?;
-    let calls = parse_count(field_at(fields, 3))?;
+    let calls = parse_from_zero(field_at(fields, 3))?;
     if are_waits(field_at(fields, 4)) && are_answers(field_at(fields, 5)) {
         let id = Id { caller, number };
         Some(JobResult { id, outcome, calls })
@@ -180,7 +145,7 @@ fn parse_result(fields: &ByteRecord) -> Option<JobResult>
 pub fn read_results(alloc: Global, text: &[u8]) -> Result<Vec<JobResult>, BodyError>
     ensures { MatchResult result (λ rows. AreResults text.now rows.items) (IsResultsError text.now) }
 {
-    csv_rows::read_rows(alloc, &Rows, text)
+    csv_rows::read_rows(alloc, HEADER, |fields| Ok(parse_result(fields)), text)
 }
 
 /// How jobs ended, by their ids. Of two results for one job the first counts.

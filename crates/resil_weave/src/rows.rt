@@ -4,19 +4,16 @@
 //! can't be read is reported even where an earlier step can't be made.
 
 ghost use Rattle.std.specs.Prelude.{◌≡◌, MatchResult};
-ghost use Rattle.resil_weave.specs.Rows.{parse_step_caller, parse_step_fields, CallersAreDecimal, CallersRoundTrip, IsWeaveBody, IsWeaveBodyError};
+ghost use Rattle.csv.specs.Records.{fields_of};
+ghost use Rattle.resil_weave.specs.Rows.{parse_step, parse_step_caller, CallersAreDecimal, CallersRoundTrip, IsWeaveBody, IsWeaveBodyError};
 
 use csv::ByteRecord;
 use resil_heads::forms::{Body, Form};
-use resil_input::csv_rows::{self, BodyError, RowFormat, has_fields};
+use resil_input::csv_rows::{self, BodyError};
 use resil_input::fields::{field_at, is_text};
-use resil_input::number::parse_caller;
+use resil_input::number::parse_from_zero;
 use resil_permit::Step;
-use std::alloc::{AllocError, Global};
-
-/// The bodies of `weave`: the header `step,caller`, and a [`Step`] for each record.
-#[derive(Clone, Copy)]
-pub struct Rows;
+use std::alloc::Global;
 
 // The fields of the header.
 const HEADER: &[&str] = &["step", "caller"];
@@ -35,39 +32,20 @@ pub const BODY: Body = Body {
     has_resizes: false,
 };
 
-impl RowFormat for Rows {
-    type Row = Step;
-
-    ghost use Rattle.resil_weave.specs.Rows.{weave_rows_header, parse_step};
-
-    ghost header = { weave_rows_header };
-
-    ghost row_of = { λ _ fields. parse_step fields };
-
-    fn is_header(&self, fields: &ByteRecord) -> bool {
-        has_fields(fields, HEADER)
-    }
-
-    fn row_of(&self, _alloc: Global, fields: &ByteRecord) -> Result<Option<Step>, AllocError> {
-        Ok(parse_step_fields(field_at(fields, 0), field_at(fields, 1)))
-    }
-}
-
 // Reads the number of a caller, from 0 to 65,535.
 fn parse_step_caller(field: &[u8]) -> Option<u16>
     ensures { result ≡ parse_step_caller field.now }
 {
-    if is_text(field, "0") {
-        Some(0)
-    } else {
-        parse_caller(field)
-    }
+    u16::try_from(parse_from_zero(field)?).ok()
 }
 
-// Reads a step from two fields: `load`, `exchange`, `add`, `retire` or `raise`, and its caller.
-fn parse_step_fields(name: &[u8], caller: &[u8]) -> Option<Step>
-    ensures { result ≡ parse_step_fields name.now caller.now }
+// Reads a step from the fields of a record: `load`, `exchange`, `add`, `retire` or `raise`, and its
+// caller.
+fn parse_step(fields: &ByteRecord) -> Option<Step>
+    ensures { result ≡ parse_step (fields_of fields.now) }
 {
+    let name = field_at(fields, 0);
+    let caller = field_at(fields, 1);
     if is_text(name, "load") {
         parse_step_caller(caller).map(Step::Load)
     } else if is_text(name, "exchange") {
@@ -92,7 +70,7 @@ fn parse_step_fields(name: &[u8], caller: &[u8]) -> Option<Step>
 pub fn read_rows(alloc: Global, body: &[u8]) -> Result<Vec<Step>, BodyError>
     ensures { MatchResult result (λ steps. IsWeaveBody body.now steps.items) (IsWeaveBodyError body.now) }
 {
-    csv_rows::read_rows(alloc, &Rows, body)
+    csv_rows::read_rows(alloc, HEADER, |fields| Ok(parse_step(fields)), body)
 }
 
 /// The law of the callers of steps: a caller is read from its decimal text, and from no other text.

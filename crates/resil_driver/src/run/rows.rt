@@ -4,12 +4,13 @@
 //! submission. All rows are read before the first job is submitted, so a row that can't be read
 //! keeps every job from running.
 
-ghost use Rattle.std.specs.Prelude.{◌≡◌, MatchResult};
-ghost use Rattle.resil_driver.specs.Run.Rows.{parse_caller_up_to, IsRunBody, IsRunBodyError};
+ghost use Rattle.std.specs.Prelude.{◌≡◌, IfOk, MatchResult};
+ghost use Rattle.csv.specs.Records.{fields_of};
+ghost use Rattle.resil_driver.specs.Run.Rows.{parse_caller_up_to, parse_job, IsRunBody, IsRunBodyError};
 
 use csv::ByteRecord;
 use resil_heads::run::RUN_HEADER;
-use resil_input::csv_rows::{self, BodyError, RowFormat, has_fields};
+use resil_input::csv_rows::{self, BodyError};
 use resil_input::fields::field_at;
 use resil_input::number::parse_caller;
 use resil_input::script::parse_script;
@@ -25,42 +26,6 @@ pub struct ScriptedJob {
     pub script: Script,
 }
 
-/// The bodies of `run`: the header `caller,script`, and a [`ScriptedJob`] for each record, whose
-/// caller is one of the pool's.
-#[derive(Clone, Copy)]
-pub struct Rows {
-    /// The number of the pool's callers. They are numbered from 1.
-    pub callers: u16,
-}
-
-impl RowFormat for Rows {
-    type Row = ScriptedJob;
-
-    ghost use Rattle.resil_driver.specs.Run.Rows.{run_rows_header, parse_job};
-
-    ghost header = { run_rows_header };
-
-    ghost row_of = { λ rows fields. parse_job rows.callers fields };
-
-    fn is_header(&self, fields: &ByteRecord) -> bool {
-        has_fields(fields, RUN_HEADER)
-    }
-
-    fn row_of(
-        &self,
-        alloc: Global,
-        fields: &ByteRecord,
-    ) -> Result<Option<ScriptedJob>, AllocError> {
-        let Some(caller) = parse_caller_up_to(self.callers, field_at(fields, 0)) else {
-            return Ok(None);
-        };
-        let Some(script) = parse_script(alloc, field_at(fields, 1))? else {
-            return Ok(None);
-        };
-        Ok(Some(ScriptedJob { caller, script }))
-    }
-}
-
 // Reads the number of a caller, from 1 to `callers`.
 fn parse_caller_up_to(callers: u16, field: &[u8]) -> Option<u16>
     ensures { result ≡ parse_caller_up_to callers field.now }
@@ -72,6 +37,23 @@ fn parse_caller_up_to(callers: u16, field: &[u8]) -> Option<u16>
     Some(caller)
 }
 
+// Reads a job from the fields of a record. Errors: `AllocError` where memory runs out.
+fn parse_job(
+    alloc: Global,
+    callers: u16,
+    fields: &ByteRecord,
+) -> Result<Option<ScriptedJob>, AllocError>
+    ensures { IfOk result (λ job. job ≡ parse_job callers (fields_of fields.now)) }
+{
+    let Some(caller) = parse_caller_up_to(callers, field_at(fields, 0)) else {
+        return Ok(None);
+    };
+    let Some(script) = parse_script(alloc, field_at(fields, 1))? else {
+        return Ok(None);
+    };
+    Ok(Some(ScriptedJob { caller, script }))
+}
+
 /// Reads the jobs of a body of `run`, in order. Each names a caller from 1 to `callers`.
 ///
 /// # Errors
@@ -81,5 +63,10 @@ fn parse_caller_up_to(callers: u16, field: &[u8]) -> Option<u16>
 pub fn read_rows(alloc: Global, callers: u16, body: &[u8]) -> Result<Vec<ScriptedJob>, BodyError>
     ensures { MatchResult result (λ jobs. IsRunBody callers body.now jobs.items) (IsRunBodyError callers body.now) }
 {
-    csv_rows::read_rows(alloc, &Rows { callers }, body)
+    csv_rows::read_rows(
+        alloc,
+        RUN_HEADER,
+        |fields| parse_job(alloc, callers, fields),
+        body,
+    )
 }

@@ -8,7 +8,7 @@ read_body-requires g c =
     let e = c.has_headers.ensures in
     let start = stands-start c.from_reader-reader.result c.args.body.now (rw e at fr.trim ∙ c.new.ensures.trim) (inr (inr (rw e at fr.has_headers, fr.headers)))
     (rw e at fr.config ∙ c.new.ensures.config) (rw e at fr.flexible ∙ c.new.ensures.flexible) fr.state fr.source in
-    record { between = start.0; first = fr.expected }
+    record { calls = c.requires; between = start.0; first = fr.expected }
 
 pub returns : goal.returns
 returns g c =
@@ -16,4 +16,4 @@ returns g c =
     let e = c.has_headers.ensures in
     let start = stands-start c.from_reader-reader.result c.args.body.now (rw e at fr.trim ∙ c.new.ensures.trim) (inr (inr (rw e at fr.has_headers, fr.headers)))
     (rw e at fr.config ∙ c.new.ensures.config) (rw e at fr.flexible ∙ c.new.ensures.flexible) fr.state fr.source in
-    c.read_body.ensures c.args.body.now start.1
+    λ parse answers. c.read_body.ensures c.args.body.now parse start.1 answers
