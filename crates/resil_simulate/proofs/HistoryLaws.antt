@@ -19,6 +19,7 @@ use Rattle.resil_rule.proofs.EventLaws.{submissions-more}
 use Rattle.resil_stats.proofs.LegalLaws.{no_event}
 use Rattle.resil_virtual.specs.Load.{of_caller, times_of, IsLoad}
 use Rattle.resil_virtual.specs.declared.arrival.Arrival.{Arrival}
+use Rattle.resil_virtual.proofs.HistoryLaws.{ascending-more}
 use Rattle.resil_simulate.specs.History.{AreTimesOf, arrival_by, arrivals_by, is_of, job_at, key, run_of, submissions_in, submitted_at, submitted_id, time_of}
 use Rattle.resil_simulate.specs.Load.{AreInTime}
 use Rattle.resil_simulate.specs.declared.history.Moment.{Moment}
@@ -95,13 +96,7 @@ behind-first t (u ∷ times) ascending =
 
 ascending-from : (t : ℕ) (times : List ℕ) → AreBehind t times → AreAscending times → AreAscending (t ∷ times)
 ascending-from t [] behind ascending = λ k within. absurd (omega (arith, within))
-ascending-from t (u ∷ times) behind ascending = go
-  where
-    go : (k : ℕ) → k + 1 < length (t ∷ u ∷ times) → slice_index (t ∷ u ∷ times) k ≤ slice_index (t ∷ u ∷ times) (k + 1)
-    go zero within = behind.0
-    go (suc k) within =
-        let same : suc (k + 1) ≡ suc k + 1 = omega arith in
-        subst (λ n. slice_index (u ∷ times) k ≤ slice_index (t ∷ u ∷ times) n) same (ascending k (omega (arith, within)))
+ascending-from t (u ∷ times) behind ascending = ascending-more t u times behind.0 ascending
 
 -- ---- The submissions as a load.
 

@@ -1,9 +1,12 @@
 -- The jobs of rows are a load, where times ascend and each job is in time.
 use Rattle.std.proofs.Common.{◌≡◌, ◌<◌, ◌+◌, ◌∷◌, [], ◌++◌, ◌∙◌, ℕ, zero, suc, List, Some, get_or, length, map, slice_get, slice_index, take, refl, ap, sym, add-one, arith}
 use Rattle.std.specs.List.{enumerate_from, sum}
+use Rattle.std.proofs.lemmas.Grind.{common_steps}
+use Rattle.std.proofs.lemmas.List.{map_push}
 use Rattle.std.proofs.lemmas.List.Sums.{sum-map, sum_by_more}
 use Rattle.std.proofs.lemmas.Option.{get_or_from_slice_get, slice_get_within}
 use Rattle.resil_replay.specs.Timed.{AreAscending}
+use Rattle.resil_stats.proofs.PlaceLaws.{placed-push}
 use Rattle.resil_virtual.specs.Load.{IsLoad, of_caller, runs_of, times_of}
 use Rattle.resil_virtual.specs.declared.arrival.Arrival.{Arrival}
 use Rattle.resil_simulate.specs.declared.rows.Row.{Row}
@@ -35,17 +38,9 @@ end-here idle_for jobs i d lt =
 abbrev jobs_from : ℕ → List Row → List Arrival
 jobs_from p rows = map arrival_at (enumerate_from p rows)
 
-push-from : (p : ℕ) (rows : List Row) (i : ℕ) (d : Row) → i < length rows
-    → jobs_from p (take i rows) ++ arrival_at (i + p, get_or rows i d) ∷ [] ≡ jobs_from p (take (suc i) rows)
-push-from p [] i d lt = absurd (omega arith)
-push-from p (r ∷ rows) zero d lt = ap (λ n. arrival_at (n, r) ∷ []) (omega arith)
-push-from p (r ∷ rows) (suc i) d lt =
-    let place : i + (p + 1) ≡ suc i + p = omega arith in
-    ap (λ l. arrival_at (p, r) ∷ l) (rw place at (push-from (p + 1) rows i d (omega arith)))
-
 pub arrivals_push : (rows : List Row) (i : ℕ) (d : Row) → i < length rows
     → arrivals_of (take i rows) ++ arrival_at (i + 1, get_or rows i d) ∷ [] ≡ arrivals_of (take (i + 1) rows)
-arrivals_push rows i d lt = rw add-one (rw add-one at (push-from 1 rows i d lt))
+arrivals_push rows i d lt = grind (arith, common_steps, placed-push 1 (take i rows) (get_or rows i d), map_push arrival_at (enumerate_from 1 (take i rows)))
 
 -- a job of rows is of caller 1, and has the number of its place among them
 numbered : (p : ℕ) (rows : List Row) (k : ℕ) (a : Arrival) → slice_get (jobs_from p rows) k ≡ Some a

@@ -19,7 +19,7 @@ use Rattle.resil_stats.specs.declared.bars.Start.{Start}
 
 -- ---- Events with their places.
 
-placed-push : {X : Type 0} (p : ℕ) (h : List X) (e : X) → enumerate_from p (h ++ e ∷ []) ≡ enumerate_from p h ++ (p + length h, e) ∷ []
+pub placed-push : {X : Type 0} (p : ℕ) (h : List X) (e : X) → enumerate_from p (h ++ e ∷ []) ≡ enumerate_from p h ++ (p + length h, e) ∷ []
 placed-push p [] e = grind (arith, common_steps)
 placed-push p (x ∷ h) e = grind (arith, common_steps, placed-push (p + 1) h e)
 

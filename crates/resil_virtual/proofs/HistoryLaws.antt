@@ -75,6 +75,16 @@ module _ (h : List Timed) (t : Timed) where
   pub one-submission : (s : Id × ℕ) → submitted_at t ≡ Some s → submissions_at (h ++ t ∷ []) ≡ submissions_at h ++ s ∷ []
   one-submission s is = filter_map-append submitted_at h (t ∷ []) ∙ rw is refl
 
+-- one time before those that ascend
+pub ascending-more : (t u : ℕ) (times : List ℕ) → t ≤ u → AreAscending (u ∷ times) → AreAscending (t ∷ u ∷ times)
+ascending-more t u times le rest = go
+  where
+    go : (k : ℕ) → k + 1 < length (t ∷ u ∷ times) → slice_index (t ∷ u ∷ times) k ≤ slice_index (t ∷ u ∷ times) (k + 1)
+    go zero within = le
+    go (suc k) within =
+        let same : suc (k + 1) ≡ suc k + 1 = omega arith in
+        subst (λ n. slice_index (u ∷ times) k ≤ slice_index (t ∷ u ∷ times) n) same (rest k (omega (arith, within)))
+
 module _ (limits : Sizes) (idle_for : ℕ) (arrivals : List Arrival) where
   pushed : (before h : List Timed) (t : Timed) → AreNext limits idle_for arrivals before h → IsNext limits idle_for arrivals (before ++ h) t → AreNext limits idle_for arrivals before (h ++ t ∷ [])
   pushed before [] t are is = (rw append-nil at is, tt)
@@ -87,16 +97,7 @@ module _ (limits : Sizes) (idle_for : ℕ) (arrivals : List Arrival) where
   ascending-behind : (before h : List Timed) → AreNext limits idle_for arrivals before h → AreAscending (times_in h)
   ascending-behind before [] are = λ k within. absurd (omega (arith, within))
   ascending-behind before (t ∷ []) are = λ k within. absurd (omega (arith, within))
-  ascending-behind before (t ∷ u ∷ h) are = one t.at u.at (times_in h) (rw (last-is before t) at are.1.0.time) (ascending-behind (before ++ t ∷ []) (u ∷ h) are.1)
-    where
-      one : (t u : ℕ) (times : List ℕ) → t ≤ u → AreAscending (u ∷ times) → AreAscending (t ∷ u ∷ times)
-      one t u times le rest = go
-        where
-          go : (k : ℕ) → k + 1 < length (t ∷ u ∷ times) → slice_index (t ∷ u ∷ times) k ≤ slice_index (t ∷ u ∷ times) (k + 1)
-          go zero within = le
-          go (suc k) within =
-              let same : suc (k + 1) ≡ suc k + 1 = omega arith in
-              subst (λ n. slice_index (u ∷ times) k ≤ slice_index (t ∷ u ∷ times) n) same (rest k (omega (arith, within)))
+  ascending-behind before (t ∷ u ∷ h) are = ascending-more t.at u.at (times_in h) (rw (last-is before t) at are.1.0.time) (ascending-behind (before ++ t ∷ []) (u ∷ h) are.1)
 
   pub ascending-times : (h : List Timed) → AreNext limits idle_for arrivals [] h → AreAscending (times_in h)
   ascending-times h are = ascending-behind [] h are

@@ -1,4 +1,4 @@
 mod DueLaws
 mod ListLaws
-mod HistoryLaws
+pub mod HistoryLaws
 mod PoolLaws
