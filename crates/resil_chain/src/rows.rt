@@ -57,7 +57,7 @@ fn parse_grant(letter: u8) -> Option<bool>
     }
 }
 
-// Reads answers, any number of letters. Errors: `AllocError` where memory runs out.
+// Reads answers, any number of letters. Errors: `AllocError` when out of memory.
 fn parse_grants(alloc: Global, letters: &[u8]) -> Result<Option<Vec<bool>>, AllocError>
     ensures { IfOk result (λ grants. option_map (λ g. g.items) grants ≡ parse_grants letters.now) }
 {
@@ -71,7 +71,7 @@ fn parse_grants(alloc: Global, letters: &[u8]) -> Result<Option<Vec<bool>>, Allo
     Ok(Some(grants))
 }
 
-// Reads a row from the fields of a record. Errors: `AllocError` where memory runs out.
+// Reads a row from the fields of a record. Errors: `AllocError` when out of memory.
 fn parse_chain_row(alloc: Global, fields: &ByteRecord) -> Result<Option<ChainRow>, AllocError>
     ensures { IfOk result (λ row. row ≡ parse_chain_row (fields_of fields.now)) }
 {
@@ -88,7 +88,7 @@ fn parse_chain_row(alloc: Global, fields: &ByteRecord) -> Result<Option<ChainRow
 ///
 /// # Errors
 ///
-/// The first that is met: `Memory` where memory runs out; `BadHeader` where the first record is
+/// The first that is met: `Memory` when out of memory; `BadHeader` where the first record is
 /// missing or isn't the header; `BadRow` with the position of the first record that is no row.
 pub fn read_rows(alloc: Global, body: &[u8]) -> Result<Vec<ChainRow>, BodyError>
     ensures { MatchResult result (λ rows. IsChainBody body.now rows.items) (IsChainBodyError body.now) }

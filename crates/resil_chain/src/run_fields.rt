@@ -48,7 +48,7 @@ impl RunTexts {
     ///
     /// # Errors
     ///
-    /// `AllocError` where memory runs out. Nothing is known of the texts then.
+    /// `AllocError` when out of memory. Nothing is known of the texts then.
     pub fn write(&mut self, run: &Run) -> Result<(), AllocError>
         ensures { OnOk result (self.new ≡ run_fields run.now) }
     {
@@ -81,7 +81,7 @@ trait Item: Copy {
     // The text of an item.
     ghost text_of: { Self → List ℕ };
 
-    // Adds the text of the item. Errors: `AllocError` where memory runs out.
+    // Adds the text of the item. Errors: `AllocError` when out of memory.
     fn push(self, text: &mut String) -> Result<(), AllocError>
         ensures { OnOk result (string_bytes text.new ≡ string_bytes text.old ++ text_of self) };
 }

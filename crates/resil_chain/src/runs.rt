@@ -19,7 +19,7 @@ use std::alloc::{AllocError, Global};
 ///
 /// # Errors
 ///
-/// `AllocError` where memory runs out.
+/// `AllocError` when out of memory.
 pub fn run_row(alloc: Global, chain: &Chain, row: ChainRow) -> Result<Run, AllocError>
     ensures { IfOk result (λ run. IsRunOf chain.now row run) }
 {
@@ -41,7 +41,7 @@ pub fn run_row(alloc: Global, chain: &Chain, row: ChainRow) -> Result<Run, Alloc
 ///
 /// # Errors
 ///
-/// `AllocError` where memory runs out.
+/// `AllocError` when out of memory.
 pub fn run_chain(alloc: Global, chain: &Chain, rows: Vec<ChainRow>) -> Result<Vec<u8>, AllocError>
     ensures { IfOk result (λ text. IsTextOfRuns chain.now rows.items text.items) }
 {
@@ -57,7 +57,7 @@ pub fn run_chain(alloc: Global, chain: &Chain, rows: Vec<ChainRow>) -> Result<Ve
     table.into_text()
 }
 
-// Runs the job of one more row, and writes its run. Errors: `AllocError` where memory runs out.
+// Runs the job of one more row, and writes its run. Errors: `AllocError` when out of memory.
 fn push_row(
     alloc: Global,
     table: &mut CsvTable,

@@ -71,7 +71,7 @@ enum Next {
     End,
 }
 
-// Reads the next record. Errors: `Memory` where memory runs out.
+// Reads the next record. Errors: `Memory` when out of memory.
 fn next_record(reader: &mut Reader<&[u8]>, fields: &mut ByteRecord) -> Result<Next, BodyError>
     ensures comes { IsBetweenRecords reader.old → IfOk result (GivesNext reader.old reader.new (fields_of fields.new)) }
     ensures memory { IfErr result (λ error. error ≡ Memory) }
@@ -121,11 +121,11 @@ fn read_body<R: Drop, F: Fn(&ByteRecord) -> Result<Option<R>, AllocError>>(
 
 /// Reads the rows of a body, in order: the records behind one with the fields of the header.
 /// `row_of` reads the row of a record with as many fields as the header, or `None` where it is no
-/// row; it fails where memory runs out.
+/// row; it fails when out of memory.
 ///
 /// # Errors
 ///
-/// The first that is met: `Memory` where memory runs out; `BadHeader` where the first record is
+/// The first that is met: `Memory` when out of memory; `BadHeader` where the first record is
 /// missing or isn't the header; `BadRow` with the position of the first record that is no row.
 pub fn read_rows<R: Drop, F: Fn(&ByteRecord) -> Result<Option<R>, AllocError> + Drop>(
     alloc: Global,

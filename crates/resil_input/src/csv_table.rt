@@ -1,6 +1,6 @@
 //! Tables of records, as `csv`'s default writer writes them.
 //!
-//! The fields of a record are joined by commas, and a line feed ends it. No field that the program
+//! The fields of a record are joined by commas, and a newline ends it. No field that the program
 //! writes has a comma, a quote or a line end in it, so none is put between quotes. The writer has a
 //! buffer of its own and appends to it, so writing takes time in proportion to the text's length.
 
@@ -21,7 +21,7 @@ impl CsvTable {
     ///
     /// # Errors
     ///
-    /// `AllocError` where memory runs out.
+    /// `AllocError` when out of memory.
     pub fn new(text: Vec<u8>, header: &[&[u8]]) -> Result<CsvTable, AllocError>
         requires several { 1 < length header.now }
         requires plain { ArePlain (map (λ f. f.now) header.now) }
@@ -39,7 +39,7 @@ impl CsvTable {
     ///
     /// # Errors
     ///
-    /// `AllocError` where memory runs out. Nothing is known of the text of the table then.
+    /// `AllocError` when out of memory. Nothing is known of the text of the table then.
     pub fn push(&mut self, fields: &[&[u8]]) -> Result<(), AllocError>
         requires columns { HasColumns self.old (length fields.now) }
         requires plain { ArePlain (map (λ f. f.now) fields.now) }
@@ -56,7 +56,7 @@ impl CsvTable {
     ///
     /// # Errors
     ///
-    /// `AllocError` where memory runs out.
+    /// `AllocError` when out of memory.
     pub fn into_text(self) -> Result<Vec<u8>, AllocError>
         ensures { IfOk result (λ text. text.items ≡ text_so_far self) }
     {

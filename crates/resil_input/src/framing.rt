@@ -1,8 +1,8 @@
 //! The head and the body of an input.
 //!
 //! The first line that consists of `---` alone parts them. Lines are found by their bytes, before
-//! anything is known of the head: a line ends with a line feed, or with the input. The separator
-//! may have one carriage return before its line feed.
+//! anything is known of the head: a line ends with a newline, or with the input. The separator
+//! may have one carriage return before its newline.
 
 ghost use Rattle.std.specs.Prelude.{◌≡◌, option_map};
 ghost use Rattle.resil_input.specs.Framing.{is_separator, parts_of};
@@ -10,7 +10,7 @@ ghost use Rattle.resil_input.specs.Framing.{is_separator, parts_of};
 /// The head and the body, before and after the first separator line, or `None` where no line is
 /// one.
 ///
-/// The head keeps its last line feed. The separator is in neither part.
+/// The head keeps its last newline. The separator is in neither part.
 pub fn split_input(input: &[u8]) -> Option<(&[u8], &[u8])>
     ensures { option_map (λ p. (p.0.now, p.1.now)) result ≡ parts_of input.now }
 {

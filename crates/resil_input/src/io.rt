@@ -204,7 +204,7 @@ pub enum ReadError {
 ///
 /// # Errors
 ///
-/// The first that is met: `Reader` where a read fails; `Memory` where memory runs out.
+/// The first that is met: `Reader` where a read fails; `Memory` when out of memory.
 pub fn read_input<R: InputReader>(alloc: Global, reader: &mut R) -> Result<Input, ReadError>
     ensures input { IfOk result (λ input. IfSome (R.remaining reader.old) (λ bytes. IsInput bytes input)) }
     ensures taken { ConsumesAtMost (input_limit + 1) (R.remaining reader.old) (R.remaining reader.new) }
@@ -223,7 +223,7 @@ pub fn read_input<R: InputReader>(alloc: Global, reader: &mut R) -> Result<Input
 
 // Reads once, to the first byte past `MAX_INPUT_LEN` at most, and adds what was read to the bytes.
 // Answers how many they are: 0 at the end of the input. Errors: `Reader` where the read fails;
-// `Memory` where memory runs out.
+// `Memory` when out of memory.
 fn read_piece<R: InputReader>(
     reader: &mut R,
     piece: &mut [u8],

@@ -57,8 +57,8 @@ pub enum Output {
 }
 
 impl Output {
-    // The status that goes with the output, and its bytes.
-    fn parts(&self) -> (Status, &[u8])
+    /// The status that goes with the output, and its bytes.
+    pub fn parts(&self) -> (Status, &[u8])
         ensures status { result.0 ≡ status_of self.now }
         ensures bytes { result.1.now ≡ bytes_of self.now }
     {

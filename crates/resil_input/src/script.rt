@@ -16,7 +16,7 @@ use std::marker::Model;
 ///
 /// # Errors
 ///
-/// `AllocError` where memory runs out, which happens only where there is a semicolon.
+/// `AllocError` when out of memory, which happens only where there is a semicolon.
 pub fn parse_script(alloc: Global, text: &[u8]) -> Result<Option<Script>, AllocError>
     ensures script { IfOk result (λ script. script ≡ parse_script text.now) }
     ensures error { IfErr result (λ _. Contains text.now 59) }
@@ -28,7 +28,7 @@ pub fn parse_script(alloc: Global, text: &[u8]) -> Result<Option<Script>, AllocE
     }
 }
 
-// Reads a script of any number of outcomes. Errors: `AllocError` where memory runs out.
+// Reads a script of any number of outcomes. Errors: `AllocError` when out of memory.
 fn parse_outcomes(alloc: Global, text: &[u8]) -> Result<Option<Script>, AllocError>
     ensures { IfOk result (λ script. script ≡ parse_script text.now) }
 {

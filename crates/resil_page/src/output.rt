@@ -2,12 +2,11 @@
 
 ghost use Rattle.std.specs.Prelude.{◌≡◌, MatchResult};
 ghost use Rattle.resil_heads.specs.CommandError.{IsErrorOutput};
-ghost use Rattle.resil_input.specs.Output.{bytes_of, status_of};
 ghost use Rattle.resil_page.specs.Page.{IsCommandOutput, IsFilled, IsHandedOver, IsPageOutput, command_of};
 
 use resil_heads::{CommandError, Refusal, error_output};
 use resil_input::io::MAX_INPUT_LEN;
-use resil_input::output::{Output, Status};
+use resil_input::output::Output;
 use resil_replay::{audit, replay};
 use resil_view::{LoadView, View, simulate_output, view_output};
 use std::alloc::Global;
@@ -76,20 +75,6 @@ pub(crate) fn output_for(alloc: Global, command: Option<Command>, input: &[u8]) 
     }
 }
 
-// The status of an output, and its bytes.
-fn parts(output: &Output) -> (Status, &[u8])
-    ensures status { result.0 ≡ status_of output.now }
-    ensures bytes { result.1.now ≡ bytes_of output.now }
-{
-    match output {
-        Output::Text(text) => (Status::Done, text.as_slice()),
-        Output::Line(line) => (Status::Refused, line.as_bytes()),
-        Output::Usage => (Status::Usage, b"refused usage\n"),
-        Output::NoMemory => (Status::NoMemory, b"refused memory\n"),
-        Output::NoThread => (Status::NoThread, b"refused threads\n"),
-    }
-}
-
 /// Fills the front of a space with bytes, where they fit; else it is left as it was.
 pub(crate) fn fill(bytes: &[u8], space: &mut [u8])
     ensures { IsFilled bytes.now space.old space.new }
@@ -103,7 +88,7 @@ pub(crate) fn fill(bytes: &[u8], space: &mut [u8])
 pub(crate) fn hand_over(output: &Output, space: &mut [u8], count: &mut usize) -> u8
     ensures { IsHandedOver output.now space.old space.new count.new result }
 {
-    let (status, bytes) = parts(output);
+    let (status, bytes) = output.parts();
     *count = bytes.len();
     fill(bytes, space);
     status.code()

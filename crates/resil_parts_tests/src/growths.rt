@@ -1,4 +1,4 @@
-//! Calls that take memory, where memory runs out.
+//! Calls that take memory, when out of memory.
 //!
 //! `tools/refuse_in_tests` runs each of these tests with one growth refused, for every growth, and
 //! with all from one growth on. A call that answers that memory ran out has changed nothing, and gives

@@ -1,4 +1,4 @@
-//! The whole program, where memory runs out.
+//! The whole program, when out of memory.
 //!
 //! `tools/refuse_in_tests` runs each of these tests with one growth refused, for every growth, and
 //! with all from one growth on. Where nothing is refused, the first answers are the right ones.

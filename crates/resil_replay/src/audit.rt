@@ -37,7 +37,7 @@ pub fn text(alloc: Global, input: &[u8]) -> Result<Vec<u8>, CommandError>
 ///
 /// # Errors
 ///
-/// `AllocError` where memory runs out.
+/// `AllocError` when out of memory.
 pub fn verdict_text(alloc: Global, verdict: Verdict) -> Result<Vec<u8>, AllocError>
     ensures { IfOk result (λ text. text.items ≡ verdict_text verdict) }
 {

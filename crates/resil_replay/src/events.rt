@@ -109,7 +109,7 @@ fn read_under(alloc: Global, header: &[&str], body: &[u8]) -> Result<Vec<Event>,
 ///
 /// # Errors
 ///
-/// The first that is met: `Memory` where memory runs out; `BadHeader` where the first record is
+/// The first that is met: `Memory` when out of memory; `BadHeader` where the first record is
 /// missing or isn't the header of a version; `BadRow` with the position of the first record that is no
 /// event in that version.
 pub fn read_rows(alloc: Global, body: &[u8]) -> Result<Vec<Event>, BodyError>

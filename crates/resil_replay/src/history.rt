@@ -47,7 +47,7 @@ pub(crate) fn reply_name(reply: Reply) -> &'static [u8]
     }
 }
 
-// Writes the record of an event, by its six fields. Errors: `AllocError` where memory runs out.
+// Writes the record of an event, by its six fields. Errors: `AllocError` when out of memory.
 fn push_fields(table: &mut CsvTable, version: Version, fields: &[&[u8]]) -> Result<(), AllocError>
     requires columns { HasColumns table.old (columns_of version) }
     requires six { length fields.now ≡ 6 }
@@ -58,7 +58,7 @@ fn push_fields(table: &mut CsvTable, version: Version, fields: &[&[u8]]) -> Resu
     table.push(&fields[..version.columns()])
 }
 
-// Writes the record of an event. Errors: `AllocError` where memory runs out.
+// Writes the record of an event. Errors: `AllocError` when out of memory.
 #[tactic(auto, using(resil_input::proofs::PlainLaws::IsPlain_number, crate::proofs::HistoryLaws::IsPlain_reply_name))]
 fn push_event(table: &mut CsvTable, version: Version, event: Event) -> Result<(), AllocError>
     requires { HasColumns table.old (columns_of version) }
@@ -104,7 +104,7 @@ fn push_event(table: &mut CsvTable, version: Version, event: Event) -> Result<()
 ///
 /// # Errors
 ///
-/// `AllocError` where memory runs out.
+/// `AllocError` when out of memory.
 pub fn history_text(
     alloc: Global,
     version: Version,

@@ -28,7 +28,7 @@ pub enum ReplayError {
     Refused(usize, RowRefusal),
 }
 
-// Carries out one row. Errors: `Memory` where memory runs out; `Refused` where the pool refuses the
+// Carries out one row. Errors: `Memory` when out of memory; `Refused` where the pool refuses the
 // row.
 fn apply_row(alloc: Global, pool: &mut ReplayPool, row: ReplayRow) -> Result<(), RowError>
     ensures played { OnOk result (IsCarriedOut row pool.old pool.new) }
@@ -61,7 +61,7 @@ fn error_at_row(position: usize, why: RowError) -> ReplayError
 ///
 /// # Errors
 ///
-/// The first that is met: `Memory` where memory runs out; `Refused` with the position of the first
+/// The first that is met: `Memory` when out of memory; `Refused` with the position of the first
 /// row that the pool refuses, and why.
 pub fn play(alloc: Global, limits: Limits, rows: &[ReplayRow]) -> Result<Machine, ReplayError>
     ensures { MatchResult result (λ m. (m.limits ≡ limits) × IsHistoryOf limits rows.now m.history) (IsReplayError limits rows.now) }

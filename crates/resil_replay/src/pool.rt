@@ -57,7 +57,7 @@ impl ReplayPool {
     ///
     /// # Errors
     ///
-    /// `AllocError` where memory runs out.
+    /// `AllocError` when out of memory.
     pub(crate) fn new(alloc: Global, limits: Limits) -> Result<ReplayPool, AllocError>
         ensures { IfOk result (HasReplayed limits []) }
     {
@@ -79,7 +79,7 @@ impl ReplayPool {
     /// # Errors
     ///
     /// With nothing changed: `WrongNumber` where the number isn't the caller's next one; `Memory`
-    /// where memory runs out.
+    /// when out of memory.
     pub(crate) fn submit(&mut self, alloc: Global, id: Id) -> Result<(), RowError>
         ensures played { OnOk result (IsCarriedOut (ReplayRow.Submit id) self.old self.new) }
         ensures refused { IfErr result (IsRowError self.old.limits self.old.history (ReplayRow.Submit id)) }
@@ -127,7 +127,7 @@ impl ReplayPool {
     ///
     /// # Errors
     ///
-    /// In this order, with nothing changed: `Memory` where memory runs out; `NotAllowed` where no
+    /// In this order, with nothing changed: `Memory` when out of memory; `NotAllowed` where no
     /// job waits or no worker is idle.
     pub(crate) fn take(&mut self) -> Result<(), RowError>
         ensures played { OnOk result (IsCarriedOut ReplayRow.Take self.old self.new) }

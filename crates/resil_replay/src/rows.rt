@@ -110,7 +110,7 @@ fn read_under(alloc: Global, header: &[&str], body: &[u8]) -> Result<Vec<ReplayR
 ///
 /// # Errors
 ///
-/// The first that is met: `Memory` where memory runs out; `BadHeader` where the first record is
+/// The first that is met: `Memory` when out of memory; `BadHeader` where the first record is
 /// missing or is neither header; `BadRow` with the position of the first record that is no row under
 /// that header.
 pub fn read_rows(alloc: Global, body: &[u8]) -> Result<ReplayBody, BodyError>

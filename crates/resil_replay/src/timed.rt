@@ -81,7 +81,7 @@ fn parse_timed(fields: &ByteRecord) -> Option<Timed>
 ///
 /// # Errors
 ///
-/// The first that is met: `Memory` where memory runs out; `BadHeader` where the first record is missing or isn't the header; `BadRow`
+/// The first that is met: `Memory` when out of memory; `BadHeader` where the first record is missing or isn't the header; `BadRow`
 /// with the position of the first record that is no event, or has no time.
 pub fn read_rows(alloc: Global, body: &[u8]) -> Result<Vec<Timed>, BodyError>
     ensures { MatchResult result (λ rows. IsTimedBody body.now rows.items) (IsBodyError timed_header parse_timed body.now) }
@@ -93,7 +93,7 @@ pub fn read_rows(alloc: Global, body: &[u8]) -> Result<Vec<Timed>, BodyError>
 ///
 /// # Errors
 ///
-/// `AllocError` where memory runs out.
+/// `AllocError` when out of memory.
 pub fn events_in(alloc: Global, history: &[Timed]) -> Result<Vec<Event>, AllocError>
     ensures { IfOk result (λ events. events.items ≡ events_in history.now) }
 {
@@ -104,7 +104,7 @@ pub fn events_in(alloc: Global, history: &[Timed]) -> Result<Vec<Event>, AllocEr
 ///
 /// # Errors
 ///
-/// `AllocError` where memory runs out.
+/// `AllocError` when out of memory.
 pub fn times_in(alloc: Global, history: &[Timed]) -> Result<Vec<u64>, AllocError>
     ensures { IfOk result (λ times. times.items ≡ times_in history.now) }
 {
@@ -128,7 +128,7 @@ fn read_timed(alloc: Global, body: &[u8]) -> Result<History, BodyError>
 ///
 /// # Errors
 ///
-/// The first that is met: `Memory` where memory runs out; `BadHeader` where the first record is missing or isn't the header of a
+/// The first that is met: `Memory` when out of memory; `BadHeader` where the first record is missing or isn't the header of a
 /// version; `BadRow` with the position of the first record that is no event, or has no time, in that version.
 pub fn read_history(alloc: Global, body: &[u8]) -> Result<History, BodyError>
     ensures { MatchResult result (λ read. IsHistoryBody body.now read.events.items (option_map (λ times. times.items) read.times)) (IsHistoryBodyError body.now) }
@@ -155,7 +155,7 @@ pub fn first_back(times: &[u64]) -> Option<usize>
     None
 }
 
-// Writes the record of an event with its time. Errors: `AllocError` where memory runs out.
+// Writes the record of an event with its time. Errors: `AllocError` when out of memory.
 #[tactic(auto, using(resil_input::proofs::PlainLaws::IsPlain_number, crate::proofs::HistoryLaws::IsPlain_reply_name))]
 fn push_timed(table: &mut CsvTable, timed: Timed) -> Result<(), AllocError>
     requires { HasColumns table.old 7 }
@@ -197,7 +197,7 @@ fn push_timed(table: &mut CsvTable, timed: Timed) -> Result<(), AllocError>
 ///
 /// # Errors
 ///
-/// `AllocError` where memory runs out.
+/// `AllocError` when out of memory.
 pub fn timed_text(alloc: Global, history: &[Timed]) -> Result<Vec<u8>, AllocError>
     ensures { IfOk result (λ text. text.items ≡ timed_text history.now) }
 {

@@ -105,7 +105,7 @@ fn read_arrivals(alloc: Global, body: &[u8], head: &LoadHead) -> Result<Vec<Arri
     }
 }
 
-// What a load comes to in one pool. Errors: `AllocError` where memory runs out.
+// What a load comes to in one pool. Errors: `AllocError` when out of memory.
 fn run_pool(
     alloc: Global,
     limits: Limits,
@@ -121,7 +121,7 @@ fn run_pool(
     numbers_of(alloc, limits, &events, &times)
 }
 
-// What it comes to in each of some pools, in order. Errors: `AllocError` where memory runs out.
+// What it comes to in each of some pools, in order. Errors: `AllocError` when out of memory.
 fn run_pools(
     alloc: Global,
     pools: &[Limits],

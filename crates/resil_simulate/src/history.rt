@@ -58,7 +58,7 @@ fn key_of(id: Id) -> u128
     u128::from(id.caller) * 18_446_744_073_709_551_616 + u128::from(id.number)
 }
 
-// Puts the time of a job into a table, where it has none yet. Errors: `AllocError` where memory runs out.
+// Puts the time of a job into a table, where it has none yet. Errors: `AllocError` when out of memory.
 fn keep_first(times: &mut BTreeMap<u128, u64>, key: u128, at: u64) -> Result<(), AllocError>
     requires { IsOrdered nat_cmp times.old }
     ensures ordered { IsOrdered nat_cmp times.new }
@@ -70,7 +70,7 @@ fn keep_first(times: &mut BTreeMap<u128, u64>, key: u128, at: u64) -> Result<(),
     Ok(())
 }
 
-// The times at which jobs start, or are finished, by their ids. Errors: `AllocError` where memory runs out.
+// The times at which jobs start, or are finished, by their ids. Errors: `AllocError` when out of memory.
 fn times_of(
     alloc: Global,
     moment: Moment,
@@ -103,7 +103,7 @@ fn run_of(starts: &BTreeMap<u128, u64>, finishes: &BTreeMap<u128, u64>, id: Id) 
 ///
 /// # Errors
 ///
-/// `AllocError` where memory runs out.
+/// `AllocError` when out of memory.
 pub fn submissions_in(alloc: Global, history: &[Timed]) -> Result<Vec<Submitted>, AllocError>
     ensures { IfOk result (λ jobs. jobs.items ≡ submissions_in history.now) }
 {
@@ -136,7 +136,7 @@ pub fn first_without(jobs: &[Submitted]) -> Option<usize>
 ///
 /// # Errors
 ///
-/// `AllocError` where memory runs out.
+/// `AllocError` when out of memory.
 pub fn arrivals_by(
     alloc: Global,
     takes: u64,

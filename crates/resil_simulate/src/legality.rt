@@ -126,7 +126,7 @@ fn least_limits(events: &[Event]) -> Option<Limits>
     Some(limits)
 }
 
-// Whether events are legal in some pool. Errors: `AllocError` where memory runs out.
+// Whether events are legal in some pool. Errors: `AllocError` when out of memory.
 fn is_legal(alloc: Global, events: &[Event]) -> Result<bool, AllocError>
     ensures { IfOk result (λ is. IsTrue is ↔ IsLegalSomewhere events.now) }
 {
@@ -146,7 +146,7 @@ fn is_legal(alloc: Global, events: &[Event]) -> Result<bool, AllocError>
 ///
 /// # Errors
 ///
-/// `AllocError` where memory runs out.
+/// `AllocError` when out of memory.
 pub fn first_illegal(alloc: Global, events: &[Event]) -> Result<Option<usize>, AllocError>
     ensures { IfOk result (λ first. MatchOption first (IsLegalSomewhere events.now) (IsIllegalAt events.now)) }
 {

@@ -61,7 +61,7 @@ impl From<AllocError> for LoadError {
     }
 }
 
-// The jobs of rows, in order. Errors: `AllocError` where memory runs out.
+// The jobs of rows, in order. Errors: `AllocError` when out of memory.
 #[tactic(auto, using(crate::proofs::LoadLaws::arrivals_push))]
 fn arrivals_of(alloc: Global, rows: &[Row]) -> Result<Vec<Arrival>, AllocError>
     ensures { IfOk result (λ arrivals. arrivals.items ≡ arrivals_of rows.now) }
@@ -79,7 +79,7 @@ fn arrivals_of(alloc: Global, rows: &[Row]) -> Result<Vec<Arrival>, AllocError>
     Ok(arrivals)
 }
 
-// When jobs come. Errors: `AllocError` where memory runs out.
+// When jobs come. Errors: `AllocError` when out of memory.
 fn times_of(alloc: Global, arrivals: &[Arrival]) -> Result<Vec<u64>, AllocError>
     ensures { IfOk result (λ times. times.items ≡ times_of arrivals.now) }
 {

@@ -76,7 +76,7 @@ fn busy_of(events: &[Event], times: &[u64]) -> Option<u64>
 ///
 /// # Errors
 ///
-/// `AllocError` where memory runs out.
+/// `AllocError` when out of memory.
 pub fn numbers_of(
     alloc: Global,
     limits: Limits,

@@ -33,7 +33,7 @@ fn parse_row(fields: &ByteRecord) -> Option<Row>
 ///
 /// # Errors
 ///
-/// The first that is met: `Memory` where memory runs out; `BadHeader` where the first record is missing or isn't the header; `BadRow`
+/// The first that is met: `Memory` when out of memory; `BadHeader` where the first record is missing or isn't the header; `BadRow`
 /// with the position of the first record that is no job.
 pub fn read_rows(alloc: Global, body: &[u8]) -> Result<Vec<Row>, BodyError>
     ensures { MatchResult result (λ rows. IsLoadBody body.now rows.items) (IsLoadBodyError body.now) }

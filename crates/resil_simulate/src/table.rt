@@ -9,7 +9,7 @@ use crate::numbers::Numbers;
 use resil_rule::Limits;
 use std::alloc::{AllocError, Global};
 
-// A number as a field, empty where there is none. Errors: `AllocError` where memory runs out.
+// A number as a field, empty where there is none. Errors: `AllocError` when out of memory.
 fn field_of(alloc: Global, number: Option<u64>) -> Result<String, AllocError>
     ensures { IfOk result (λ text. string_bytes text ≡ span_word number) }
 {
@@ -19,7 +19,7 @@ fn field_of(alloc: Global, number: Option<u64>) -> Result<String, AllocError>
     }
 }
 
-// The record of a pool. Errors: `AllocError` where memory runs out.
+// The record of a pool. Errors: `AllocError` when out of memory.
 fn pool_text(alloc: Global, limits: &Limits, numbers: &Numbers) -> Result<String, AllocError>
     ensures { IfOk result (λ text. string_bytes text ≡ record_text (pool_fields limits.now numbers.now)) }
 {
@@ -41,7 +41,7 @@ fn pool_text(alloc: Global, limits: &Limits, numbers: &Numbers) -> Result<String
 ///
 /// # Errors
 ///
-/// `AllocError` where memory runs out.
+/// `AllocError` when out of memory.
 pub fn table_text(alloc: Global, pools: &[(Limits, Numbers)]) -> Result<Vec<u8>, AllocError>
     ensures { IfOk result (λ text. text.items ≡ pools_text pools.now) }
 {

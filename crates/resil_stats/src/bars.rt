@@ -88,7 +88,7 @@ fn free_row(ends: &[usize], place: usize) -> usize
     ends.iter().take_while(|end| **end >= place).count()
 }
 
-// Puts the end of a bar into a row, which may be one more than there are. Errors: `AllocError` where memory runs out.
+// Puts the end of a bar into a row, which may be one more than there are. Errors: `AllocError` when out of memory.
 fn put_end(ends: &mut Vec<usize>, row: usize, end: usize) -> Result<(), AllocError>
     requires { row ≤ length ends.old.items }
     ensures { OnOk result (IsPut ends.old.items ends.new.items row end) }
@@ -102,7 +102,7 @@ fn put_end(ends: &mut Vec<usize>, row: usize, end: usize) -> Result<(), AllocErr
 }
 
 impl Drawing {
-    // Draws a job from its start to its finish, in the first free row. Errors: `AllocError` where memory runs out.
+    // Draws a job from its start to its finish, in the first free row. Errors: `AllocError` when out of memory.
     fn begin(&mut self, id: Id, start: Start, from: usize, to: usize) -> Result<(), AllocError>
         ensures bars { OnOk result (self.new.bars.items ≡ self.old.bars.items ++ record { id = id; start = start; from = from; to = to; row = free_row from self.old.ends.items + 1 } ∷ []) }
         ensures ends { OnOk result (IsPut self.old.ends.items self.new.ends.items (free_row from self.old.ends.items) to) }
@@ -122,7 +122,7 @@ impl Drawing {
 }
 
 /// The bars of legal events, in the order of their jobs' starts.
-/// Errors: `AllocError` where memory runs out.
+/// Errors: `AllocError` when out of memory.
 pub(crate) fn bars_of(alloc: Global, events: &[Event]) -> Result<Vec<Bar>, AllocError>
     requires { (limits : Sizes) × IsLegal limits events.now }
     ensures { IfOk result (λ bars. AreBarsOf events.now bars.items) }

@@ -157,7 +157,7 @@ fn column_end(times: Option<&[u64]>, count: usize, done: usize) -> usize
 }
 
 /// The columns of events, by their times where they have some, where there is a level for each event.
-/// Errors: `AllocError` where memory runs out.
+/// Errors: `AllocError` when out of memory.
 pub(crate) fn columns_of(
     alloc: Global,
     events: &[Event],
@@ -203,7 +203,7 @@ pub(crate) fn running_at(bars: &[Bar], place: usize) -> Running
 }
 
 /// What runs in each column: after its peak.
-/// Errors: `AllocError` where memory runs out.
+/// Errors: `AllocError` when out of memory.
 pub(crate) fn areas_of(
     alloc: Global,
     bars: &[Bar],

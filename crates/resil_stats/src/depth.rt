@@ -39,7 +39,7 @@ fn sizes_after(sizes: (u32, u32), event: Event) -> (u32, u32)
 }
 
 /// How full the pool is after each of some legal events, in their order.
-/// Errors: `AllocError` where memory runs out.
+/// Errors: `AllocError` when out of memory.
 pub(crate) fn levels_of(
     alloc: Global,
     limits: &Limits,

@@ -46,7 +46,7 @@ fn mark_at(at: usize, event: Event) -> Option<Mark>
 }
 
 /// The marks of events, in their order.
-/// Errors: `AllocError` where memory runs out.
+/// Errors: `AllocError` when out of memory.
 #[tactic(auto, using(crate::proofs::PlaceLaws::made_none, crate::proofs::PlaceLaws::made_one))]
 pub(crate) fn marks_of(alloc: Global, events: &[Event]) -> Result<Vec<Mark>, AllocError>
     ensures { IfOk result (λ marked. marked.items ≡ marks_in events.now) }

@@ -68,7 +68,7 @@ fn gathered(
     }
 }
 
-// The first illegal event by a verdict, and what the rule says there. Errors: `AllocError` where memory runs out.
+// The first illegal event by a verdict, and what the rule says there. Errors: `AllocError` when out of memory.
 fn illegal_in(
     alloc: Global,
     limits: &Limits,
@@ -97,7 +97,7 @@ fn illegal_in(
 ///
 /// # Errors
 ///
-/// `AllocError` where memory runs out.
+/// `AllocError` when out of memory.
 ///
 /// ```
 /// let picture = picture_of(alloc, &limits, &history, None)?;

@@ -70,7 +70,7 @@ fn parts_results(line: &[u8], rest: &[u8]) -> bool
 /// The history and the results of a body, before and after the first empty line that the header of
 /// the results follows, or `None` where it has no results.
 ///
-/// The history keeps its last line feed, and the results begin with their header.
+/// The history keeps its last newline, and the results begin with their header.
 pub fn split_results(body: &[u8]) -> Option<(&[u8], &[u8])>
     ensures { option_map (λ p. (p.0.now, p.1.now)) result ≡ results_of body.now }
 {
@@ -140,7 +140,7 @@ fn parse_result(fields: &ByteRecord) -> Option<JobResult>
 ///
 /// # Errors
 ///
-/// The first that is met: `Memory` where memory runs out; `BadHeader` where the first record is
+/// The first that is met: `Memory` when out of memory; `BadHeader` where the first record is
 /// missing or isn't the header; `BadRow` with the position of the first record that is no result.
 pub fn read_results(alloc: Global, text: &[u8]) -> Result<Vec<JobResult>, BodyError>
     ensures { MatchResult result (λ rows. AreResults text.now rows.items) (IsResultsError text.now) }
@@ -159,7 +159,7 @@ impl Outcomes {
     ///
     /// # Errors
     ///
-    /// `AllocError` where memory runs out.
+    /// `AllocError` when out of memory.
     pub fn of(alloc: Global, results: &[JobResult]) -> Result<Outcomes, AllocError> {
         let mut by_id = BTreeMap::new(alloc);
         for result in results.iter().rev() {

@@ -71,7 +71,7 @@ fn queued_at(index: usize, event: Event) -> Option<usize>
     }
 }
 
-// The indices of the queued submissions, in order. Errors: `AllocError` where memory runs out.
+// The indices of the queued submissions, in order. Errors: `AllocError` when out of memory.
 #[tactic(auto, using(crate::proofs::PlaceLaws::made_none, crate::proofs::PlaceLaws::made_one))]
 fn queue_of(alloc: Global, events: &[Event]) -> Result<Vec<usize>, AllocError>
     ensures { IfOk result (λ queue. queue.items ≡ filter_map queued_at (placed events.now)) }
@@ -86,7 +86,7 @@ fn queue_of(alloc: Global, events: &[Event]) -> Result<Vec<usize>, AllocError>
     Ok(queue)
 }
 
-// How long each job waited that started, in the order of their starts, by this queue. Errors: `AllocError` where memory runs out.
+// How long each job waited that started, in the order of their starts, by this queue. Errors: `AllocError` when out of memory.
 fn waits_of(
     alloc: Global,
     events: &[Event],
@@ -114,7 +114,7 @@ fn waits_of(
     Ok(waits)
 }
 
-// How long each job ran that is finished, in the order of their starts. Errors: `AllocError` where memory runs out.
+// How long each job ran that is finished, in the order of their starts. Errors: `AllocError` when out of memory.
 fn runs_of(alloc: Global, events: &[Event], times: &[u64]) -> Result<Vec<u64>, AllocError>
     requires { (limits : Sizes) × IsLegal limits events.now }
     ensures { IfOk result (λ spans. spans.items ≡ runs events.now times.now) }
@@ -157,7 +157,7 @@ fn ranks_of(spans: Vec<u64>) -> Ranks
 ///
 /// # Errors
 ///
-/// `AllocError` where memory runs out.
+/// `AllocError` when out of memory.
 pub fn spans_of(
     alloc: Global,
     history: &[Event],

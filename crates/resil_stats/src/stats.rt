@@ -193,7 +193,7 @@ pub(crate) fn legal_part(history: &[Event], verdict: Verdict) -> &[Event]
     }
 }
 
-// The numbers of legal events. Errors: `AllocError` where memory runs out.
+// The numbers of legal events. Errors: `AllocError` when out of memory.
 fn count_legal(alloc: Global, verdict: Verdict, events: &[Event]) -> Result<Stats, AllocError>
     requires { (limits : Sizes) × IsLegal limits events.now }
     ensures counts { IfOk result (λ stats. AreCountsOf events.now stats.counts) }
@@ -224,7 +224,7 @@ fn count_legal(alloc: Global, verdict: Verdict, events: &[Event]) -> Result<Stat
 ///
 /// # Errors
 ///
-/// `AllocError` where memory runs out.
+/// `AllocError` when out of memory.
 ///
 /// ```
 /// let limits = Limits::new(1, 1, 1)?;

@@ -82,14 +82,14 @@ impl Draft {
     }
 }
 
-// Adds a part to a text, where it could be made. Errors: `AllocError` where memory runs out, or ran out for the part.
+// Adds a part to a text, where it could be made. Errors: `AllocError` when out of memory, or ran out for the part.
 fn push_part(text: &mut String, part: Result<String, AllocError>) -> Result<(), AllocError>
     ensures { OnOk result ((part : List ℕ) × (string_bytes text.new ≡ string_bytes text.old ++ part)) }
 {
     text.push_str(part?.as_str())
 }
 
-// What is written before the bars, or the columns, and so lies below them. Errors: `AllocError` where memory runs out.
+// What is written before the bars, or the columns, and so lies below them. Errors: `AllocError` when out of memory.
 fn front_text(sheet: &Sheet, picture: &Picture) -> Result<String, AllocError> {
     let mut draft = Draft::new(sheet.alloc);
     write_frame(&mut draft, &sheet.page, picture);
@@ -104,7 +104,7 @@ fn front_text(sheet: &Sheet, picture: &Picture) -> Result<String, AllocError> {
     draft.finish()
 }
 
-// What is written between the bars and the refusals. Errors: `AllocError` where memory runs out.
+// What is written between the bars and the refusals. Errors: `AllocError` when out of memory.
 fn labels_text(sheet: &Sheet, picture: &Picture) -> Result<String, AllocError> {
     let mut draft = Draft::new(sheet.alloc);
     let below = sheet.page.rows_end();
@@ -114,7 +114,7 @@ fn labels_text(sheet: &Sheet, picture: &Picture) -> Result<String, AllocError> {
     draft.finish()
 }
 
-// Adds what is drawn of each event: the bars, the refusals and the levels. Errors: `AllocError` where memory runs out.
+// Adds what is drawn of each event: the bars, the refusals and the levels. Errors: `AllocError` when out of memory.
 fn push_each(text: &mut String, sheet: &Sheet, picture: &Picture) -> Result<(), AllocError>
     ensures { OnOk result (IsAddition (IsEachDrawn picture.now) (string_bytes text.old) (string_bytes text.new)) }
 {
@@ -126,7 +126,7 @@ fn push_each(text: &mut String, sheet: &Sheet, picture: &Picture) -> Result<(), 
     Ok(())
 }
 
-// Adds what is drawn of columns. Errors: `AllocError` where memory runs out.
+// Adds what is drawn of columns. Errors: `AllocError` when out of memory.
 fn push_gathered(text: &mut String, sheet: &Sheet, picture: &Picture) -> Result<(), AllocError>
     ensures { OnOk result (IsAddition (IsGatheredDrawn picture.now) (string_bytes text.old) (string_bytes text.new)) }
 {
@@ -136,7 +136,7 @@ fn push_gathered(text: &mut String, sheet: &Sheet, picture: &Picture) -> Result<
     Ok(())
 }
 
-// Adds all of a picture but its beginning. Errors: `AllocError` where memory runs out.
+// Adds all of a picture but its beginning. Errors: `AllocError` when out of memory.
 fn push_rest(text: &mut String, sheet: &Sheet, picture: &Picture) -> Result<(), AllocError>
     ensures { OnOk result (IsAddition (IsRestDrawn picture.now) (string_bytes text.old) (string_bytes text.new)) }
 {
@@ -153,7 +153,7 @@ fn push_rest(text: &mut String, sheet: &Sheet, picture: &Picture) -> Result<(), 
 ///
 /// # Errors
 ///
-/// `AllocError` where memory runs out.
+/// `AllocError` when out of memory.
 pub fn svg_text(
     alloc: Global,
     name: &str,

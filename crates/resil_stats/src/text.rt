@@ -14,7 +14,7 @@ use resil_rule::Verdict;
 use std::alloc::{AllocError, Global};
 use std::collections::BTreeMap;
 
-// Writes a number of the whole history. Errors: `AllocError` where memory runs out.
+// Writes a number of the whole history. Errors: `AllocError` when out of memory.
 fn push_total(alloc: Global, text: &mut String, name: &str, value: usize) -> Result<(), AllocError>
     ensures { OnOk result (IsExtended (string_bytes text.old) (string_bytes text.new) (record_text (total_fields name.now value))) }
 {
@@ -22,7 +22,7 @@ fn push_total(alloc: Global, text: &mut String, name: &str, value: usize) -> Res
     text.push_str(record.as_str())
 }
 
-// Writes a span of time, or nothing as its value where there is none. Errors: `AllocError` where memory runs out.
+// Writes a span of time, or nothing as its value where there is none. Errors: `AllocError` when out of memory.
 fn push_span(
     alloc: Global,
     text: &mut String,
@@ -43,7 +43,7 @@ fn push_span(
     }
 }
 
-// Writes how long jobs waited and ran, where that is known. Errors: `AllocError` where memory runs out.
+// Writes how long jobs waited and ran, where that is known. Errors: `AllocError` when out of memory.
 fn push_spans(alloc: Global, text: &mut String, spans: Option<Spans>) -> Result<(), AllocError>
     ensures { OnOk result (IsExtended (string_bytes text.old) (string_bytes text.new) (table_text (spans_records spans))) }
 {
@@ -60,7 +60,7 @@ fn push_spans(alloc: Global, text: &mut String, spans: Option<Spans>) -> Result<
     Ok(())
 }
 
-// What one caller submitted. Errors: `AllocError` where memory runs out.
+// What one caller submitted. Errors: `AllocError` when out of memory.
 fn caller_text(alloc: Global, caller: u16, numbers: CallerStats) -> Result<String, AllocError>
     ensures { IfOk result (λ text. string_bytes text ≡ table_text (caller_records (caller, numbers))) }
 {
@@ -74,7 +74,7 @@ fn caller_text(alloc: Global, caller: u16, numbers: CallerStats) -> Result<Strin
     )
 }
 
-// Writes what each caller submitted. Errors: `AllocError` where memory runs out.
+// Writes what each caller submitted. Errors: `AllocError` when out of memory.
 fn push_callers(
     alloc: Global,
     text: &mut String,
@@ -89,7 +89,7 @@ fn push_callers(
     Ok(())
 }
 
-// Writes the verdict. Errors: `AllocError` where memory runs out.
+// Writes the verdict. Errors: `AllocError` when out of memory.
 fn push_verdict(alloc: Global, text: &mut String, verdict: Verdict) -> Result<(), AllocError>
     ensures { OnOk result (IsExtended (string_bytes text.old) (string_bytes text.new) (record_text (verdict_fields verdict))) }
 {
@@ -102,7 +102,7 @@ fn push_verdict(alloc: Global, text: &mut String, verdict: Verdict) -> Result<()
     }
 }
 
-// Writes all numbers. Errors: `AllocError` where memory runs out.
+// Writes all numbers. Errors: `AllocError` when out of memory.
 fn push_numbers(
     alloc: Global,
     text: &mut String,
@@ -139,7 +139,7 @@ fn push_numbers(
 ///
 /// # Errors
 ///
-/// `AllocError` where memory runs out.
+/// `AllocError` when out of memory.
 pub fn stats_text(alloc: Global, stats: &Stats, spans: Option<Spans>) -> Result<Vec<u8>, AllocError>
     ensures { IfOk result (λ text. text.items ≡ stats_text stats.now spans) }
 {

@@ -88,7 +88,7 @@ fn read_parts(
     Ok((said, history, results))
 }
 
-// The results of a text where there is one, else none. Errors: `Command` of `Memory` where memory runs out; `BadResult`.
+// The results of a text where there is one, else none. Errors: `Command` of `Memory` when out of memory; `BadResult`.
 fn known_results(alloc: Global, results: Option<&[u8]>) -> Result<Vec<JobResult>, StatsError>
     ensures { MatchResult result (λ _. AreRead (option_map (λ text. text.now) results.entry)) (IsResultsRefusal (option_map (λ text. text.now) results.entry)) }
 {
@@ -115,7 +115,7 @@ fn check_order(history: &History) -> Result<(), StatsError>
     }
 }
 
-// The line of the verdict on a history. Errors: `AllocError` where memory runs out.
+// The line of the verdict on a history. Errors: `AllocError` when out of memory.
 fn judged(alloc: Global, limits: &Limits, history: &[Event]) -> Result<Vec<u8>, AllocError>
     ensures { IfOk result (λ text. IsVerdictText limits.now history.now text.items) }
 {
@@ -126,7 +126,7 @@ fn judged(alloc: Global, limits: &Limits, history: &[Event]) -> Result<Vec<u8>, 
     verdict_text(alloc, verdict)
 }
 
-// How long jobs waited and ran, where the history has times, by its verdict. Errors: `AllocError` where memory runs out.
+// How long jobs waited and ran, where the history has times, by its verdict. Errors: `AllocError` when out of memory.
 fn known_spans(
     alloc: Global,
     history: &History,
@@ -144,7 +144,7 @@ fn known_spans(
     }
 }
 
-// The text of the numbers of a history. Errors: `AllocError` where memory runs out.
+// The text of the numbers of a history. Errors: `AllocError` when out of memory.
 fn counted(alloc: Global, limits: &Limits, history: &History) -> Result<Vec<u8>, AllocError>
     ensures { IfOk result (λ text. IsNumbersText limits.now history.now.events.items (option_map (λ times. times.items) history.now.times) text.items) }
 {
@@ -163,7 +163,7 @@ fn times_in(history: &History) -> Option<&[u64]>
     }
 }
 
-// The text of the picture of a history, with the results of its jobs. Errors: `AllocError` where memory runs out.
+// The text of the picture of a history, with the results of its jobs. Errors: `AllocError` when out of memory.
 fn drawn(
     alloc: Global,
     head: &HistoryHead,
@@ -178,7 +178,7 @@ fn drawn(
     svg_text(alloc, head.name.as_str(), &picture, times, &outcomes)
 }
 
-// The text of a view of a history, with the results of its jobs. Errors: `AllocError` where memory runs out.
+// The text of a view of a history, with the results of its jobs. Errors: `AllocError` when out of memory.
 fn written(
     alloc: Global,
     view: View,

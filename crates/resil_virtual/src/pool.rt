@@ -55,7 +55,7 @@ fn comes_first(at: u64, other: Option<u64>) -> bool
     }
 }
 
-// So many places without a job. Errors: `AllocError` where memory runs out.
+// So many places without a job. Errors: `AllocError` when out of memory.
 fn free_places(alloc: Global, count: usize) -> Result<Vec<Option<Running>>, AllocError>
     ensures { IfOk result (λ places. places.items ≡ replicate count nothing) }
 {
@@ -63,7 +63,7 @@ fn free_places(alloc: Global, count: usize) -> Result<Vec<Option<Running>>, Allo
 }
 
 impl<'a> Pool<'a> {
-    /// A pool of these limits before anything happens. Errors: `AllocError` where memory runs out.
+    /// A pool of these limits before anything happens. Errors: `AllocError` when out of memory.
     pub(crate) fn new(
         alloc: Global,
         limits: Limits,
@@ -90,7 +90,7 @@ impl<'a> Pool<'a> {
         })
     }
 
-    // Begins the job that can begin first, if any can. Errors: `AllocError` where memory runs out.
+    // Begins the job that can begin first, if any can. Errors: `AllocError` when out of memory.
     fn begin_next(&mut self, at: u64) -> Result<bool, AllocError>
         requires pool { IsPool self.old }
         requires at { last_at self.old.history.items ≡ at }
@@ -122,7 +122,7 @@ impl<'a> Pool<'a> {
         Ok(true)
     }
 
-    // Begins each job that can begin. Errors: `AllocError` where memory runs out.
+    // Begins each job that can begin. Errors: `AllocError` when out of memory.
     fn begin_all(&mut self, at: u64) -> Result<(), AllocError>
         requires pool { IsPool self.old }
         requires at { last_at self.old.history.items ≡ at }
@@ -135,7 +135,7 @@ impl<'a> Pool<'a> {
         Ok(())
     }
 
-    // Submits the next job, and begins what can begin. Errors: `AllocError` where memory runs out.
+    // Submits the next job, and begins what can begin. Errors: `AllocError` when out of memory.
     fn submit(&mut self, arrival: Arrival) -> Result<(), AllocError>
         requires pool { IsPool self.old }
         requires quiet { IsQuiet self.old.rule }
@@ -175,7 +175,7 @@ impl<'a> Pool<'a> {
         }
     }
 
-    // Finishes a job, whose worker is idle then, and begins what can begin. Errors: `AllocError` where memory runs out.
+    // Finishes a job, whose worker is idle then, and begins what can begin. Errors: `AllocError` when out of memory.
     fn finish(&mut self, place: usize, job: Running) -> Result<(), AllocError>
         requires pool { IsPool self.old }
         requires quiet { IsQuiet self.old.rule }
@@ -198,7 +198,7 @@ impl<'a> Pool<'a> {
         self.begin_all(job.due)
     }
 
-    // Ends an idle worker, or lets it stay where there are no more than the core size. Errors: `AllocError` where memory runs out.
+    // Ends an idle worker, or lets it stay where there are no more than the core size. Errors: `AllocError` when out of memory.
     fn end(&mut self, place: usize, at: u64) -> Result<(), AllocError>
         requires pool { IsPool self.old }
         requires quiet { IsQuiet self.old.rule }
@@ -246,7 +246,7 @@ impl<'a> Pool<'a> {
         Some(Step::End(place, at))
     }
 
-    /// Carries out what happens next, and says whether anything did. Errors: `AllocError` where memory runs out.
+    /// Carries out what happens next, and says whether anything did. Errors: `AllocError` when out of memory.
     pub(crate) fn step(&mut self) -> Result<bool, AllocError>
         requires pool { IsPool self.old }
         requires quiet { IsQuiet self.old.rule }

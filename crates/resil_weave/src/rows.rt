@@ -65,7 +65,7 @@ fn parse_step(fields: &ByteRecord) -> Option<Step>
 ///
 /// # Errors
 ///
-/// The first that is met: `Memory` where memory runs out; `BadHeader` where the first record is
+/// The first that is met: `Memory` when out of memory; `BadHeader` where the first record is
 /// missing or isn't the header; `BadRow` with the position of the first record that is no step.
 pub fn read_rows(alloc: Global, body: &[u8]) -> Result<Vec<Step>, BodyError>
     ensures { MatchResult result (λ steps. IsWeaveBody body.now steps.items) (IsWeaveBodyError body.now) }

@@ -27,7 +27,7 @@ fn shown_name(shown: Shown) -> &'static [u8]
     }
 }
 
-// Writes the record of a step of this name. Errors: `AllocError` where memory runs out.
+// Writes the record of a step of this name. Errors: `AllocError` when out of memory.
 #[tactic(auto, using(resil_input::proofs::PlainLaws::IsPlain_number))]
 fn push_named(
     table: &mut CsvTable,
@@ -45,7 +45,7 @@ fn push_named(
     table.push(&[name, digits.format(caller).as_bytes(), shown])
 }
 
-// Writes the record of a step and of what it showed. Errors: `AllocError` where memory runs out.
+// Writes the record of a step and of what it showed. Errors: `AllocError` when out of memory.
 fn push_step(table: &mut CsvTable, step: Step, shown: Shown) -> Result<(), AllocError>
     requires { HasColumns table.old 3 }
     ensures columns { OnOk result (HasColumns table.new 3) }
@@ -60,7 +60,7 @@ fn push_step(table: &mut CsvTable, step: Step, shown: Shown) -> Result<(), Alloc
     }
 }
 
-// Writes the record of the word. Errors: `AllocError` where memory runs out.
+// Writes the record of the word. Errors: `AllocError` when out of memory.
 #[tactic(auto, using(resil_input::proofs::PlainLaws::IsPlain_number))]
 fn push_word(table: &mut CsvTable, word: u32) -> Result<(), AllocError>
     requires { HasColumns table.old 3 }
@@ -76,7 +76,7 @@ fn push_word(table: &mut CsvTable, word: u32) -> Result<(), AllocError>
 ///
 /// # Errors
 ///
-/// `AllocError` where memory runs out.
+/// `AllocError` when out of memory.
 pub fn woven_text(alloc: Global, steps: &[Step], woven: &Woven) -> Result<Vec<u8>, AllocError>
     ensures { IfOk result (λ text. text.items ≡ woven_text steps.now woven.now.shown.items woven.now.word) }
 {

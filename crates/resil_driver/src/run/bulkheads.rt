@@ -12,7 +12,7 @@ use resil_bulkhead::{Bulkhead, BulkheadError, Pass};
 use resil_registry::Registry;
 use std::alloc::{AllocError, Global};
 
-// A bulkhead of that name and number of permits, with its first pass. Errors: `AllocError` where memory runs out.
+// A bulkhead of that name and number of permits, with its first pass. Errors: `AllocError` when out of memory.
 fn make_bulkhead(alloc: Global, name: &str, permits: u16) -> Result<(Bulkhead, Pass), AllocError>
     requires { IsName name.now }
     ensures name { IfOk result (λ made. made.0.name ≡ name.now) }
@@ -32,7 +32,7 @@ fn make_bulkhead(alloc: Global, name: &str, permits: u16) -> Result<(Bulkhead, P
 ///
 /// # Errors
 ///
-/// `AllocError` where memory runs out.
+/// `AllocError` when out of memory.
 pub fn make_bulkheads(
     alloc: Global,
     registry: &Registry<u16>,

@@ -20,7 +20,7 @@ use std::alloc::{AllocError, Global};
 use std::sync::Wait;
 use std::thread::Threads;
 
-// The row of a job: its caller, and the layers around its script. Errors: `AllocError` where memory runs out.
+// The row of a job: its caller, and the layers around its script. Errors: `AllocError` when out of memory.
 fn row_for_job(alloc: Global, chain: &Chain, job: ScriptedJob) -> Result<JobRow, AllocError>
     ensures { IfOk result (λ row. row ≡ row_for_job chain.now job) }
 {
@@ -34,7 +34,7 @@ fn row_for_job(alloc: Global, chain: &Chain, job: ScriptedJob) -> Result<JobRow,
     })
 }
 
-// The rows of the jobs, in order, which share one copy of the layers. Errors: `AllocError` where memory runs out.
+// The rows of the jobs, in order, which share one copy of the layers. Errors: `AllocError` when out of memory.
 fn rows_of(alloc: Global, chain: &Chain, jobs: Vec<ScriptedJob>) -> Result<Vec<JobRow>, AllocError>
     ensures { IfOk result (λ rows. rows.items ≡ map (row_for_job chain.now) jobs.items) }
 {

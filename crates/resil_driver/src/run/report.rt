@@ -15,7 +15,7 @@ use resil_input::csv_table::CsvTable;
 use resil_replay::history::{Version, history_text};
 use std::alloc::{AllocError, Global};
 
-// Writes the record of a result. Errors: `AllocError` where memory runs out.
+// Writes the record of a result. Errors: `AllocError` when out of memory.
 fn push_result(table: &mut CsvTable, texts: &mut RunTexts, row: &Row) -> Result<(), AllocError>
     requires { HasColumns table.old 6 }
     ensures columns { OnOk result (HasColumns table.new 6) }
@@ -36,7 +36,7 @@ fn push_result(table: &mut CsvTable, texts: &mut RunTexts, row: &Row) -> Result<
 ///
 /// # Errors
 ///
-/// `AllocError` where memory runs out.
+/// `AllocError` when out of memory.
 pub fn report_text(alloc: Global, history: &[Event], results: &[Row]) -> Result<Vec<u8>, AllocError>
     ensures { IfOk result (λ text. text.items ≡ report_text history.now results.now) }
 {

@@ -37,7 +37,7 @@ fn parse_caller_up_to(callers: u16, field: &[u8]) -> Option<u16>
     Some(caller)
 }
 
-// Reads a job from the fields of a record. Errors: `AllocError` where memory runs out.
+// Reads a job from the fields of a record. Errors: `AllocError` when out of memory.
 fn parse_job(
     alloc: Global,
     callers: u16,
@@ -58,7 +58,7 @@ fn parse_job(
 ///
 /// # Errors
 ///
-/// The first that is met: `Memory` where memory runs out; `BadHeader` where the first record is
+/// The first that is met: `Memory` when out of memory; `BadHeader` where the first record is
 /// missing or isn't the header; `BadRow` with the position of the first record that is no job.
 pub fn read_rows(alloc: Global, callers: u16, body: &[u8]) -> Result<Vec<ScriptedJob>, BodyError>
     ensures { MatchResult result (λ jobs. IsRunBody callers body.now jobs.items) (IsRunBodyError callers body.now) }

@@ -18,7 +18,7 @@ pub(crate) trait Element: Copy {
     // How the element begins.
     ghost begins: { Self → List ℕ };
 
-    // How the element begins. Errors: `AllocError` where memory runs out.
+    // How the element begins. Errors: `AllocError` when out of memory.
     fn opening(self, alloc: Global) -> Result<String, AllocError>
         ensures { IfOk result (λ text. string_bytes text ≡ begins self) };
 
@@ -134,7 +134,7 @@ impl Element for Column {
     }
 }
 
-// How the element of a refusal begins: with its reason, its job and its place. Errors: `AllocError` where memory runs out.
+// How the element of a refusal begins: with its reason, its job and its place. Errors: `AllocError` when out of memory.
 fn refusal_opening(alloc: Global, reason: &str, id: Id, at: usize) -> Result<String, AllocError>
     ensures { IfOk result (λ text. string_bytes text ≡ refusal_opening reason.now id at) }
 {
@@ -144,14 +144,14 @@ fn refusal_opening(alloc: Global, reason: &str, id: Id, at: usize) -> Result<Str
     )
 }
 
-// The rest of an element. Errors: `AllocError` where memory runs out.
+// The rest of an element. Errors: `AllocError` when out of memory.
 fn rest_of<E: Element>(sheet: &Sheet, element: E) -> Result<String, AllocError> {
     let mut draft = Draft::new(sheet.alloc);
     element.write_rest(&mut draft, sheet);
     draft.finish()
 }
 
-// Adds an element. Errors: `AllocError` where memory runs out.
+// Adds an element. Errors: `AllocError` when out of memory.
 fn push_element<E: Element>(text: &mut String, sheet: &Sheet, element: E) -> Result<(), AllocError>
     ensures { OnOk result ((look : List ℕ) × (string_bytes text.new ≡ string_bytes text.old ++ (E.begins element ++ look))) }
 {
@@ -162,7 +162,7 @@ fn push_element<E: Element>(text: &mut String, sheet: &Sheet, element: E) -> Res
 }
 
 /// Adds the elements of some things, in their order.
-/// Errors: `AllocError` where memory runs out.
+/// Errors: `AllocError` when out of memory.
 pub(crate) fn push_elements<E: Element>(
     text: &mut String,
     sheet: &Sheet,

@@ -18,7 +18,7 @@ fn plural(number: usize) -> &'static str {
 }
 
 /// The beginning of a picture of this many events.
-/// Errors: `AllocError` where memory runs out.
+/// Errors: `AllocError` when out of memory.
 pub(crate) fn opening_text(alloc: Global, events: usize) -> Result<String, AllocError>
     ensures { IfOk result (λ text. string_bytes text ≡ opening events) }
 {
@@ -26,7 +26,7 @@ pub(crate) fn opening_text(alloc: Global, events: usize) -> Result<String, Alloc
 }
 
 /// The rest of the first element, and the ground, which begins a line higher where there is a name.
-/// Errors: `AllocError` where memory runs out.
+/// Errors: `AllocError` when out of memory.
 pub(crate) fn ground_text(
     sheet: &Sheet,
     picture: &Picture,
@@ -45,7 +45,7 @@ pub(crate) fn ground_text(
     draft.finish()
 }
 
-// Adds a character as XML has it. Errors: `AllocError` where memory runs out.
+// Adds a character as XML has it. Errors: `AllocError` when out of memory.
 fn push_letter(text: &mut String, letter: char) -> Result<(), AllocError>
     ensures { OnOk result (string_bytes text.new ≡ string_bytes text.old ++ xml_letter letter) }
 {
@@ -62,7 +62,7 @@ fn push_letter(text: &mut String, letter: char) -> Result<(), AllocError>
 }
 
 /// Adds the line of a name, over the sizes, where that isn't empty: 64 letters of it have room.
-/// Errors: `AllocError` where memory runs out.
+/// Errors: `AllocError` when out of memory.
 pub(crate) fn push_name(text: &mut String, name: &str) -> Result<(), AllocError>
     ensures { OnOk result (string_bytes text.new ≡ string_bytes text.old ++ name_line name.now) }
 {
@@ -238,7 +238,7 @@ pub(crate) fn write_frame(draft: &mut Draft, page: &Page, picture: &Picture) {
 }
 
 /// What is written behind the refusals, or the columns: what the picture leaves open, and the end.
-/// Errors: `AllocError` where memory runs out.
+/// Errors: `AllocError` when out of memory.
 pub(crate) fn ending_text(sheet: &Sheet, picture: &Picture) -> Result<String, AllocError> {
     let mut draft = Draft::new(sheet.alloc);
     let below = sheet.page.rows_end();

@@ -78,7 +78,7 @@ fn column_of(level: Level) -> Column {
     }
 }
 
-// Adds a point, which stands for the one before it where that is at the same place. Errors: `AllocError` where memory runs out.
+// Adds a point, which stands for the one before it where that is at the same place. Errors: `AllocError` when out of memory.
 fn push_point(points: &mut Vec<Point>, point: Point) -> Result<(), AllocError> {
     if let Some(last) = points.last_mut() {
         if last.x.0 == point.x.0 {
@@ -90,7 +90,7 @@ fn push_point(points: &mut Vec<Point>, point: Point) -> Result<(), AllocError> {
     Ok(())
 }
 
-// Adds the points of a column, behind whose span of time holds what holds after its last event. Errors: `AllocError` where memory runs out.
+// Adds the points of a column, behind whose span of time holds what holds after its last event. Errors: `AllocError` when out of memory.
 fn push_column(
     points: &mut Vec<Point>,
     page: &Page,
@@ -114,7 +114,7 @@ fn push_column(
 }
 
 /// The points of a picture: of each event, or of each column where there are columns; of those at one place the last one.
-/// Errors: `AllocError` where memory runs out.
+/// Errors: `AllocError` when out of memory.
 pub(crate) fn points_of(
     alloc: Global,
     page: &Page,
