@@ -12,7 +12,8 @@ use crate::registry::BulkheadRegistry;
 use resil_bulkhead::Bulkhead;
 use resil_heads::HeadError;
 use resil_heads::bulkheads::{
-    Place, TextError, parse_bulkhead_table, read_configurations, read_tables, read_text, registry_error,
+    Place, TextError, parse_bulkhead_table, read_configurations, read_tables, read_text,
+    registry_error,
 };
 use std::alloc::Global;
 use std::time::Duration;
