@@ -2,7 +2,7 @@
 //!
 //! A record is told each event once, after the rule's call that made it, and has the room for it by then.
 //! `NoRecord` keeps nothing, and `LastEvents` the last events, in memory of its own. `AllEvents` keeps all of
-//! them, and allocates before the rule's call: when out of memory there, nothing was changed.
+//! them, and allocates before the rule's call: where memory runs out there, nothing was changed.
 
 ghost use Rattle.std.specs.Prelude.{◌≡◌, ◌-◌, ◌≤◌, ◌++◌, ◌∷◌, [], ℕ, List, Option, suc, length, vec_len, vec_capacity, slice_get, IsOk, IfOk, OnOk};
 ghost use Rattle.resil_rule.specs.Record.{AllView, LastView, IsLastOf};

@@ -66,7 +66,7 @@ pub fn verdicts_are_one()
 
 impl Rule<()> {
     /// Takes the rule one event further, and says whether it allows it: a submission with the reply that it has, a job that is taken by its
-    /// id. A job with a worker of its own is picked at once. What it doesn't allow leaves it as it was.
+    /// id (ThreadPoolExecutor class documentation). A job with a worker of its own is picked at once. What it doesn't allow leaves it as it was.
     ///
     /// # Errors
     ///
