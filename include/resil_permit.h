@@ -61,13 +61,14 @@ enum {
 };
 
 /* Makes `max` permits, 0 to 65,535, all free, and their first pass. MADE, MEMORY or TOO_MANY. */
-uint8_t resil_permit_new(uint32_t max, resil_permit_pass *out);
+RESIL_MUST_USE uint8_t resil_permit_new(uint32_t max, resil_permit_pass *out);
 
 /* Makes a second pass of the same permits, which holds none. The one handed in comes back as it was. MADE or MEMORY. */
-uint8_t resil_permit_split(resil_permit_pass pass, resil_permit_pass *back, resil_permit_pass *out);
+RESIL_MUST_USE uint8_t resil_permit_split(resil_permit_pass pass, resil_permit_pass *back,
+                                          resil_permit_pass *out);
 
 /* Tries once to take a permit. TAKEN, FULL or CONTENDED. */
-uint8_t resil_permit_try_once(resil_permit_pass pass, resil_permit_pass *back);
+RESIL_MUST_USE uint8_t resil_permit_try_once(resil_permit_pass pass, resil_permit_pass *back);
 
 /* Gives a permit back. GIVEN or NONE. */
 uint8_t resil_permit_leave(resil_permit_pass pass, resil_permit_pass *back);
@@ -90,7 +91,7 @@ void resil_permit_free(resil_permit_pass pass);
 
 /* Takes a permit, or answers false where all in use were held, or where the pass is empty or `pass` null. It tries again
  * while other threads come in between. */
-static inline bool resil_permit_enter(resil_permit_pass *pass) {
+RESIL_MUST_USE static inline bool resil_permit_enter(resil_permit_pass *pass) {
     uint8_t answer = RESIL_PERMIT_CONTENDED;
     while (pass && answer == RESIL_PERMIT_CONTENDED) answer = resil_permit_try_once(*pass, pass);
     return answer == RESIL_PERMIT_TAKEN;
@@ -129,16 +130,16 @@ static inline const char *resil_permit_raise_name(uint8_t answer) {
 }
 
 /* The same calls, which answer a null pointer too. Behind these lines each name stands for the one that looks. */
-static inline uint8_t resil_permit_new_checked(uint32_t max, resil_permit_pass *out) {
+RESIL_MUST_USE static inline uint8_t resil_permit_new_checked(uint32_t max, resil_permit_pass *out) {
     return out ? resil_permit_new(max, out) : RESIL_EMPTY;
 }
 
-static inline uint8_t resil_permit_split_checked(resil_permit_pass pass, resil_permit_pass *back,
-                                                 resil_permit_pass *out) {
+RESIL_MUST_USE static inline uint8_t resil_permit_split_checked(resil_permit_pass pass, resil_permit_pass *back,
+                                                                resil_permit_pass *out) {
     return back && out ? resil_permit_split(pass, back, out) : RESIL_EMPTY;
 }
 
-static inline uint8_t resil_permit_try_once_checked(resil_permit_pass pass, resil_permit_pass *back) {
+RESIL_MUST_USE static inline uint8_t resil_permit_try_once_checked(resil_permit_pass pass, resil_permit_pass *back) {
     return back ? resil_permit_try_once(pass, back) : RESIL_EMPTY;
 }
 

@@ -160,20 +160,23 @@ enum {
 /* Makes an open pool: core size 1 to 64, greatest size from the core size to 64, queue capacity 1 to 65,536; for
  * callers from 1 to `callers`, which is 1 to 65,535; and for as many of the last events as `kept` says, 0 for none. MADE,
  * a range, the first of the four that is broken, or MEMORY; but for MADE `out` is as it was. */
-uint8_t resil_pool_new(uint32_t core, uint32_t max, uint32_t queue, uint32_t callers, uint32_t kept, resil_pool *out);
+RESIL_MUST_USE uint8_t resil_pool_new(uint32_t core, uint32_t max, uint32_t queue, uint32_t callers, uint32_t kept,
+                                      resil_pool *out);
 
 /* Submits the caller's next job with its work, under the number that the caller has counted. CORE, QUEUED, EXTRA, FULL,
  * CLOSED, WRONG_NUMBER or NO_CALLER. But for the first three the pool doesn't have the work. */
-uint8_t resil_pool_submit(resil_pool pool, resil_pool *back, uint16_t caller, uint64_t number, uint64_t work);
+RESIL_MUST_USE uint8_t resil_pool_submit(resil_pool pool, resil_pool *back, uint16_t caller, uint64_t number,
+                                         uint64_t work);
 
 /* The same under the number that the library has counted, which is written to `number`: one more than the caller's
  * submissions so far, of which FULL and CLOSED are some, as the rule has refused them. The answers are those of
  * resil_pool_submit, but WRONG_NUMBER only where 2^64 - 1 are reached. After that and NO_CALLER `number` is as it was. */
-uint8_t resil_pool_submit_next(resil_pool pool, resil_pool *back, uint16_t caller, uint64_t work, uint64_t *number);
+RESIL_MUST_USE uint8_t resil_pool_submit_next(resil_pool pool, resil_pool *back, uint16_t caller, uint64_t work,
+                                              uint64_t *number);
 
 /* Picks the job that is to run next: the oldest with a worker of its own that wasn't picked, else the oldest of the
  * queue, where a worker is idle. PICKED_OWN, PICKED_QUEUE or NONE; `job` is written where one was picked. */
-uint8_t resil_pool_pick(resil_pool pool, resil_pool *back, resil_pool_job *job);
+RESIL_MUST_USE uint8_t resil_pool_pick(resil_pool pool, resil_pool *back, resil_pool_job *job);
 
 /* Ends a job that was picked, by what resil_pool_pick wrote of it. FINISHED or NOT_OUT. */
 uint8_t resil_pool_finish(resil_pool pool, resil_pool *back, uint16_t caller, uint64_t number, uint32_t place);
@@ -256,22 +259,22 @@ static inline const char *resil_pool_kind_name(uint8_t kind) {
 }
 
 /* The same calls, which answer a null pointer too. Behind these lines each name stands for the one that looks. */
-static inline uint8_t resil_pool_new_checked(uint32_t core, uint32_t max, uint32_t queue, uint32_t callers,
-                                             uint32_t kept, resil_pool *out) {
+RESIL_MUST_USE static inline uint8_t resil_pool_new_checked(uint32_t core, uint32_t max, uint32_t queue,
+                                                            uint32_t callers, uint32_t kept, resil_pool *out) {
     return out ? resil_pool_new(core, max, queue, callers, kept, out) : RESIL_EMPTY;
 }
 
-static inline uint8_t resil_pool_submit_checked(resil_pool pool, resil_pool *back, uint16_t caller, uint64_t number,
-                                                uint64_t work) {
+RESIL_MUST_USE static inline uint8_t resil_pool_submit_checked(resil_pool pool, resil_pool *back, uint16_t caller,
+                                                               uint64_t number, uint64_t work) {
     return back ? resil_pool_submit(pool, back, caller, number, work) : RESIL_EMPTY;
 }
 
-static inline uint8_t resil_pool_submit_next_checked(resil_pool pool, resil_pool *back, uint16_t caller, uint64_t work,
-                                                     uint64_t *number) {
+RESIL_MUST_USE static inline uint8_t resil_pool_submit_next_checked(resil_pool pool, resil_pool *back, uint16_t caller,
+                                                                    uint64_t work, uint64_t *number) {
     return back && number ? resil_pool_submit_next(pool, back, caller, work, number) : RESIL_EMPTY;
 }
 
-static inline uint8_t resil_pool_pick_checked(resil_pool pool, resil_pool *back, resil_pool_job *job) {
+RESIL_MUST_USE static inline uint8_t resil_pool_pick_checked(resil_pool pool, resil_pool *back, resil_pool_job *job) {
     return back && job ? resil_pool_pick(pool, back, job) : RESIL_EMPTY;
 }
 

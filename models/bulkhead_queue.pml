@@ -1,8 +1,10 @@
 /* Who waits for a permit of bindings/rust's Bulkhead: tasks that stand in a row, and threads that sleep.
 
    PERMITS permits are held at first, each by one holder, who gives it back. TASKS tasks await a permit and THREADS threads sleep for
-   one; who gets one gives it back or, with KEEPS, keeps it. The first task awaits MANY permits, by as many places in the row. LEAVES of the tasks may be dropped at any time, GIVE_UP of the threads
-   may give up at any time, and BARGERS others take a permit by a plain try and give it back.
+   one; who gets one gives it back or, with KEEPS, keeps it. The first task awaits MANY permits, by one place in the row. While it is the
+   first there it gathers them, one at a time of those that are free (a slice is one permit here), and goes on by its own polls. LEAVES
+   of the tasks may be dropped at any time, GIVE_UP of the threads may give up at any time, and BARGERS others take a permit by a plain
+   try and give it back.
 
    A step is one operation on the permits, on `waiting` or on the bell, or one hold of the gate's lock but for the permits. */
 
@@ -28,8 +30,10 @@
 byte free, waiting, threads;
 bool gate, thread_first;
 /* The row, how many permits its tasks have got, which threads sleep on the bell, and who was woken. */
-chan row = [TASKS + MANY] of { byte };
+chan row = [TASKS + 1] of { byte };
 byte given[TASKS + 1];
+/* Which tasks have all, and which one gathers by its own polls: its waker isn't there. */
+bool has_all[TASKS + 1], polls[TASKS + 1];
 bool asleep[THREADS + 1];
 byte leaves = LEAVES, give_up = GIVE_UP;
 /* Who still waits when nobody can take a step. */
@@ -43,22 +47,47 @@ inline try(got) { d_step { got = (free > 0); free = free - got } }
 
 /* `Bulkhead::give`, by who has the gate: whether the first task has all that it awaits. */
 inline give(got, who) {
-    row?who;
-    given[who]++;
-    got = (given[who] == NEEDS(who));
-    waiting = waiting - got
+    d_step {
+        row?<who>;
+        given[who]++;
+        got = (given[who] == NEEDS(who));
+        if
+        :: got -> row?who; has_all[who] = true; polls[who] = false; waiting--
+        :: else
+        fi
+    }
 }
 
-/* `Bulkhead::hand_on`, by who has the gate: whether a task has got all. */
+/* `Bulkhead::hand_on`, by who has the gate: whether it wakes the first task, which has all or goes on by itself. */
 inline hand_on(got, who) {
     got = false;
-    do
-    :: got || len(row) == 0 -> break
-    :: !got && len(row) > 0 ->
-        try(got);
+    if
+    :: len(row) > 0 ->
+        row?<who>;
         if
-        :: got -> give(got, who)
-        :: !got -> break
+        :: polls[who]
+        :: else ->
+            try(got);
+            if
+            :: got -> give(got, who);
+                if
+                :: got
+                :: else -> polls[who] = true; got = true
+                fi
+            :: else
+            fi
+        fi
+    :: else
+    fi
+}
+
+/* `Bulkhead::hand_on_all`, by who has the gate. */
+inline hand_on_all(got, who) {
+    do
+    :: hand_on(got, who);
+        if
+        :: got
+        :: else -> break
         fi
     od
 }
@@ -156,36 +185,38 @@ proctype Task(byte me) {
     :: got -> goto has
     :: !got
     fi;
+    /* `Bulkhead::stand` */
     lock_gate();
     waiting++;
-    if
-    :: NEEDS(me) > 1 ->
-        stands = (len(row) == 0);
-        atomic { do :: count < NEEDS(me) -> row!me; count++ :: else -> break od };
-        if
-        :: stands -> hand_on(got, who)
-        :: !stands
-        fi;
-        gate = false
-    :: else ->
+    stands = (len(row) == 0);
+    row!me;
 #ifndef NOBODY_LOOKS_IN_THE_ROW
-        if
-        :: len(row) == 0 -> try(got)
-        :: else
-        fi;
-#endif
-        if
-        :: got -> waiting--; given[me] = 1
-        :: !got -> row!me
-        fi;
-        gate = false
+    if
+    :: stands -> hand_on(got, who)
+    :: else
     fi;
+#endif
+    gate = false;
+polling:
     stands = false;
     waits_on++;
     if
     /* It fetches what it was given. */
-    :: atomic { given[me] == NEEDS(me) && !gate -> waits_on--; given[me] = 0 }
+    :: atomic { has_all[me] && !gate -> waits_on--; has_all[me] = false }
         goto has
+    /* It was woken to go on by itself: `Bulkhead::go_on`. */
+    :: atomic { polls[me] && !gate -> waits_on--; gate = true; polls[me] = false }
+        hand_on(got, who);
+        if
+        :: has_all[me] ->
+            has_all[me] = false;
+#ifndef WHO_GATHERS_HANDS_NOTHING_ON
+            hand_on_all(got, who);
+#endif
+            gate = false;
+            goto has
+        :: else -> gate = false; goto polling
+        fi
     :: atomic { leaves > 0 -> leaves--; waits_on-- }
         /* the drop */
         lock_gate();
@@ -203,6 +234,8 @@ proctype Task(byte me) {
             od;
             other = 0
         }
+        has_all[me] = false;
+        polls[me] = false;
         if
         :: stands -> waiting--; gate = false
         :: !stands -> gate = false
@@ -215,6 +248,7 @@ proctype Task(byte me) {
 #endif
     fi;
 has:
+    stands = false;
     count = NEEDS(me);
 #ifdef KEEPS
     goto gone;
@@ -225,6 +259,14 @@ gives_back:
     :: count > 0 -> count--; release(got, who)
     :: count == 0 -> break
     od;
+    if
+    :: stands && NEEDS(me) > 1 ->
+        /* It may have left what is free. */
+        lock_gate();
+        hand_on_all(got, who);
+        gate = false
+    :: else
+    fi;
 gone:
     skip
 }
@@ -254,13 +296,7 @@ out:
     waiting--;
 #ifndef A_THREAD_HANDS_NOTHING_ON
     /* what else is free, since it may have been woken for more than one */
-    do
-    :: hand_on(late, who);
-        if
-        :: late
-        :: !late -> break
-        fi
-    od;
+    hand_on_all(late, who);
 #endif
     gate = false;
 #ifndef KEEPS

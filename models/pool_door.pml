@@ -1,4 +1,5 @@
-/* A door of bindings/rust's ThreadPool, where workers sleep that find the lock taken while they have an answer in hand.
+/* A door of bindings/rust's ThreadPool, where workers of a recorded pool sleep that find the lock taken while they have an answer in
+   hand. Those of another pool have handed it out before.
 
    WORKERS workers have an answer each. Each takes the lock once and hands its answer out, while somebody else takes it TURNS times. HANDLES
    handles look for the answers, and call in at each look. In the code a sleep ends with its time too, and behind SLEEPS of them a

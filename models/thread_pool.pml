@@ -6,7 +6,16 @@
    is closed at any time. JOINS threads join at any time; where the pool stays open, a job that was accepted behind the first of them
    ends only once that has returned. LATE keep-alives may come to an end.
 
-   A step is one hold of the lock, one load or store of `found`, or one call of the bell. The joins are told under the lock. */
+   With RING, a submission whose reply is known to be `Queued` goes into a ring of that many places, without the lock; without RING
+   there is no such place, as in a recorded pool.
+
+   With ENDS, a job may end without the lock, and the rule hears of it from whoever has the lock next: models/pool_ends.pml has the steps
+   of such an end.
+
+   A step is one hold of the lock, one load or store of `found`, or one call of the bell. The joins are told under the lock. Of the
+   ring, a step is one access of its word or of a place. A thread that is about to search or to sleep has the lock for two steps, since
+   places may be taken before and after it says so. A place that was taken is voided by whoever finds it unwritten: in the code he
+   waits for a moment before, which is as if it had been written earlier. */
 
 #ifndef SUBMITTERS
 #define SUBMITTERS 1
@@ -26,6 +35,9 @@
 #ifndef JOINS
 #define JOINS 0
 #endif
+#ifndef RING
+#define RING 0
+#endif
 /* How many threads there are places for. */
 #ifndef PLACES
 #define PLACES MAX
@@ -40,8 +52,26 @@ chan firsts = [JOBS] of { byte };
 chan orphans = [JOBS] of { byte };
 byte threads, missing, asleep, called, held, alarms;
 bool searching;
+#ifdef ENDS
+/* Jobs that have ended without the lock. */
+chan ended = [MAX] of { byte };
+#endif
+/* Whether somebody has the lock for more than a step. */
+bool locked;
+/* What a worker does when it has the lock. */
+mtype = { ran, was_called, sleeps, searches, lies_down };
 /* Beside the lock. */
 bool found;
+#if RING > 0
+/* The ring. The word: how many places are granted, how many are taken from `head` on, and whether a submission calls a thread that
+   sleeps. Of each place, whose it is and whether he has written; of each submitter, whether his place was voided. */
+byte granted, used, head, owner[RING];
+bool written[RING], voided[SUBMITTERS], calls_sleeper;
+#else
+#define used 0
+#endif
+/* How many submissions the rule will hear of, or may. */
+byte on_way;
 bool parked[PLACES], taken[PLACES];
 /* What is seen from outside. */
 byte begun, finished, fails = STARTS_FAIL, late = LATE;
@@ -59,7 +89,8 @@ bool joining[JOINS], returned[JOINS];
 #define has_company(job) true
 #else
 #define group_end(job) (GATE * ((job + GATE - 1) / GATE))
-#define has_company(job) (begun >= group_end(job) || (group_end(job) > accepted && (closed || submitted == JOBS)))
+#define has_company(job) (begun >= group_end(job) || \
+    (group_end(job) > accepted && on_way == 0 && (closed || submitted == JOBS)))
 #endif
 
 inline wake_one() {
@@ -86,6 +117,62 @@ inline wake_all() {
 #endif
     }
 }
+
+#if RING > 0
+/* `Book::tell_rule` */
+inline tell_rule() {
+    d_step {
+        do
+        :: used > 0 ->
+            if
+            :: written[head] ->
+                /* What was granted is queued. */
+                assert(!closed && workers >= core && len(queue) < QUEUE);
+                accepted++;
+                on_way--;
+                queue!accepted
+            :: else -> voided[owner[head]] = true
+            fi;
+            written[head] = false;
+            owner[head] = 0;
+            head = (head + 1) % RING;
+            used--
+        :: else -> break
+        od
+    }
+}
+
+/* `Book::grant`: as many places as there is room for, and as the ring has. */
+inline grant() {
+    granted = (closed || missing > 0 || threads < core -> granted : (QUEUE - len(queue) < RING -> QUEUE - len(queue) : RING))
+}
+
+/* `Book::end_grant` */
+inline end_grant() {
+#ifndef KEEPS_THE_GRANT
+    granted = 0;
+#endif
+    tell_rule()
+}
+
+/* `Book::take_in` */
+inline take_in() {
+    if
+    :: used > 0 -> tell_rule(); grant()
+    :: else
+    fi
+}
+
+/* `Book::set_calls` */
+inline set_calls() {
+    calls_sleeper = (asleep > 0 && called == 0 && !searching)
+}
+#else
+inline grant() { skip }
+inline end_grant() { skip }
+inline take_in() { skip }
+inline set_calls() { skip }
+#endif
 
 /* `Joins::settle` */
 inline settle() {
@@ -131,8 +218,32 @@ inline finish(job) {
     settle()
 }
 
+/* `Book::waits` */
+inline take_in_if_none_waits() {
+    if
+    :: !waits -> take_in()
+    :: else
+    fi
+}
+
+/* `Crew::take_ends` */
+inline take_ends(job) {
+#ifdef ENDS
+    do
+    :: len(ended) > 0 -> ended?job; finish(job); job = 0
+    :: else -> break
+    od
+#else
+    skip
+#endif
+}
+
 /* `Crew::pick`: a job's number, or 0. */
 inline pick(job) {
+#ifndef PICKS_BESIDE_THE_ENDS
+    take_ends(job);
+#endif
+    take_in_if_none_waits();
     if
     :: len(orphans) > 0 -> orphans?job
     :: else ->
@@ -152,7 +263,7 @@ inline pick(job) {
     fi;
 #ifndef HOLDS_BACK_FOR_GOOD
     if
-    :: held > 0 && !waits -> alarms++; held = 0; wake_all()
+    :: held > 0 && !waits && used == 0 -> alarms++; held = 0; wake_all()
     :: else
     fi
 #endif
@@ -161,12 +272,13 @@ inline pick(job) {
 /* `Crew::call`, whose bell is rung once the lock is let go. */
 inline call(rings) {
     rings = false;
+    take_in_if_none_waits();
     if
     :: !can_pick
     :: can_pick && searching -> found = true
     :: can_pick && !searching ->
         if
-        :: called == 0 && asleep > 0 -> asleep--; called++; rings = true
+        :: called == 0 && asleep > 0 -> asleep--; called++; set_calls(); rings = true
         :: else
         fi
     fi
@@ -175,6 +287,7 @@ inline call(rings) {
 /* `Book::ends_idle` */
 inline ends_idle(ends) {
     ends = false;
+    take_in();
     do
     :: !ends && !waits && running < workers && (workers > core || closed) ->
         workers--;
@@ -210,75 +323,118 @@ inline do_job(job) {
 
 proctype Worker(byte me) {
     byte job, seen;
-    bool rings, ends, holds, limited, was_called;
+    mtype came = ran;
+    bool rings, ends, holds, limited;
 
     /* `Crew::work` */
     atomic {
+        !locked;
         if
         :: len(firsts) > 0 -> firsts?job; goto do_it
-        :: else -> goto next
+        :: else -> goto turn
         fi
     }
 
 do_it:
     do_job(job);
-    atomic { finish(job); job = 0; goto next }
-
-    /* `Crew::next`, under the lock of before */
-    atomic {
-        skip;
-next:   skip;
-        pick(job);
-        if
-        :: job > 0 -> goto do_it
-        :: job == 0 && (searching || closed || holds_back) -> goto sleep
-        :: else -> searching = true; found = false
-        fi
-    }
-search:
     if
-    :: found
-    :: skip
-    fi;
-#ifdef SLEEPS_AFTER_ITS_SEARCH
-    atomic { searching = false; goto lie_down }
-#else
-    atomic { searching = false; goto sleep }
+    :: atomic { !locked; finish(job); job = 0; came = ran; goto turn }
+#ifdef ENDS
+    :: ended!job -> atomic { !locked -> job = 0; came = ran; goto turn }
 #endif
+    fi;
 
+    /* `Crew::next` of a worker that has run a job or was called, and `Crew::sleep` */
     atomic {
         skip;
-sleep:  skip;
+turn:   skip;
         pick(job);
+#ifndef WHO_IS_CALLED_CALLS_NOBODY
         if
-        :: job > 0 -> call(rings)
-        :: job == 0 && closed && !holds_back ->
+        :: came == was_called || (came == sleeps && job > 0) -> call(rings)
+        :: else
+        fi;
+#endif
+        if
+        :: job > 0 -> came = ran
+        :: job == 0 && came == sleeps && closed && !holds_back ->
             /* `Book::ends_closed` */
             ends_idle(ends);
 #ifndef ITS_WORKER_STAYS
             missing = missing + !ends;
 #endif
             goto leave
-        :: else -> goto lie_down
+        :: job == 0 && came == sleeps && !(closed && !holds_back) -> locked = true; came = lies_down
+        :: job == 0 && came != sleeps && (searching || closed || holds_back) -> came = sleeps
+        :: else -> searching = true; found = false; locked = true; came = searches
         fi
     }
-#ifndef WHO_IS_CALLED_CALLS_NOBODY
     if
-    :: rings -> wake_one()
+    :: rings -> wake_one(); rings = false
     :: !rings
     fi;
+    if
+    :: came == ran -> goto do_it
+    :: atomic { came == sleeps && !locked -> goto turn }
+    :: came == lies_down -> goto lie_down
+    :: came == searches
+    fi;
+
+    atomic { set_calls(); locked = false }
+    /* `Crew::search`: it ends with what comes in, or by its time. */
+    if
+    :: found
+    :: used > 0
+    :: skip
+    fi;
+    atomic {
+        !locked;
+        searching = false;
+#ifndef ITS_SEARCH_GOES_ON
+        set_calls();
 #endif
-    goto do_it;
+        came = sleeps;
+        goto turn
+    }
 
     /* `Crew::wait` */
     atomic {
         skip;
 lie_down:
+#ifdef TOLD_BEFORE_ITS_SLEEP
+        /* It tells the rule what came after its last look, and looks at the ring alone before it sleeps. */
+        take_in();
+        goto say_so
+    }
+    atomic {
+        skip;
+say_so: asleep++;
+        set_calls();
+        if
+        :: used > 0 ->
+#else
+        asleep++;
+        set_calls();
+        take_in_if_none_waits();
+        if
+#ifdef NO_LOOK_BEFORE_ITS_SLEEP
+        :: false ->
+#else
+        :: can_pick ->
+#endif
+#endif
+            asleep--;
+            set_calls();
+            locked = false;
+            came = was_called;
+            goto turn
+        :: else
+        fi;
         limited = (workers > core && !waits);
         holds = holds_back;
         seen = alarms;
-        asleep++;
         held = held + holds;
+        locked = false;
 lie_on: parked[me] = true
     }
     if
@@ -286,9 +442,10 @@ lie_on: parked[me] = true
     :: atomic { parked[me] && limited && late > 0 -> late--; parked[me] = false; ends = true }
     fi;
     atomic {
+        !locked;
         if
-        :: called > 0 -> called--; was_called = true
-        :: called == 0 && (alarms != seen || ends) -> asleep--; was_called = (alarms != seen)
+        :: called > 0 -> called--; came = was_called
+        :: called == 0 && (alarms != seen || ends) -> asleep--; came = (alarms != seen -> was_called : sleeps)
         :: else -> goto lie_on
         fi;
         ends = false;
@@ -296,37 +453,17 @@ lie_on: parked[me] = true
         holds = false;
         seen = 0;
         limited = false;
+        set_calls();
         if
-        :: was_called -> was_called = false
+        :: came == was_called -> goto turn
         :: else ->
             ends_idle(ends);
             if
             :: ends -> goto leave
-            :: else -> goto sleep
+            :: else -> goto turn
             fi
-        fi;
-        /* `Crew::next`, and then a call of the next one */
-        pick(job);
-        ends = (job == 0 && (searching || closed || holds_back));
-        if
-        :: job == 0 && !ends -> searching = true; found = false
-        :: else
-        fi;
-#ifdef WHO_IS_CALLED_CALLS_NOBODY
-        rings = false
-#else
-        call(rings)
-#endif
+        fi
     }
-    if
-    :: rings -> wake_one()
-    :: !rings
-    fi;
-    if
-    :: atomic { job > 0 -> goto do_it }
-    :: atomic { job == 0 && ends -> ends = false; goto sleep }
-    :: atomic { job == 0 && !ends -> goto search }
-    fi;
 
     atomic {
         skip;
@@ -339,6 +476,7 @@ leave:  threads--;
 /* `Crew::start_thread` of a thread that is counted, and `Crew::do_without`. */
 inline start_thread(place, job, rings) {
     atomic {
+        !locked;
         place = 0;
         do
         :: place < PLACES && taken[place] -> place++
@@ -353,6 +491,8 @@ inline start_thread(place, job, rings) {
     :: place == PLACES
     :: place < PLACES ->
         atomic {
+            !locked;
+            end_grant();
             threads--;
             missing++;
             if
@@ -362,7 +502,7 @@ inline start_thread(place, job, rings) {
             settle()
         }
         do
-        :: atomic { threads > 0 ->
+        :: atomic { !locked && threads > 0 ->
 #ifdef WITHOUT_A_THREAD_NOBODY_IS_CALLED
                 rings = false
 #else
@@ -370,7 +510,7 @@ inline start_thread(place, job, rings) {
 #endif
             }
             break
-        :: atomic { threads == 0 ->
+        :: atomic { !locked && threads == 0 ->
                 pick(job);
                 if
                 :: job == 0 -> rings = false; end_missing()
@@ -379,7 +519,7 @@ inline start_thread(place, job, rings) {
             }
             if
             :: job == 0 -> break
-            :: job > 0 -> do_job(job); atomic { finish(job); job = 0 }
+            :: job > 0 -> do_job(job); atomic { !locked; finish(job); job = 0 }
             fi
         od;
         if
@@ -390,14 +530,44 @@ inline start_thread(place, job, rings) {
 }
 
 /* `Crew::submit`, again and again. */
-proctype Submitter() {
+proctype Submitter(byte me) {
     byte place, job;
     bool rings, starts;
+#if RING > 0
+    bool calls;
+#endif
     do
     :: atomic { submitted < JOBS ->
             submitted++;
-            starts = false;
-            rings = false;
+            on_way++
+        }
+#if RING > 0
+        /* `Entrance::submit` */
+take:   if
+        :: atomic { granted > 0 ->
+                granted--;
+                place = (head + used) % RING;
+                owner[place] = me;
+                used++;
+                calls = calls_sleeper
+            }
+            atomic {
+                if
+                :: voided[me] -> voided[me] = false; place = 0; goto take
+                :: else -> written[place] = true; place = 0
+                fi
+            }
+            if
+            :: !calls -> goto submits
+            :: atomic { calls && !locked -> calls = false; goto call_one }
+            fi
+        :: granted == 0
+        fi;
+#endif
+        atomic {
+            !locked;
+            end_grant();
+            on_way--;
             if
             :: closed
             :: !closed && (workers < core || (len(queue) == QUEUE && workers < max)) ->
@@ -406,25 +576,29 @@ proctype Submitter() {
                 running++;
                 threads++;
                 firsts!accepted;
-                starts = true
+                starts = true;
+                grant()
             :: !closed && workers >= core && len(queue) < QUEUE ->
                 accepted++;
                 queue!accepted;
+                grant();
                 if
                 :: missing > 0 -> missing--; threads++; starts = true
-                :: else -> call(rings)
+                :: else ->
+call_one:           call(rings)
                 fi
             :: else
             fi
         }
         if
-        :: rings -> wake_one()
+        :: rings -> wake_one(); rings = false
         :: !rings
         fi;
         if
-        :: starts -> start_thread(place, job, rings)
+        :: starts -> starts = false; start_thread(place, job, rings)
         :: !starts
-        fi
+        fi;
+submits: skip
     :: atomic { submitted == JOBS -> break }
     od
 }
@@ -432,7 +606,7 @@ proctype Submitter() {
 #ifdef CLOSE
 /* `Crew::close` */
 proctype Closer() {
-    atomic { closed = true; end_missing(); alarms++; held = 0; settle() }
+    atomic { !locked; end_grant(); closed = true; end_missing(); alarms++; held = 0; settle() }
     found = true;
     wake_all()
 }
@@ -441,10 +615,12 @@ proctype Closer() {
 #ifdef SHRINK
 /* `Crew::resize` */
 proctype Operator() {
-    atomic { core = SHRINK; max = SHRINK; alarms++; held = 0 }
+    atomic { !locked; end_grant(); core = SHRINK; max = SHRINK; alarms++; held = 0 }
     wake_all();
 #ifdef GROW
     atomic {
+        !locked;
+        end_grant();
         core = CORE;
         max = MAX;
 #ifndef NOBODY_IS_CALLED_AT_A_RESIZE
@@ -462,7 +638,8 @@ proctype Operator() {
 #if JOINS > 0
 /* `Crew::join` */
 proctype Join(byte me) {
-    atomic { last[me] = accepted; left[me] = running + len(queue); joining[me] = true; settle() }
+    byte job;
+    atomic { !locked; take_ends(job); take_in(); last[me] = accepted; left[me] = running + len(queue); joining[me] = true; settle() }
     atomic { !joining[me] -> joined++ }
 }
 #endif
@@ -470,6 +647,7 @@ proctype Join(byte me) {
 /* Where nobody can take a step any more, each job has ended, each join has returned and each thread has left or sleeps. */
 proctype Monitor() {
     timeout;
+    assert(on_way == 0);
     assert(finished == accepted);
     assert(workers == threads + missing);
     assert(running == 0);
@@ -486,7 +664,7 @@ init {
     atomic {
         byte count = 0;
         do
-        :: count < SUBMITTERS -> run Submitter(); count++
+        :: count < SUBMITTERS -> run Submitter(count); count++
         :: else -> break
         od;
 #if JOINS > 0

@@ -2,23 +2,41 @@
 // says what is compared.
 import { spawnSync } from "child_process";
 import { readFileSync } from "fs";
-const [page, cases, resil, look] = process.argv.slice(2);
+import { heads, log as logOf, times } from "./page_texts.mjs";
+const [page, cases, resil, lookBuilt] = process.argv.slice(2);
 const html = readFileSync(page, "utf8");
 const part = (id) => new RegExp(`<script[^>]* id="${id}">([^<]*)<`).exec(html)[1];
-const { load, answer, commands, held } = new Function(`${/<script id="calls">([^]*?)<\/script>/.exec(html)[1]}
-  return { load, answer, commands, held: () => wasm.memory.buffer.byteLength };`)();
+const code = (id) => new RegExp(`<script id="${id}">([^]*?)</script>`).exec(html)[1];
+const { load, answer, commands, held, look, carry, headOf, headSaid, drawnLoad, recordsOf, text, bytes, sizes } = new Function(`${code("calls")}${code("logic")}
+  return { load, answer, commands, held: () => wasm.memory.buffer.byteLength, look, carry, headOf, headSaid, drawnLoad, recordsOf, text, bytes, sizes };`)();
 await load(part("module"));
 
 let state = 11;
 const below = (most) => (state = (Math.imul(state, 1664525) + 1013904223) >>> 0) % most;
 const mark = (isRight, said) => console.log(isRight ? "passed" : `failed: ${said.replaceAll("\n", " ")}`);
 
+// The page takes a mebibyte for each command, and the programs more for some.
+const most = 1048576;
+
 function compare(words, input, name) {
-  const program = ["replay", "audit"].includes(words) ? resil : look;
+  if (input.length > most) {
+    const { status, output } = answer(words, input);
+    return mark(status === 1 && text(output) === "refused input TooLong\n", `${words}, ${name}: ${status}, ${text(output)}`);
+  }
+  const program = ["replay", "audit"].includes(words) ? resil : lookBuilt;
   const ran = spawnSync(program, words.split(" "), { input, maxBuffer: 1 << 28 });
   const { status, output, said } = answer(words, input);
   const told = ran.stderr.toString();
   mark(ran.status === status && ran.stdout.equals(output) && told === said, `${words}, ${name}: ${status} not ${ran.status}; ${said} not ${told}`);
+  if (words === "stats" || words === "simulate") compareHead(words, input, ran, name);
+}
+
+// What is said of a head: it is refused as the program refuses it, and of a load it has the pools of the table.
+function compareHead(words, input, ran, name) {
+  const said = answer(words === "stats" ? "head" : "load head", input), line = ran.stdout.toString(), isRefused = /^refused (input|head) /.test(line);
+  const pools = (csv) => csv.trim().split("\n").slice(1).map((row) => row.split(",").slice(0, 3).join()).join(" ");
+  mark(isRefused ? said.status === 1 && text(said.output) === line : said.status === 0, `the head of ${words}, ${name}: ${said.status}, ${text(said.output)}`);
+  if (words === "simulate" && ran.status === 0) mark(pools(text(said.output)) === pools(line), `the pools of ${name}: ${text(said.output)}`);
 }
 
 for (const line of readFileSync(`${cases}/names`, "utf8").trim().split("\n")) {
@@ -33,7 +51,7 @@ for (const line of readFileSync(`${cases}/names`, "utf8").trim().split("\n")) {
   compare(commands[below(commands.length)], input, name);
 }
 
-const head = "core = 4\nmax = 8\nqueue = 100\n---\n", most = 1048576;
+const head = "core = 4\nmax = 8\nqueue = 100\n---\n";
 const filled = (start, line) => {
   const lines = [start];
   for (let i = 1, left = most - start.length; (left -= line(i).length) >= 0; i++) lines.push(line(i));
@@ -51,3 +69,31 @@ for (let round = 1; round <= 12; round++) {
   if (round === 2) first = held();
 }
 mark(held() === first, `twelve rounds of a mebibyte take ${held()} bytes, two ${first}`);
+
+// The page's own script, without its fields.
+const want = (name, got, wanted) => mark(wanted instanceof RegExp ? wanted.test(got) : got === wanted, `${name}: ${JSON.stringify(got)}, not ${wanted}`);
+for (const [start, cores, values, called = ""] of heads) {
+  const whole = `${start}---\n${logOf(cores)}`, seen = look(bytes(whole)), touched = headOf(sizes, values.split(","), called) + `---\n${logOf(cores)}`;
+  want(`the verdict under ${start}`, text(seen.verdict.output), "legal\n");
+  want(`the sizes of ${start}`, seen.said.values.join(), values);
+  want(`the name of ${start}`, seen.said.name, called);
+  want(`the replies under ${start}`, seen.replies.count, 20);
+  want(`the same by the fields, ${start}`, JSON.stringify([headSaid(bytes(touched)), text(look(bytes(touched)).verdict.output)]), JSON.stringify([seen.said, "legal\n"]));
+}
+const named = 'a "b" \\ \t\n\x7f\u00e9 \u2028';
+want("a name that is written and read", headSaid(bytes(`${headOf(sizes, ["1", "2", "3"], named)}---\n`)).name, named);
+want("empty lines", look(bytes(`core = 1\nmax = 1\nqueue = 1\n---\n\n\r\n${logOf(1).replaceAll("\n", "\n\n")}`)).fault, 3);
+want("records", JSON.stringify(recordsOf('\uFEFF\n"a",b"c,"d""e"f\r\r\n\n,\n"x\n,y')), '[["a","b\\"c","d\\"ef"],["",""],["x\\n,y"]]');
+const late = look(bytes(`core = 1\nmax = 1\nqueue = 2990\n---\nevent,caller,number,reply\n${Array.from({ length: 5000 }, (_, i) => `submit,1,${i + 1},${i ? "queued" : "core"}\n`).join("")}`));
+want("a late fault", [late.fault, late.replies.from, late.replies.records.length, late.replies.count, late.replies.records[999][2]].join(), "2992,1992,2000,5000,2992");
+const timed = look(bytes(`core = 1\nmax = 1\nqueue = 1\n---\n${times}`));
+want("a log with times", [timed.hasTimes, timed.isLoad, /^run_median,,(\d+)/m.exec(timed.numbers)[1]].join(), "true,false,10");
+const other = look(bytes(`core = 1\nmax = [1, 2]\ntakes = 7\n---\n${times}`));
+want("a log for other pools", [other.isLoad, other.said.pools.join(" "), other.said.idleFor, other.said.takes, other.verdict.status].join("; "), "true; 1,1,100 1,2,100; 20000; 7; 0");
+const many = drawnLoad(1000, 3, 20), count = many.trim().split("\n").length - 1, ran = carry(bytes(`core = 2\nmax = [2, 4]\n---\n${many}`), 1);
+const [, shown, all] = /first (\d+) of (\d+) jobs/.exec(ran.line) ?? [0, count, count];
+want("a load of some 20,000 jobs", [ran.verdict.status, ran.chosen, Number(all) === count, shown > 8000 && shown <= count, /^<svg/.test(ran.picture)].join(), "0,1,true,true,true");
+want("the pool that its picture is of", ran.line, /^of 2 pools the picture is of number 2: core = 2, max = 4, queue = 100\n/);
+const long = look(bytes(`core = 1\nmax = 1\n---\n${jobs.toString().slice(head.length)}`));
+want("rows whose history is too long", [long.verdict.status, long.more > 0, text(long.verdict.output)].join(), /^0,(true|false),legal\n$/);
+want("the longest load", carry(bytes(`core = 1\nmax = 1\n---\n${drawnLoad(1e9, 1e6, 60)}`), 0).table.split("\n")[1].split(",")[3], "50000");

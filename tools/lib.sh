@@ -28,6 +28,11 @@ make_path() {
     rm -f "$1"/{rt,rt-*,rattle,rattle-*}
 }
 
+# The functions of the library that headers declare, a name a line. What is `static inline` there is in no library.
+declared_in() {
+    grep -ohE '^(RESIL_MUST_USE )?(void|size_t|uint[0-9]+_t) resil_[a-z_]+\(' "$@" | sed 's/.* //; s/($//' | LC_ALL=C sort -u
+}
+
 # Runs a command in a group of processes of its own, which `stop` ends with all that it has started.
 run_job() {
     set -m
@@ -37,8 +42,11 @@ run_job() {
     wait "$job"
 }
 
+# What was started has ended before the folder that it writes into goes, or within five seconds.
 stop() {
+    local left=50
     [ -z "$job" ] || kill -TERM -- "-$job" 2>/dev/null
+    while [ -n "$job" ] && [ $((left -= 1)) -gt 0 ] && kill -0 -- "-$job" 2>/dev/null; do sleep 0.1; done
     echo "$me: interrupted" >&2
     exit 1
 }
@@ -193,4 +201,9 @@ take_program() {
         top=resil_look
         program=${RESIL_LOOK_BUILT:-}
     fi
+}
+
+# The launcher as the archive has it, without what only a repository has.
+pack_launcher() {
+    sed '/^# -- What only a repository has/,/^# -- The end of what/d' resil >"$1" && chmod +x "$1"
 }

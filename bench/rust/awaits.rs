@@ -1,4 +1,4 @@
-//! Permits that tasks of tokio await and give back: `ours TASKS PAIRS` by `Bulkhead::acquire`, `tokio` by its `acquire_owned`. One
+//! Permits that tasks of tokio await and give back: `ours TASKS PAIRS` by `Bulkhead::acquire_owned`, `tokio` by its `acquire_owned`. One
 //! task has a permit for itself; more of them run on four threads, an eighth as many permits as tasks, and each lets others run
 //! while it has one.
 mod rounds;
@@ -49,7 +49,7 @@ fn main() {
         if name == "ours" {
             let max = permits.try_into().expect("some permits");
             let bulkhead = Arc::new(Bulkhead::new("backend", max).expect("a bulkhead with its memory"));
-            round(tasks, each, move || bulkhead.acquire());
+            round(tasks, each, move || bulkhead.acquire_owned());
         } else {
             let semaphore = Arc::new(Semaphore::new(permits));
             round(tasks, each, move || {

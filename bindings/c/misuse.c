@@ -93,7 +93,8 @@ static void freed_while_it_holds(void) {
     resil_permit_pass first = {0}, second = {0};
     resil_pool_job job;
     holds(resil_pool_new(1, 2, 1, 1, 3, &pool) == RESIL_POOL_MADE, "a pool");
-    for (uint64_t number = 1; number <= 3; number++) resil_pool_submit(pool, &pool, 1, number, number);
+    for (uint64_t number = 1; number <= 3; number++)
+        holds(resil_pool_submit(pool, &pool, 1, number, number) <= RESIL_POOL_EXTRA, "a job");
     holds(resil_pool_pick(pool, &pool, &job) == RESIL_POOL_PICKED_OWN && job.work == 1, "the first job");
     resil_pool_free(pool);
     holds(resil_permit_new(2, &first) == RESIL_PERMIT_MADE, "a first pass");

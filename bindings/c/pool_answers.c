@@ -95,8 +95,9 @@ static void last_events(void) {
     holds(resil_pool_new(1, 1, 1, 1, 2, &two) == RESIL_POOL_MADE, "a pool with two events");
     holds(resil_pool_event_count(two, &two) == 0 && resil_pool_lost(two, &two) == 0, "none was yet");
     for (uint64_t number = 1; number <= 3; number++) {
-        resil_pool_submit(none, &none, 1, number, 0);
-        resil_pool_submit(two, &two, 1, number, 0);
+        const uint8_t reply = number == 3 ? RESIL_POOL_FULL : number == 2 ? RESIL_POOL_QUEUED : RESIL_POOL_CORE;
+        holds(resil_pool_submit(none, &none, 1, number, 0) == reply, "a pool without events");
+        holds(resil_pool_submit(two, &two, 1, number, 0) == reply, "a pool with two events");
     }
     holds(resil_pool_event_count(none, &none) == 0 && resil_pool_lost(none, &none) == 3, "all are lost");
     holds(resil_pool_event(none, &none, 0, &event) == RESIL_POOL_NO_EVENT, "the first of none");

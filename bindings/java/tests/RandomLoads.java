@@ -24,11 +24,20 @@ public final class RandomLoads {
             thread.setUncaughtExceptionHandler((t, thrown) -> { });
             return thread;
         };
-        pool = new RecordedThreadPoolExecutor(core, core + random.nextInt(5), random.nextInt(4), TimeUnit.MILLISECONDS, 1 + random.nextInt(40),
-            threads, handler(seed), folder, "load-" + seed, 0);
+        pool = new RecordedThreadPoolExecutor(core, core + random.nextInt(5), random.nextInt(4), TimeUnit.MILLISECONDS,
+                random.nextInt(6) == 0 ? Integer.MAX_VALUE : 1 + random.nextInt(40), threads, handler(seed), folder, "load-" + seed, 0, 0) {
+            @Override protected void beforeExecute(Thread thread, Runnable task) { fail(task); }
+            @Override protected void afterExecute(Runnable task, Throwable thrown) { fail(task); }
+        };
     }
 
-    /** The JDK's four by turns, of which the last one is written out, since it calls execute. */
+    /** What a hook does: at times it throws. It gets the callers' own tasks. */
+    private static void fail(Runnable task) {
+        if (task.getClass().getName().startsWith("RecordedThreadPoolExecutor")) System.out.println("a hook gets " + task);
+        if (ThreadLocalRandom.current().nextInt(60) == 0) throw new IllegalStateException("a hook that throws");
+    }
+
+    /** The JDK's four by turns, of which the last one is written out, since it calls execute; and two that wait for a place. */
     private RejectedExecutionHandler handler(long seed) {
         RejectedExecutionHandler jdk = List.of(new ThreadPoolExecutor.AbortPolicy(), new ThreadPoolExecutor.CallerRunsPolicy(),
             new ThreadPoolExecutor.DiscardPolicy(), (RejectedExecutionHandler) (task, to) -> {
@@ -36,11 +45,18 @@ public final class RandomLoads {
                 to.getQueue().poll();
                 calls.incrementAndGet();
                 to.execute(task);
-            }).get((int) (seed % 4));
+            }, (task, to) -> put(to, () -> {
+                to.getQueue().put(task);
+                return true;
+            }), (task, to) -> put(to, () -> to.getQueue().offer(task, 2, TimeUnit.MILLISECONDS))).get((int) (seed % 6));
         return (task, to) -> {
             rejected.incrementAndGet();
             jdk.rejectedExecution(task, to);
         };
+    }
+
+    private void put(ThreadPoolExecutor to, Callable<Boolean> step) {
+        try { if (!to.isShutdown() && step.call()) calls.incrementAndGet(); } catch (Exception never) { throw new IllegalStateException(never); }
     }
 
     private void submit(Random random, List<Future<?>> futures) {

@@ -1,9 +1,16 @@
 import java.io.File;
+import java.io.IOException;
+import java.lang.ref.WeakReference;
+import java.lang.reflect.*;
+import java.net.*;
 import java.nio.file.*;
 import java.util.*;
 import java.util.concurrent.*;
-import java.util.concurrent.ThreadPoolExecutor.AbortPolicy;
+import java.util.concurrent.ThreadPoolExecutor.*;
 import java.util.concurrent.atomic.AtomicInteger;
+import java.util.concurrent.locks.LockSupport;
+import java.util.function.BooleanSupplier;
+import java.util.logging.*;
 
 /**
  * What a recorded pool refuses, and what ends its record and never the pool: {@code FOLDER}, in a process whose files may have 100,000
@@ -11,6 +18,8 @@ import java.util.concurrent.atomic.AtomicInteger;
  */
 public final class RecorderFaults {
     private static final ThreadFactory THREADS = Thread::new;
+    private static final Logger LOGGER = Logger.getLogger("RecordedThreadPoolExecutor"); // which else is collected
+    private static final List<String> TOLD = Collections.synchronizedList(new ArrayList<>());
     private static Path folder;
 
     private interface Step { void run() throws Exception; }
@@ -24,9 +33,7 @@ public final class RecorderFaults {
         demand(pool.awaitTermination(30, TimeUnit.SECONDS), "it hangs");
     }
 
-    private static void demand(boolean holds, String told) {
-        if (!holds) throw new IllegalStateException(told);
-    }
+    private static void demand(boolean holds, String told) { if (!holds) throw new IllegalStateException(told); }
 
     private static void tell(String name, Step step) {
         try {
@@ -70,19 +77,14 @@ public final class RecorderFaults {
         refuses(IllegalArgumentException.class, () -> open(folder, "none", 1, 65, 1, 0));
         refuses(IllegalArgumentException.class, () -> open(folder, "none", 2, 1, 1, 0));
         refuses(IllegalArgumentException.class, () -> open(folder, "none", 1, 1, 0, 0));
-        refuses(IllegalArgumentException.class, () -> open(folder, "none", 1, 1, 65_537, 0));
         refuses(IllegalArgumentException.class, () -> open(folder, "../none", 1, 1, 1, 0));
         RecordedThreadPoolExecutor pool = open(folder, "refused", 1, 64, 65_536, 0);
         refuses(IllegalArgumentException.class, () -> pool.setCorePoolSize(0));
         refuses(IllegalArgumentException.class, () -> pool.setCorePoolSize(65));
         refuses(IllegalArgumentException.class, () -> pool.setMaximumPoolSize(65));
         refuses(UnsupportedOperationException.class, () -> pool.allowCoreThreadTimeOut(true));
-        refuses(UnsupportedOperationException.class, () -> pool.getQueue().put(() -> { }));
-        refuses(UnsupportedOperationException.class, () -> pool.getQueue().offer(() -> { }));
-        refuses(UnsupportedOperationException.class, () -> pool.getQueue().offer(() -> { }, 1, TimeUnit.SECONDS));
-        refuses(UnsupportedOperationException.class, () -> pool.getQueue().take());
-        refuses(UnsupportedOperationException.class, () -> pool.getQueue().poll(1, TimeUnit.SECONDS));
         refuses(NullPointerException.class, () -> pool.execute(null));
+        refuses(NullPointerException.class, () -> pool.getQueue().put(null));
         tell("nothing of a refusal is left", () -> {
             pool.allowCoreThreadTimeOut(false);
             demand(runs(pool, 10) == 10 && pool.endRecord() == null, "the record ended");
@@ -109,15 +111,14 @@ public final class RecorderFaults {
         });
         tell("a file that is gone", () -> {
             RecordedThreadPoolExecutor pool = open(folder, "gone", 1, 2, 4, 0);
+            eventually(() -> has("gone-00001.csv", "core"), "there is no file");
             Files.delete(folder.resolve("gone-00001.csv"));
             demand(runs(pool, 500) == 500, "tasks are lost");
             demand(pool.endRecord().contains("isn't as it was left") && files("gone").isEmpty(), "endRecord doesn't tell, or there is a file");
         });
         tell("the end of a pool", () -> {
             runs(open(folder, "whole", 1, 2, 4, 0), 100);
-            Path file = folder.resolve("whole-00001.csv");
-            for (int i = 0; i < 1000 && !Files.readString(file).contains("\nidle"); i++) Thread.sleep(10);
-            demand(Files.readString(file).contains("\nidle"), "the rest isn't written");
+            eventually(() -> has("whole-00001.csv", "\nidle"), "the rest isn't written");
         });
         tell("the end of a record", () -> {
             RecordedThreadPoolExecutor pool = open(folder, "ended", 1, 2, 4, 0);
@@ -126,12 +127,17 @@ public final class RecorderFaults {
             long size = Files.size(folder.resolve("ended-00001.csv"));
             demand(runs(pool, 50) == 51 && Files.size(folder.resolve("ended-00001.csv")) == size, "it goes on, or tasks are lost");
         });
+        tell("why a record ended is told once a pool", () -> {
+            eventually(() -> TOLD.stream().anyMatch(line -> line.contains("pool gone in")), "it isn't told");
+            demand(TOLD.stream().filter(line -> line.contains("pool gone in")).count() == 1, "told is " + TOLD);
+            demand(TOLD.stream().noneMatch(line -> line.contains("pool ended in")), "told is " + TOLD);
+        });
     }
 
     /** A pool of one thread that is held, with three tasks in its queue. */
     private static RecordedThreadPoolExecutor held(String name, int keep, CountDownLatch gate, List<Runnable> tasks) {
         RecordedThreadPoolExecutor pool = open(folder, name, 1, 1, 8, keep);
-        pool.execute(() -> { try { gate.await(); } catch (InterruptedException ended) { Thread.currentThread().interrupt(); } });
+        pool.execute(() -> hold(gate));
         for (int i = 0; i < 3; i++) tasks.add(new Thread());
         for (Runnable task : tasks) pool.execute(task);
         return pool;
@@ -155,7 +161,7 @@ public final class RecorderFaults {
             end(pool);
             demand(pool.getCompletedTaskCount() == 1 && pool.endRecord() == null, "the record ended");
         });
-        tell("the last files are kept, and counted on from", () -> {
+        tell("each pool keeps its last files, and takes numbers that are free", () -> {
             for (int round = 0; round < 2; round++) {
                 CountDownLatch gate = new CountDownLatch(1);
                 RecordedThreadPoolExecutor pool = held("kept", 3, gate, new ArrayList<>());
@@ -164,7 +170,8 @@ public final class RecorderFaults {
                 end(pool);
                 demand(pool.endRecord() == null, "the record ended");
             }
-            demand(files("kept").equals(List.of("kept-00006.csv", "kept-00007.csv", "kept-00008.csv")), "there are " + files("kept"));
+            demand(files("kept").equals(List.of("kept-00002.csv", "kept-00003.csv", "kept-00004.csv", "kept-00005.csv", "kept-00006.csv",
+                "kept-00007.csv")), "there are " + files("kept"));
         });
         tell("more callers than have a number", () -> {
             RecordedThreadPoolExecutor pool = open(folder, "callers", 1, 1, 2000, 0);
@@ -192,6 +199,173 @@ public final class RecorderFaults {
             return thread;
         });
         return pool;
+    }
+
+    private static void eventually(BooleanSupplier holds, String told) throws InterruptedException {
+        for (int i = 0; i < 3000 && !holds.getAsBoolean(); i++) Thread.sleep(10);
+        demand(holds.getAsBoolean(), told);
+    }
+
+    private static void hold(CountDownLatch gate) {
+        try { gate.await(); } catch (InterruptedException ended) { Thread.currentThread().interrupt(); }
+    }
+
+    private static boolean has(String file, String text) {
+        try { return Files.readString(folder.resolve(file)).contains(text); } catch (IOException none) { return false; }
+    }
+
+    private static void writing() {
+        tell("a pool that no thread can be started for", () -> { // the first pool here
+            ThreadFactory usual = RecordedThreadPoolExecutor.writers;
+            RecordedThreadPoolExecutor.writers = work -> { throw new OutOfMemoryError("no thread"); };
+            RecordedThreadPoolExecutor pool = open(folder, "alone", 1, 2, 4, 0);
+            for (int i = 0; i < 300; i++) pool.submit(() -> { }).get();
+            demand(Files.size(folder.resolve("alone-00001.csv")) > 8000, "nothing is written");
+            RecordedThreadPoolExecutor.writers = usual;
+            demand(runs(pool, 10) == 310 && pool.endRecord() == null, "the record ended");
+        });
+        tell("a quiet pool", () -> {
+            RecordedThreadPoolExecutor pool = open(folder, "quiet", 1, 2, 4, 0);
+            pool.execute(() -> { });
+            eventually(() -> has("quiet-00001.csv", "\nfinish,1,1,"), "it isn't written");
+            end(pool);
+        });
+        tell("the thread that writes goes, and so can the class", () -> {
+            eventually(() -> Thread.getAllStackTraces().keySet().stream().noneMatch(t -> t.getName().equals("RecordedThreadPoolExecutor")), "it stays");
+            URL[] classes = {RecorderFaults.class.getProtectionDomain().getCodeSource().getLocation()};
+            URLClassLoader loader = new URLClassLoader(classes, ClassLoader.getPlatformClassLoader());
+            WeakReference<ClassLoader> gone = new WeakReference<>(loader);
+            ThreadPoolExecutor pool = (ThreadPoolExecutor) loader.loadClass("RecordedThreadPoolExecutor")
+                .getConstructor(int.class, int.class, long.class, TimeUnit.class, int.class, Path.class, String.class)
+                .newInstance(1, 2, 1, TimeUnit.SECONDS, 4, folder, "dropped");
+            demand(runs(pool, 100) == 100, "a task isn't run");
+            pool = null;
+            loader = null;
+            eventually(() -> {
+                System.gc();
+                return gone.get() == null;
+            }, "the class stays");
+            demand(has("dropped-00001.csv", "\nidle"), "the rest isn't written");
+        });
+        tell("a disk that is too slow", () -> {
+            ThreadFactory usual = RecordedThreadPoolExecutor.writers;
+            CountDownLatch gate = new CountDownLatch(1);
+            RecordedThreadPoolExecutor.writers = work -> new Thread(() -> {
+                hold(gate);
+                work.run();
+            });
+            RecordedThreadPoolExecutor pool = open(folder, "slow", 1, 2, 1, 0);
+            for (int i = 0; i < 150_000; i++) try { pool.execute(() -> { }); } catch (RejectedExecutionException full) { Thread.onSpinWait(); }
+            RecordedThreadPoolExecutor.writers = usual;
+            gate.countDown();
+            demand("4 MiB of it wait for the disk".equals(pool.endRecord()), "the record goes on");
+            end(pool);
+        });
+        tell("the bytes of its files are bounded, and one stays", () -> {
+            for (int bytes : new int[] {2000, 1}) {
+                RecordedThreadPoolExecutor pool = new RecordedThreadPoolExecutor(1, 1, 1, TimeUnit.SECONDS, 9, THREADS, new AbortPolicy(), folder, "bytes" + bytes, 0, bytes);
+                CountDownLatch gate = new CountDownLatch(1);
+                pool.execute(() -> hold(gate));
+                for (int i = 0; i < 30; i++) demand(pool.getQueue().offer(() -> { }) && pool.getQueue().poll() != null, "no place");
+                gate.countDown();
+                end(pool);
+                demand(pool.endRecord() == null, "the record ended");
+                long sum = 0;
+                for (String file : files("bytes" + bytes)) sum += Files.size(folder.resolve(file));
+                demand(bytes == 1 ? files("bytes1").size() == 1 : sum > 1000 && sum <= bytes, "there are " + files("bytes" + bytes) + " with " + sum);
+            }
+        });
+        tell("two pools of one name", () -> {
+            RecordedThreadPoolExecutor one = open(folder, "twin", 1, 1, 4, 0), other = open(folder, "twin", 1, 1, 4, 0);
+            demand(runs(one, 10) + runs(other, 10) == 20 && one.endRecord() == null && other.endRecord() == null, "a record ended");
+            demand(files("twin").equals(List.of("twin-00001.csv", "twin-00002.csv")), "there are " + files("twin"));
+        });
+        tell("a record that begins anew", () -> {
+            RecordedThreadPoolExecutor pool = open(folder, "anew", 1, 1, 4, 0);
+            pool.submit(() -> { }).get();
+            pool.beginRecord();
+            demand(pool.endRecord() == null, "the record ended");
+            pool.submit(() -> { }).get();
+            pool.beginRecord();
+            demand(runs(pool, 5) == 7 && pool.endRecord() == null, "it doesn't go on");
+            demand(files("anew").size() == 2 && has("anew-00002.csv", ": beginRecord was called.\n"), "there are " + files("anew"));
+        });
+    }
+
+    /** Ends the program at once, without a shutdown. */
+    private static void exit() throws InterruptedException {
+        RecordedThreadPoolExecutor pool = open(folder, "exit", 1, 2, 400, 0);
+        CountDownLatch ran = new CountDownLatch(300);
+        for (int i = 0; i < 300; i++) pool.execute(ran::countDown);
+        ran.await();
+        System.exit(0);
+    }
+
+    private static void hooks() {
+        tell("hooks get the callers' own tasks, without the lock", () -> {
+            List<Object> seen = Collections.synchronizedList(new ArrayList<>());
+            AtomicInteger turn = new AtomicInteger();
+            RecordedThreadPoolExecutor pool = new RecordedThreadPoolExecutor(1, 1, 1, TimeUnit.SECONDS, 9, THREADS, new DiscardPolicy(), folder, "hooks", 0) {
+                private void see(Object what) throws RuntimeException {
+                    seen.add(what);
+                    Thread other = new Thread(() -> getQueue().peek()); // which takes the lock
+                    other.start();
+                    try { other.join(20_000); } catch (InterruptedException never) { throw new IllegalStateException(never); }
+                    if (other.isAlive()) seen.add("it has the lock");
+                }
+                @Override protected void beforeExecute(Thread thread, Runnable task) {
+                    see(task);
+                    if (turn.incrementAndGet() == 2) throw new IllegalStateException("not this one");
+                }
+                @Override protected void afterExecute(Runnable task, Throwable thrown) {
+                    see(task);
+                    if (turn.get() == 3 && thrown == null) throw new IllegalStateException("a hook that throws");
+                }
+                @Override protected void terminated() { see("terminated"); }
+            };
+            pool.setThreadFactory(task -> {
+                Thread thread = new Thread(task);
+                thread.setUncaughtExceptionHandler((t, thrown) -> { });
+                return thread;
+            });
+            Runnable task = () -> seen.add("runs");
+            for (int i = 0; i < 4; i++) pool.execute(task);
+            end(pool);
+            demand(pool.getCompletedTaskCount() == 4 && pool.endRecord() == null, "a task isn't run, or the record ended");
+            demand(seen.equals(List.of(task, "runs", task, task, task, "runs", task, task, task, "runs", task, "terminated")), "seen is " + seen);
+            String text = Files.readString(folder.resolve("hooks-00001.csv"));
+            demand(text.split("\nfinish,").length == 5 && text.split("\ntake,").length == 4, "it has " + text);
+        });
+        tell("every method of the JDK's pool is this one's", () -> {
+            for (Method method : ThreadPoolExecutor.class.getDeclaredMethods())
+                if (Modifier.isPublic(method.getModifiers())) RecordedThreadPoolExecutor.class.getDeclaredMethod(method.getName(), method.getParameterTypes());
+        });
+    }
+
+    private static void puts() {
+        tell("tasks that other hands put", () -> {
+            CountDownLatch gate = new CountDownLatch(1);
+            RecordedThreadPoolExecutor pool = open(folder, "puts", 2, 2, 2, 0);
+            BlockingQueue<Runnable> queue = pool.getQueue();
+            queue.put(() -> { });                                                             // without a thread the record ends
+            pool.execute(() -> hold(gate));                                                   // and begins anew
+            demand(queue.offer(() -> { }, 1, TimeUnit.MILLISECONDS), "there is a place");      // below the core size: a new file
+            pool.execute(() -> hold(gate));
+            while (queue.size() < 2) queue.add(() -> { });
+            demand(!queue.offer(() -> { }) && !queue.offer(() -> { }, 1, TimeUnit.MILLISECONDS), "there is no place");
+            AtomicInteger interrupted = new AtomicInteger();
+            Thread waits = new Thread(() -> { try { queue.put(() -> { }); } catch (InterruptedException ended) { interrupted.incrementAndGet(); } });
+            waits.start();
+            waits.interrupt();
+            waits.join(20_000);
+            demand(interrupted.get() == 1, "a full queue takes a task, or isn't interrupted");
+            demand(queue.poll(1, TimeUnit.SECONDS) != null && queue.take() != null && queue.poll(1, TimeUnit.MILLISECONDS) == null, "it gives others");
+            gate.countDown();
+            end(pool);
+            queue.put(() -> { }); // nobody runs it
+            demand("tasks wait, and the pool has no thread".equals(pool.endRecord()), "the record goes on");
+            demand(has("puts-00002.csv", ": a thread came.\n"), "there are " + files("puts"));
+        });
     }
 
     /** Waits until so many do, or a second. */
@@ -239,7 +413,7 @@ public final class RecorderFaults {
         tell("a step that throws when it has begun", () -> {
             RecordedThreadPoolExecutor pool = givenThreads("thrown", 1, 4, 9, "+.+.");
             CountDownLatch gate = new CountDownLatch(1);
-            pool.execute(() -> { try { gate.await(); } catch (InterruptedException ended) { Thread.currentThread().interrupt(); } });
+            pool.execute(() -> hold(gate));
             for (int i = 0; i < 5; i++) pool.execute(() -> { });
             try { pool.setCorePoolSize(3); } catch (OutOfMemoryError none) { Thread.yield(); }
             try { pool.prestartAllCoreThreads(); } catch (OutOfMemoryError none) { Thread.yield(); }
@@ -258,8 +432,17 @@ public final class RecorderFaults {
         });
     }
 
-    public static void main(String[] args) {
+    public static void main(String[] args) throws InterruptedException {
         folder = Path.of(args[0]);
+        if (args.length > 1) exit();
+        LOGGER.addHandler(new Handler() {
+            @Override public void publish(LogRecord told) { TOLD.add(told.getMessage()); }
+            @Override public void flush() { TOLD.size(); }
+            @Override public void close() { TOLD.size(); }
+        });
+        writing();
+        puts();
+        hooks();
         refusals();
         faults();
         hands();

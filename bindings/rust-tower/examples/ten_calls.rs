@@ -17,8 +17,8 @@ async fn counts(mut calls: JoinSet<Answer>) -> Result<(u32, u32), Box<dyn Error>
     while let Some(call) = calls.join_next().await {
         match call? {
             Ok(()) => answered += 1,
-            Err(CallError::Full | CallError::Closed) => refused += 1,
             Err(CallError::Failed(error)) => return Err(error.into()),
+            Err(_) => refused += 1,
         }
     }
     println!("{answered} answered, {refused} refused");

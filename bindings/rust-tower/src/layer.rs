@@ -9,6 +9,7 @@ use tower_layer::Layer;
 /// Of the three that there are, [`queueing`](BulkheadLayer::queueing) makes calls wait, [`new`](BulkheadLayer::new) refuses what finds
 /// no permit, and [`waiting`](BulkheadLayer::waiting) takes a permit before a call is there.
 #[derive(Debug, Clone)]
+#[must_use = "a layer does nothing before it is put round a service"]
 pub struct BulkheadLayer {
     bulkhead: Arc<Bulkhead>,
     waits: bool,
@@ -16,6 +17,14 @@ pub struct BulkheadLayer {
 
 impl BulkheadLayer {
     /// A layer over this bulkhead, which may also be used elsewhere.
+    ///
+    /// ```
+    /// # use {resil::Bulkhead, resil_tower::BulkheadLayer, std::sync::Arc};
+    /// # let backend = Arc::new(Bulkhead::new("backend", 25)?);
+    /// // At most 25 calls at a time; the others are refused at once.
+    /// let layer = BulkheadLayer::new(Arc::clone(&backend));
+    /// # Ok::<(), resil::BulkheadError>(())
+    /// ```
     pub fn new(bulkhead: Arc<Bulkhead>) -> BulkheadLayer {
         BulkheadLayer {
             bulkhead,
@@ -29,6 +38,13 @@ impl BulkheadLayer {
     /// **What is ready keeps its permit, whether a call follows or not.** A server of hyper asks whether its service is ready before
     /// it reads a request, so that idle connections take all permits, and nobody else is served; and tower's `Timeout` outside
     /// doesn't bound this wait. Behind a server [`queueing`](BulkheadLayer::queueing) is the one to take.
+    ///
+    /// ```
+    /// # use {resil::Bulkhead, resil_tower::BulkheadLayer, std::sync::Arc};
+    /// # let backend = Arc::new(Bulkhead::new("backend", 25)?);
+    /// let layer = BulkheadLayer::waiting(Arc::clone(&backend));
+    /// # Ok::<(), resil::BulkheadError>(())
+    /// ```
     pub fn waiting(bulkhead: Arc<Bulkhead>) -> BulkheadLayer {
         BulkheadLayer {
             bulkhead,

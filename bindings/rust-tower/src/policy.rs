@@ -72,6 +72,13 @@ impl<S, Errors, Values, Pause> RetryPolicy<S, Errors, Values, Pause> {
 
 impl<S, Errors, Values, Pause, Cloning> RetryPolicy<S, Errors, Values, Pause, Cloning> {
     /// The same, which copies requests by this function, also those that aren't `Clone`. One that it doesn't copy is sent once.
+    ///
+    /// ```
+    /// # use {resil::Retry, resil_tower::RetryPolicy};
+    /// struct Request(u32);
+    /// let policy = RetryPolicy::new(Retry::new(), tokio::time::sleep)
+    ///     .cloning(|request: &Request| Some(Request(request.0)));
+    /// ```
     pub fn cloning<Request, C>(self, cloning: C) -> RetryPolicy<S, Errors, Values, Pause, C>
     where
         C: Fn(&Request) -> Option<Request>,
@@ -85,6 +92,13 @@ impl<S, Errors, Values, Pause, Cloning> RetryPolicy<S, Errors, Values, Pause, Cl
     }
 
     /// The wait before the next attempt of this call; none where the outcome is the answer.
+    ///
+    /// ```
+    /// # use {resil::Retry, resil_tower::RetryPolicy};
+    /// let mut policy = RetryPolicy::new(Retry::new(), tokio::time::sleep);
+    /// // What succeeds is the answer.
+    /// assert!(policy.again(Ok::<_, &()>(&42)).is_none());
+    /// ```
     pub fn again<T, E, F>(&mut self, outcome: Result<&T, &E>) -> Option<F>
     where
         S: Fn(Duration) -> F,

@@ -1,7 +1,7 @@
 //! The layer whose calls wait.
 use crate::{BulkheadLayer, CallError, ResponseFuture};
 use pin_project_lite::pin_project;
-use resil::{Acquire, Bulkhead, NoPermit, OwnedPermit};
+use resil::{Acquire, Bulkhead, OwnedPermit};
 use std::fmt;
 use std::future::{self, Future, Pending};
 use std::pin::Pin;
@@ -15,9 +15,16 @@ impl BulkheadLayer {
     /// A layer over this bulkhead whose services are ready at once, and whose calls wait for a permit, first come, first served by
     /// their first polls. While nobody calls, nothing is held: an idle connection has neither a permit nor a place in the row.
     ///
-    /// A call waits as long as there is no permit, unless its future is dropped, as by tower's `Timeout` outside, or the layer is
+    /// A call waits as long as there is no permit and the inner service isn't ready, unless its future is dropped, as by tower's `Timeout` outside, or the layer is
     /// told [how long](QueueingLayer::longest) a call may wait, or [how many](QueueingLayer::most_waiting). The inner service is
     /// asked whether it is ready once there is a permit, so each call has a copy of it.
+    ///
+    /// ```
+    /// # use {resil::Bulkhead, resil_tower::BulkheadLayer, std::sync::Arc};
+    /// # let backend = Arc::new(Bulkhead::new("backend", 25)?);
+    /// let layer = BulkheadLayer::queueing(Arc::clone(&backend));
+    /// # Ok::<(), resil::BulkheadError>(())
+    /// ```
     pub fn queueing(bulkhead: Arc<Bulkhead>) -> QueueingLayer {
         QueueingLayer {
             bulkhead,
@@ -29,7 +36,8 @@ impl BulkheadLayer {
 }
 
 /// Puts a bulkhead round a service whose calls wait for its permits. [`BulkheadLayer::queueing`] makes it.
-#[derive(Debug, Clone)]
+#[derive(Clone)]
+#[must_use = "a layer does nothing before it is put round a service"]
 pub struct QueueingLayer<P = fn(Duration) -> Pending<()>> {
     bulkhead: Arc<Bulkhead>,
     most_waiting: usize,
@@ -38,8 +46,18 @@ pub struct QueueingLayer<P = fn(Duration) -> Pending<()>> {
 }
 
 impl<P> QueueingLayer<P> {
-    /// The same, but a call is refused by [`CallError::Full`] where it has no permit after so long, which is Resilience4j's
-    /// `maxWaitDuration`. The function gives a future that is ready after a while, as `tokio::time::sleep`.
+    /// The same, but a call ends by [`CallError::TimedOut`] if it hasn't begun after so long, which is Resilience4j's
+    /// `maxWaitDuration`: it has no permit, or the inner service isn't ready then. In the second case the permit is given back, and the
+    /// bulkhead's observer is told by `call_timed_out`. Once the inner service is called there is no limit. The function gives a future
+    /// that is ready after a while, as `tokio::time::sleep` does.
+    ///
+    /// ```
+    /// # use {resil::Bulkhead, resil_tower::BulkheadLayer, std::sync::Arc, std::time::Duration};
+    /// # let backend = Arc::new(Bulkhead::new("backend", 25)?);
+    /// let layer = BulkheadLayer::queueing(backend)
+    ///     .longest(Duration::from_millis(500), tokio::time::sleep);
+    /// # Ok::<(), resil::BulkheadError>(())
+    /// ```
     pub fn longest<S, F>(self, longest: Duration, sleep: S) -> QueueingLayer<S>
     where
         S: Fn(Duration) -> F + Clone,
@@ -55,7 +73,14 @@ impl<P> QueueingLayer<P> {
 
     /// The same, but a call is refused by [`CallError::Full`] at once where it would have to wait and so many wait for the bulkhead
     /// already, by this layer or otherwise.
-    #[must_use]
+    ///
+    /// ```
+    /// # use {resil::Bulkhead, resil_tower::BulkheadLayer, std::sync::Arc};
+    /// # let backend = Arc::new(Bulkhead::new("backend", 25)?);
+    /// // A hundred may wait; the others are refused at once.
+    /// let layer = BulkheadLayer::queueing(backend).most_waiting(100);
+    /// # Ok::<(), resil::BulkheadError>(())
+    /// ```
     pub fn most_waiting(mut self, most: usize) -> QueueingLayer<P> {
         self.most_waiting = most;
         self
@@ -73,11 +98,31 @@ impl<S, P: Clone> Layer<S> for QueueingLayer<P> {
     }
 }
 
+// By hand, since a function such as `tokio::time::sleep` isn't `Debug`.
+impl<P> fmt::Debug for QueueingLayer<P> {
+    fn fmt(&self, f: &mut fmt::Formatter<'_>) -> fmt::Result {
+        f.debug_struct("QueueingLayer")
+            .field("bulkhead", &self.bulkhead)
+            .field("most_waiting", &self.most_waiting)
+            .field("longest", &self.longest)
+            .finish_non_exhaustive()
+    }
+}
+
 /// Calls copies of a service under permits of a bulkhead, for which the calls wait. It is always ready. A [`QueueingLayer`] makes it.
-#[derive(Debug, Clone)]
+#[derive(Clone)]
 pub struct QueueingService<S, P = fn(Duration) -> Pending<()>> {
     inner: S,
     layer: QueueingLayer<P>,
+}
+
+impl<S: fmt::Debug, P> fmt::Debug for QueueingService<S, P> {
+    fn fmt(&self, f: &mut fmt::Formatter<'_>) -> fmt::Result {
+        f.debug_struct("QueueingService")
+            .field("inner", &self.inner)
+            .field("layer", &self.layer)
+            .finish()
+    }
 }
 
 impl<S, P, F, Request> Service<Request> for QueueingService<S, P>
@@ -104,7 +149,7 @@ where
             sleep,
         } = &self.layer;
         QueueingFuture {
-            acquire: bulkhead.acquire().most_waiting(*most_waiting),
+            acquire: bulkhead.acquire_owned().most_waiting(*most_waiting),
             longest: *longest,
             sleep: sleep.clone(),
             timer: None,
@@ -127,7 +172,7 @@ pin_project! {
         acquire: Acquire,
         longest: Duration,
         sleep: P,
-        // From the first look on that finds no permit.
+        // From the first look on that finds no permit, or an inner service that isn't ready.
         #[pin]
         timer: Option<F>,
         // Until it is called: the service, and what it is asked.
@@ -145,15 +190,25 @@ where
     P: Fn(Duration) -> F,
     F: Future<Output = ()>,
 {
-    fn poll_permit(
+    // Whether there is a permit and the inner service is ready, both within the call's time limit.
+    #[inline]
+    fn poll_begin(
         self: Pin<&mut Self>,
         context: &mut Context<'_>,
-    ) -> Poll<Result<OwnedPermit, NoPermit>> {
+    ) -> Poll<Result<(), CallError<S::Error>>> {
         let mut this = self.project();
-        let acquired = Pin::new(&mut *this.acquire).poll(context);
-        if acquired.is_ready() {
-            this.timer.set(None);
-            return acquired;
+        if this.permit.is_none() {
+            if let Poll::Ready(acquired) = Pin::new(&mut *this.acquire).poll(context) {
+                *this.permit = Some(acquired?);
+            }
+        }
+        if let (Some(_), Some((inner, _))) = (&this.permit, &mut *this.next) {
+            if let Poll::Ready(ready) = inner.poll_ready(context) {
+                if this.timer.is_some() {
+                    this.timer.set(None);
+                }
+                return Poll::Ready(ready.map_err(CallError::Failed));
+            }
         }
         if this.timer.is_none() {
             this.timer.set(Some((this.sleep)(*this.longest)));
@@ -161,21 +216,23 @@ where
         if let Some(timer) = this.timer.as_pin_mut() {
             ready!(timer.poll(context));
         }
-        Poll::Ready(Err(this.acquire.give_up()))
+        match this.permit.take() {
+            Some(permit) => permit.time_out(),
+            None => {
+                this.acquire.give_up();
+            }
+        }
+        Poll::Ready(Err(CallError::TimedOut))
     }
 
     fn poll_answer(
         mut self: Pin<&mut Self>,
         context: &mut Context<'_>,
     ) -> Poll<Result<S::Response, CallError<S::Error>>> {
-        if self.next.is_some() && self.permit.is_none() {
-            let permit = ready!(self.as_mut().poll_permit(context))?;
-            *self.as_mut().project().permit = Some(permit);
+        if self.next.is_some() {
+            ready!(self.as_mut().poll_begin(context))?;
         }
         let mut this = self.project();
-        if let Some((inner, _)) = this.next {
-            ready!(inner.poll_ready(context)).map_err(CallError::Failed)?;
-        }
         if let Some(((mut inner, request), permit)) = this.next.take().zip(this.permit.take()) {
             // Where the inner service panics, the permit is dropped.
             let call = ResponseFuture::running(inner.call(request), permit);

@@ -53,7 +53,7 @@ enum Next {
 impl<S> BulkheadService<S> {
     pub(crate) fn new(inner: S, bulkhead: Arc<Bulkhead>, waits: bool) -> BulkheadService<S> {
         let next = if waits {
-            Next::Waits(bulkhead.acquire())
+            Next::Waits(bulkhead.acquire_owned())
         } else {
             Next::Asks
         };
@@ -86,7 +86,7 @@ where
             self.next = match ready!(Pin::new(acquire).poll(context)) {
                 Ok(permit) => Next::Has(permit),
                 Err(refused) => {
-                    self.next = Next::Waits(self.bulkhead.acquire());
+                    self.next = Next::Waits(self.bulkhead.acquire_owned());
                     return Poll::Ready(Err(refused.into()));
                 }
             };
@@ -103,7 +103,7 @@ where
             Next::Asks => self.bulkhead.enter_owned(),
             Next::Waits(_) => panic!("a service was called before it was ready"),
             Next::Has(_) => {
-                let waits = Next::Waits(self.bulkhead.acquire());
+                let waits = Next::Waits(self.bulkhead.acquire_owned());
                 match mem::replace(&mut self.next, waits) {
                     Next::Has(permit) => Ok(permit),
                     Next::Asks | Next::Waits(_) => Err(NoPermit::Full),

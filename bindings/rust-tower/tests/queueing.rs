@@ -2,12 +2,12 @@
 mod common;
 
 use common::{Answers, Checked, all_are_made, is_idle, polled};
-use resil::{Bulkhead, Observer};
+use resil::{Bulkhead, Observer, WaitEnd};
 use resil_tower::{BulkheadLayer, CallError, QueueingService};
 use std::error::Error;
 use std::panic::{AssertUnwindSafe, catch_unwind};
-use std::sync::Arc;
 use std::sync::atomic::{AtomicU32, Ordering};
+use std::sync::{Arc, Mutex};
 use std::task::Poll;
 use std::time::Duration;
 use tower::{BoxError, Layer, Service, ServiceBuilder, ServiceExt};
@@ -98,14 +98,94 @@ fn no_permit_is_left_where_there_is_no_call() -> Checked {
     Ok(())
 }
 
-/// Counts refusals.
+/// Counts refusals, and calls that time out with their permit, and keeps the last wait.
 #[derive(Default)]
-struct Refusals(AtomicU32);
+struct Refusals(AtomicU32, AtomicU32, Mutex<Vec<(WaitEnd, Duration)>>);
 
 impl Observer for Refusals {
     fn call_refused(&self, _bulkhead: &str) {
         self.0.fetch_add(1, Ordering::SeqCst);
     }
+
+    fn call_timed_out(&self, _bulkhead: &str) {
+        self.1.fetch_add(1, Ordering::SeqCst);
+    }
+
+    fn call_waited(&self, _bulkhead: &str, time: Duration, end: WaitEnd) {
+        let mut waits = self.2.lock().expect("nobody panics with it");
+        waits.push((end, time));
+    }
+}
+
+impl Refusals {
+    // How the waits ended that were told since the last look.
+    fn waits(&self) -> Vec<WaitEnd> {
+        let mut waits = self.2.lock().expect("nobody panics with it");
+        waits.drain(..).map(|(end, _)| end).collect()
+    }
+}
+
+#[tokio::test(start_paused = true)]
+async fn an_inner_service_that_is_never_ready_keeps_no_permit() -> Checked {
+    let refusals = Arc::new(Refusals::default());
+    let backend = Arc::new(Bulkhead::new("backend", 1)?.observed(refusals.clone()));
+    let limit = Duration::from_millis(80);
+    let mut service = BulkheadLayer::queueing(Arc::clone(&backend))
+        .longest(limit, tokio::time::sleep)
+        .layer(Answers { looks: 1 << 30 });
+    let begun = tokio::time::Instant::now();
+    assert_eq!(service.call(7).await, Err(CallError::TimedOut));
+    assert!((limit..2 * limit).contains(&begun.elapsed()));
+    assert!(is_idle(&backend));
+    let counts = (&refusals.0, &refusals.1);
+    let counts = (
+        counts.0.load(Ordering::SeqCst),
+        counts.1.load(Ordering::SeqCst),
+    );
+    assert_eq!((counts, refusals.waits()), ((0, 1), vec![WaitEnd::Granted]));
+    // Half of the time goes by for the permit, and the rest for the inner service.
+    let permit = backend.enter_owned()?;
+    let gives_back = async {
+        tokio::time::sleep(limit / 2).await;
+        drop(permit);
+    };
+    let begun = tokio::time::Instant::now();
+    let (answer, ()) = tokio::join!(service.call(7), gives_back);
+    assert_eq!(answer, Err(CallError::TimedOut));
+    assert!((limit..limit * 5 / 4).contains(&begun.elapsed()));
+    assert!(is_idle(&backend) && refusals.1.load(Ordering::SeqCst) == 2);
+    Ok(())
+}
+
+#[tokio::test(start_paused = true)]
+async fn a_client_that_goes_away_is_told_once() -> Checked {
+    let refusals = Arc::new(Refusals::default());
+    let backend = Arc::new(Bulkhead::new("backend", 1)?.observed(refusals.clone()));
+    let permit = backend.enter()?;
+    let mut service = BulkheadLayer::queueing(Arc::clone(&backend)).layer(Answers { looks: 0 });
+    let call = tokio::time::timeout(Duration::from_millis(5), service.call(7));
+    assert!(call.await.is_err());
+    assert_eq!(refusals.waits(), [WaitEnd::Abandoned]);
+    let mut call = Box::pin(service.call(7));
+    assert!(polled(&mut call).is_pending() && polled(&mut call).is_pending());
+    drop(call);
+    // One that was never polled hasn't waited.
+    drop(service.call(7));
+    assert_eq!(refusals.waits(), [WaitEnd::Abandoned]);
+    drop(permit);
+    assert!(is_idle(&backend) && refusals.0.load(Ordering::SeqCst) == 0);
+    Ok(())
+}
+
+#[test]
+fn a_layer_with_a_limit_is_shown() -> Checked {
+    let backend = Arc::new(Bulkhead::new("backend", 1)?);
+    let layer = BulkheadLayer::queueing(backend).longest(Duration::ZERO, tokio::time::sleep);
+    // With a sleep that can't be shown itself.
+    let shown = format!("{:?}", layer.layer(Answers { looks: 0 }));
+    assert!(shown.starts_with("QueueingService { inner: Answers"));
+    assert!(shown.contains("longest: 0ns"));
+    Ok(())
 }
 
 #[test]
@@ -145,7 +225,7 @@ async fn a_call_waits_for_so_long() -> Checked {
         .layer(Answers { looks: 0 });
     let permit = backend.enter()?;
     let begun = tokio::time::Instant::now();
-    assert_eq!(service.call(7).await, Err(CallError::Full));
+    assert_eq!(service.call(7).await, Err(CallError::TimedOut));
     assert!((limit..2 * limit).contains(&begun.elapsed()));
     assert_eq!(backend.numbers().waiting, 0);
     assert_eq!(refusals.0.load(Ordering::SeqCst), 1);

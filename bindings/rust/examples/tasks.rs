@@ -33,8 +33,8 @@ pub fn main() -> Result<(), Box<dyn Error>> {
     let permit = backend.enter_owned()?;
 
     // Two tasks stand in a row: the permit goes to the one that came first.
-    let mut first = backend.acquire();
-    let mut second = backend.acquire();
+    let mut first = backend.acquire_owned();
+    let mut second = backend.acquire_owned();
     let context = &mut Context::from_waker(Waker::noop());
     assert!(Pin::new(&mut first).poll(context).is_pending());
     assert!(Pin::new(&mut second).poll(context).is_pending());

@@ -1,30 +1,31 @@
 //! A bulkhead that threads share, by reference or in an `Arc`.
+mod call;
 mod error;
 mod many;
 mod observed;
 mod operator;
 mod permit;
 mod row;
+mod runs;
 mod seats;
 mod tickets;
+mod wait;
 
 use crate::lock::{locked, sleep};
-use crate::observer::{Observer, Watch};
+use crate::observer::{Observer, WaitEnd, Watch};
 use crate::pass::Pass;
 use observed::Held;
 use row::{Row, wake_all};
 use seats::{Place, Seats};
 use std::fmt;
-use std::iter;
 use std::sync::atomic::{AtomicBool, AtomicUsize, Ordering};
 use std::sync::{Arc, Condvar, Mutex, MutexGuard};
-use std::task::Waker;
 use std::time::{Duration, Instant};
 
 pub use error::{BulkheadError, NoPermit};
-pub use many::AcquireMany;
+pub use many::{AcquireMany, OwnedPermits, Permits};
 pub use permit::{OwnedPermit, Permit};
-pub use row::Acquire;
+pub use wait::Acquire;
 
 /// The longest name, in bytes.
 const MAX_NAME_LEN: usize = 64;
@@ -36,8 +37,8 @@ const MAX_NAME_LEN: usize = 64;
 /// | there | here |
 /// |---|---|
 /// | `try_acquire`, `try_acquire_owned` | [`enter`](Bulkhead::enter), [`enter_owned`](Bulkhead::enter_owned) |
-/// | `acquire`, `acquire_owned` | [`acquire`](Bulkhead::acquire); threads wait by [`enter_within`](Bulkhead::enter_within) |
-/// | `try_acquire_many`, `acquire_many_owned` | [`enter_many`](Bulkhead::enter_many), [`acquire_many`](Bulkhead::acquire_many), of as many permits, each of its own |
+/// | `acquire`, `acquire_owned` | [`acquire_owned`](Bulkhead::acquire_owned); threads wait by [`enter_within`](Bulkhead::enter_within) |
+/// | `try_acquire_many`, `acquire_many_owned` | [`enter_many_owned`](Bulkhead::enter_many_owned), [`acquire_many_owned`](Bulkhead::acquire_many_owned), with `split` and `merge` as there; for few, since each costs what one does |
 /// | `forget` of a permit | [`OwnedPermit::forget`] |
 /// | `forget_permits`, `add_permits` | [`retire`](Bulkhead::retire), or [`shrink`](Bulkhead::shrink) while others wait, and [`raise`](Bulkhead::raise) up to the number at the making |
 /// | `available_permits` | [`available`](Bulkhead::available) |
@@ -63,6 +64,8 @@ pub struct Bulkhead {
     wanted: AtomicUsize,
     gate: Mutex<Row>,
     freed: Condvar,
+    // Of who takes several permits, one after the other.
+    alone: Mutex<()>,
     // Turns true under the gate's lock.
     is_closed: AtomicBool,
     // None where nobody observes it: then no step of a seat looks here.
@@ -77,6 +80,13 @@ impl Bulkhead {
     /// In this order: `BadName` where the name isn't 1 to 64 bytes of ASCII letters, digits, `-`, `_` and `.`;
     /// `TooManyPermits` where `max` is above 65,535; `Memory` where there is none for the library's permits or their
     /// seats. The name is taken as everywhere in Rust: the process ends where there is no memory for it.
+    ///
+    /// ```
+    /// let backend = resil::Bulkhead::new("backend", 25)?;
+    /// assert_eq!(backend.available(), 25);
+    /// assert!(resil::Bulkhead::new("no blanks", 25).is_err());
+    /// # Ok::<(), Box<dyn std::error::Error>>(())
+    /// ```
     pub fn new(name: impl Into<String>, max: u32) -> Result<Bulkhead, BulkheadError> {
         let name = name.into();
         if !is_name(&name) {
@@ -91,6 +101,7 @@ impl Bulkhead {
             wanted: AtomicUsize::new(0),
             gate: Mutex::default(),
             freed: Condvar::new(),
+            alone: Mutex::default(),
             is_closed: AtomicBool::new(false),
             observer: None,
         })
@@ -128,6 +139,15 @@ impl Bulkhead {
     /// # Errors
     ///
     /// `Closed` where the bulkhead is [closed](Bulkhead::close); `Full` where all permits in use are held.
+    ///
+    /// ```
+    /// # let backend = resil::Bulkhead::new("backend", 1)?;
+    /// let permit = backend.enter()?;
+    /// assert_eq!(backend.enter().err(), Some(resil::Full));
+    /// drop(permit);
+    /// assert!(backend.enter().is_ok());
+    /// # Ok::<(), Box<dyn std::error::Error>>(())
+    /// ```
     #[inline]
     pub fn enter(&self) -> Result<Permit<'_>, NoPermit> {
         let place = self.enter_place()?;
@@ -140,11 +160,20 @@ impl Bulkhead {
     ///
     /// # Errors
     ///
-    /// `Closed` where the bulkhead is closed, or is closed meanwhile; `Full` where all permits in use are held until then; at once,
-    /// where the duration is zero.
+    /// `Closed` where the bulkhead is closed, or is closed meanwhile; `TimedOut` where all permits in use are held until then; `Full`,
+    /// at once, where the duration is zero.
+    ///
+    /// ```
+    /// # use std::time::Duration;
+    /// # let backend = resil::Bulkhead::new("backend", 1)?;
+    /// let _permit = backend.enter()?;
+    /// let late = backend.enter_within(Duration::from_millis(1));
+    /// assert_eq!(late.err(), Some(resil::NoPermit::TimedOut));
+    /// # Ok::<(), Box<dyn std::error::Error>>(())
+    /// ```
     pub fn enter_within(&self, limit: Duration) -> Result<Permit<'_>, NoPermit> {
-        self.told(self.acquire_within(limit))
-            .map(|place| Permit::new(self, place))
+        let place = self.acquire_within(limit)?;
+        Ok(Permit::new(self, place))
     }
 
     /// Takes a permit that keeps the bulkhead, for a thread, a future or a service of its own.
@@ -152,6 +181,15 @@ impl Bulkhead {
     /// # Errors
     ///
     /// `Closed` where the bulkhead is [closed](Bulkhead::close); `Full` where all permits in use are held.
+    ///
+    /// ```
+    /// # use std::sync::Arc;
+    /// let backend = Arc::new(resil::Bulkhead::new("backend", 1)?);
+    /// let permit = backend.enter_owned()?;
+    /// std::thread::spawn(move || drop(permit)).join().unwrap();
+    /// assert_eq!(backend.available(), 1);
+    /// # Ok::<(), Box<dyn std::error::Error>>(())
+    /// ```
     #[inline]
     pub fn enter_owned(self: &Arc<Self>) -> Result<OwnedPermit, NoPermit> {
         let place = self.enter_place()?;
@@ -162,34 +200,86 @@ impl Bulkhead {
     ///
     /// # Errors
     ///
-    /// `Closed` where the bulkhead is closed, or is closed meanwhile; `Full` where all permits in use are held until then; at once,
-    /// where the duration is zero.
+    /// `Closed` where the bulkhead is closed, or is closed meanwhile; `TimedOut` where all permits in use are held until then; `Full`,
+    /// at once, where the duration is zero.
+    ///
+    /// ```
+    /// # use std::{sync::Arc, time::Duration};
+    /// let backend = Arc::new(resil::Bulkhead::new("backend", 1)?);
+    /// let permit = backend.enter_owned_within(Duration::from_millis(500))?;
+    /// let holds = async move { drop(permit) };
+    /// # drop(holds);
+    /// # Ok::<(), Box<dyn std::error::Error>>(())
+    /// ```
     pub fn enter_owned_within(self: &Arc<Self>, limit: Duration) -> Result<OwnedPermit, NoPermit> {
-        let place = self.told(self.acquire_within(limit))?;
+        let place = self.acquire_within(limit)?;
         Ok(OwnedPermit::new(Arc::clone(self), place))
     }
 
-    /// A permit that keeps the bulkhead, to be awaited on any runtime. Those who await stand in a row: first come, first
-    /// served, by their first polls. Who takes a permit in another way may still be before them.
+    /// A permit that keeps the bulkhead, to be awaited on any runtime. Tasks that wait are served first come, first served, in the
+    /// order of their first polls. A caller that takes a permit in another way may still be before them.
     ///
-    /// It has no limit of its own: the timeout of the runtime goes round it, as `tokio::time::timeout` does. It may be
-    /// dropped at any time, and then a permit that it was given goes to the next. It gives an error where the bulkhead is
-    /// [closed](Bulkhead::close), where it has no permit at all, in use or not, and where [so many wait](Acquire::most_waiting) as it is
-    /// told.
+    /// **The future gives a `Result`: write `?`. `let _permit = backend.acquire_owned().await;` compiles without a warning, and runs
+    /// without a permit once the bulkhead is closed.**
+    ///
+    /// It has no time limit of its own: wrap it in your runtime's timeout, such as `tokio::time::timeout`. It may be dropped at any
+    /// time, and a permit that it was given then goes to the next task.
+    ///
+    /// # Errors
+    ///
+    /// `Closed` if the bulkhead is [closed](Bulkhead::close), now or while it waits; `Full` if it has no permits at all, in use or not, or
+    /// if [as many wait](Acquire::most_waiting) as are allowed to.
+    ///
+    /// ```
+    /// use resil::{Bulkhead, NoPermit};
+    /// use std::sync::Arc;
+    ///
+    /// async fn price(backend: &Arc<Bulkhead>) -> Result<u32, NoPermit> {
+    ///     let _permit = backend.acquire_owned().await?;
+    ///     Ok(42)
+    /// }
+    /// ```
     #[inline]
-    pub fn acquire(self: &Arc<Self>) -> Acquire {
+    pub fn acquire_owned(self: &Arc<Self>) -> Acquire {
         Acquire::new(Arc::clone(self))
+    }
+
+    /// [`acquire_owned`](Bulkhead::acquire_owned) under the name that it had until 0.5.0. Version 0.4.0 gave the permit itself, so a line
+    /// of that time compiles still, **and runs without a permit once the bulkhead is closed**:
+    ///
+    /// ```compile_fail
+    /// #![deny(deprecated)]
+    /// # use resil::Bulkhead;
+    /// # use std::sync::Arc;
+    /// async fn price(backend: &Arc<Bulkhead>) -> u32 {
+    ///     let _permit = backend.acquire().await;
+    ///     42
+    /// }
+    /// ```
+    #[deprecated(
+        since = "0.6.0",
+        note = "it has given a `Result` since 0.5.0: write `acquire_owned().await?`, or the call may run without a permit"
+    )]
+    pub fn acquire(self: &Arc<Self>) -> Acquire {
+        self.acquire_owned()
     }
 
     /// Calls the function under a permit, which is given back when the call ends or panics.
     ///
-    /// The call of an async block ends at once, and gives the permit back before its future runs. A future has a permit by
-    /// [`enter_owned`](Bulkhead::enter_owned) or [`acquire`](Bulkhead::acquire), which goes into it:
-    /// `async move { let _permit = permit; .. }`.
+    /// The call of an async function ends at once, and gives the permit back before its future runs: a future is called by
+    /// [`call_async`](Bulkhead::call_async).
     ///
     /// # Errors
     ///
     /// `Closed` where the bulkhead is closed, `Full` where all permits in use are held; the function wasn't called.
+    ///
+    /// ```
+    /// # let backend = resil::Bulkhead::new("backend", 1)?;
+    /// assert_eq!(backend.call(|| "answer")?, "answer");
+    /// let inside = backend.call(|| backend.call(|| "answer"))?;
+    /// assert_eq!(inside, Err(resil::Full));
+    /// # Ok::<(), Box<dyn std::error::Error>>(())
+    /// ```
     #[inline]
     pub fn call<T>(&self, function: impl FnOnce() -> T) -> Result<T, NoPermit> {
         let _permit = self.enter()?;
@@ -197,6 +287,14 @@ impl Bulkhead {
     }
 
     /// The numbers of about this moment: each is read for itself.
+    ///
+    /// ```
+    /// # let backend = resil::Bulkhead::new("backend", 3)?;
+    /// let _permit = backend.enter()?;
+    /// let numbers = backend.numbers();
+    /// assert_eq!((numbers.available, numbers.waiting), (2, 0));
+    /// # Ok::<(), Box<dyn std::error::Error>>(())
+    /// ```
     #[must_use]
     pub fn numbers(&self) -> BulkheadNumbers {
         let available = self.available();
@@ -206,12 +304,24 @@ impl Bulkhead {
             available,
             retired: row.retired(),
             owed: row.owed,
+            written_off: row.written_off,
             waiting: self.waiting(&row),
         }
     }
 
     /// Closes the bulkhead for good. Who waits for a permit is told so at once, and so is whoever asks later: `Closed`. Who has a
     /// permit, or was given one already, gives it back as ever.
+    ///
+    /// **From here on a caller that ignores this error isn't limited any more**: it runs without a permit.
+    ///
+    /// ```
+    /// # let backend = resil::Bulkhead::new("backend", 1)?;
+    /// backend.close();
+    /// assert_eq!(backend.enter().err(), Some(resil::Closed));
+    /// // This one goes on without a permit.
+    /// let _no_permit = backend.enter();
+    /// # Ok::<(), Box<dyn std::error::Error>>(())
+    /// ```
     pub fn close(&self) {
         let mut row = locked(&self.gate);
         self.is_closed.store(true, Ordering::SeqCst);
@@ -219,7 +329,7 @@ impl Bulkhead {
         self.wanted.fetch_sub(tasks.len(), Ordering::SeqCst);
         drop(row);
         self.freed.notify_all();
-        wake_all(tasks);
+        self.dismiss(tasks);
     }
 
     /// Whether it is closed.
@@ -228,33 +338,36 @@ impl Bulkhead {
         self.is_closed.load(Ordering::Acquire)
     }
 
+    // Takes a permit, or waits for one, and tells of it.
     fn acquire_within(&self, limit: Duration) -> Result<Place, NoPermit> {
-        if self.is_closed() {
-            return Err(NoPermit::Closed);
-        }
-        self.seats.acquire().or_else(|full| {
-            if limit.is_zero() {
-                return Err(full);
-            }
-            self.wanted.fetch_add(1, Ordering::SeqCst);
-            let mut row = locked(&self.gate);
-            row.threads += 1;
-            let (mut row, acquired) = self.wait(row, Instant::now().checked_add(limit));
-            row.threads -= 1;
-            self.wanted.fetch_sub(1, Ordering::SeqCst);
-            // It may have been woken for more permits than one.
-            let tasks = self.hand_on_all(&mut row);
-            drop(row);
-            // Given back where a waker panics.
-            let held = acquired.map(|place| Held(self, place));
-            wake_all(tasks);
-            held.map(Held::keep)
-        })
+        let mut since = None;
+        let acquired = if self.is_closed() {
+            Err(WaitEnd::Closed)
+        } else if let Ok(place) = self.seats.acquire() {
+            Ok(place)
+        } else if limit.is_zero() {
+            Err(WaitEnd::Full)
+        } else {
+            since = self.now();
+            self.wait_within(limit)
+        };
+        self.told_wait(since, acquired)
     }
 
-    // Hands on what is free to those tasks that it is enough for.
-    fn hand_on_all(&self, row: &mut Row) -> Vec<Waker> {
-        iter::from_fn(|| self.hand_on(row)).collect()
+    fn wait_within(&self, limit: Duration) -> Result<Place, WaitEnd> {
+        self.wanted.fetch_add(1, Ordering::SeqCst);
+        let mut row = locked(&self.gate);
+        row.threads += 1;
+        let (mut row, acquired) = self.wait(row, Instant::now().checked_add(limit));
+        row.threads -= 1;
+        self.wanted.fetch_sub(1, Ordering::SeqCst);
+        // It may have been woken for more permits than one.
+        let tasks = self.hand_on_all(&mut row);
+        drop(row);
+        // Given back where a waker panics.
+        let held = acquired.map(|place| Held(self, place));
+        wake_all(tasks);
+        held.map(Held::keep)
     }
 
     // Tries at each permit that is given back, until the deadline or the closing.
@@ -262,12 +375,12 @@ impl Bulkhead {
         &self,
         mut gate: MutexGuard<'a, Row>,
         deadline: Option<Instant>,
-    ) -> (MutexGuard<'a, Row>, Result<Place, NoPermit>) {
+    ) -> (MutexGuard<'a, Row>, Result<Place, WaitEnd>) {
         loop {
             if self.is_closed() {
-                return (gate, Err(NoPermit::Closed));
+                return (gate, Err(WaitEnd::Closed));
             }
-            let acquired = self.seats.acquire();
+            let acquired = self.seats.acquire().map_err(|_| WaitEnd::TimedOut);
             let left = deadline.map(|end| end.saturating_duration_since(Instant::now()));
             if acquired.is_ok() || left.is_some_and(|left| left.is_zero()) {
                 return (gate, acquired);
@@ -279,8 +392,8 @@ impl Bulkhead {
     // Gives a permit back, and wakes one that waits; to a task it goes without becoming free, and so it is retired where one is owed.
     #[inline]
     fn release(&self, place: Place) {
-        if self.wanted.load(Ordering::SeqCst) > 0 && self.pass_on(place) {
-            return;
+        if self.wanted.load(Ordering::SeqCst) > 0 {
+            return self.release_wanted(place);
         }
         self.seats.release(place);
         if self.wanted.load(Ordering::SeqCst) > 0 {
@@ -296,7 +409,7 @@ pub(crate) fn is_name(name: &str) -> bool {
 }
 
 /// The numbers of a [`Bulkhead`], as a page of numbers shows them.
-#[derive(Debug, Clone, Copy, PartialEq, Eq)]
+#[derive(Debug, Clone, Copy, PartialEq, Eq, Hash)]
 #[non_exhaustive]
 pub struct BulkheadNumbers {
     /// The number of permits at the making: free, held or retired.
@@ -307,6 +420,8 @@ pub struct BulkheadNumbers {
     pub retired: u32,
     /// How many permits are owed: they are retired as they are given back.
     pub owed: u32,
+    /// How many permits were [written off](Bulkhead::write_off).
+    pub written_off: u32,
     /// How many calls wait for a permit.
     pub waiting: usize,
 }

@@ -15,12 +15,15 @@ use std::fmt;
 /// let failed: CallError<Box<dyn Error>> = CallError::Failed("x".parse::<u32>().unwrap_err().into());
 /// assert!(failed.source().is_some_and(|source| source.is::<ParseIntError>()));
 /// ```
-#[derive(Debug, Clone, Copy, PartialEq, Eq)]
+#[derive(Debug, Clone, Copy, PartialEq, Eq, Hash)]
+#[non_exhaustive]
 pub enum CallError<E> {
     /// All permits of a bulkhead were held, and the function wasn't called.
     Full,
     /// A bulkhead was closed, and the function wasn't called.
     Closed,
+    /// There was no permit within the call's time limit, or what it was to call wasn't ready by then; it wasn't called.
+    TimedOut,
     /// The function was called, and gave this error.
     Failed(E),
 }
@@ -30,6 +33,7 @@ impl<E> From<NoPermit> for CallError<E> {
         match refused {
             NoPermit::Full => CallError::Full,
             NoPermit::Closed => CallError::Closed,
+            NoPermit::TimedOut => CallError::TimedOut,
         }
     }
 }
@@ -39,6 +43,7 @@ impl<E: fmt::Display> fmt::Display for CallError<E> {
         match self {
             CallError::Full => NoPermit::Full.fmt(f),
             CallError::Closed => NoPermit::Closed.fmt(f),
+            CallError::TimedOut => f.write_str("the call timed out before it was made"),
             CallError::Failed(error) => error.fmt(f),
         }
     }

@@ -1,4 +1,5 @@
 //! A function with layers around it.
+mod awaited;
 mod layer;
 
 use crate::bulkhead::Bulkhead;
@@ -9,6 +10,7 @@ use std::fmt;
 use std::marker::PhantomData;
 use std::time::Duration;
 
+pub use awaited::{AsyncDecorators, AsyncLayer};
 pub use layer::{KeptLayer, Layer};
 
 /// A function with layers around it, innermost first: each one wraps what stands so far, and the last is the outermost.
@@ -41,6 +43,11 @@ pub struct Decorators<L, Arguments = ()> {
 
 impl<F> Decorators<Function<F>> {
     /// The function alone, which takes no argument, or one. Its errors are [`CallError::Failed`].
+    ///
+    /// ```
+    /// let mut chain = resil::Decorators::of(|| "42".parse::<u32>());
+    /// assert_eq!(chain.call(), Ok(42));
+    /// ```
     pub fn of<Arguments>(function: F) -> Decorators<Function<F>, Arguments>
     where
         Function<F>: Layer<Arguments>,
@@ -61,6 +68,15 @@ impl<L, Arguments> Decorators<L, Arguments> {
 impl<L: Layer<Arguments>, Arguments> Decorators<L, Arguments> {
     /// What stands so far, under a permit of this bulkhead, which is given back when it ends or panics. Where all are
     /// held, nothing is called, and the error is [`CallError::Full`]. The bulkhead is taken by reference, or in an `Arc`.
+    ///
+    /// ```
+    /// # use resil::{CallError, Decorators};
+    /// # let backend = resil::Bulkhead::new("backend", 1)?;
+    /// let _permit = backend.enter()?;
+    /// let mut chain = Decorators::of(|| Ok::<_, ()>(42)).inside(&backend);
+    /// assert_eq!(chain.call(), Err(CallError::Full));
+    /// # Ok::<(), Box<dyn std::error::Error>>(())
+    /// ```
     pub fn inside<B: AsRef<Bulkhead>>(self, bulkhead: B) -> Decorators<Inside<B, L>, Arguments> {
         Decorators::new(Inside {
             inner: self.layers,
@@ -70,6 +86,13 @@ impl<L: Layer<Arguments>, Arguments> Decorators<L, Arguments> {
 
     /// What stands so far, called again by this retry, which is taken by reference, by value or in an `Arc`. A refusal of a
     /// bulkhead inside is an error as any other, so a test of errors is one of [`CallError`].
+    ///
+    /// ```
+    /// # use resil::{Decorators, Retry};
+    /// let mut outcomes = [Err("busy"), Ok(42)].into_iter();
+    /// let mut chain = Decorators::of(|| outcomes.next().unwrap()).retried(Retry::new().pause_by(|_| {}));
+    /// assert_eq!(chain.call(), Ok(42));
+    /// ```
     pub fn retried<R, Errors, Values, Pause>(
         self,
         retry: R,
@@ -92,6 +115,11 @@ impl<L: Layer<Arguments>, Arguments> Decorators<L, Arguments> {
 impl<L: Layer> Decorators<L> {
     /// What stands so far, and where that gives an error, what this function makes of it: a value, or an error, which may
     /// be the same one.
+    ///
+    /// ```
+    /// let mut chain = resil::Decorators::of(|| "none".parse()).or_else(|_error| Ok(0));
+    /// assert_eq!(chain.call(), Ok(0));
+    /// ```
     pub fn or_else<G>(self, fallback: G) -> Decorators<OrElse<L, G>>
     where
         G: FnMut(CallError<L::Error>) -> Result<L::Value, CallError<L::Error>>,

@@ -27,7 +27,7 @@ unsafe extern "C" {
 }
 
 /// Why there is no interval.
-#[derive(Debug, Clone, Copy, PartialEq, Eq)]
+#[derive(Debug, Clone, Copy, PartialEq, Eq, Hash)]
 #[non_exhaustive]
 pub enum IntervalError {
     /// A wait is longer than [`Interval::LONGEST`].
@@ -70,6 +70,12 @@ impl Interval {
     /// # Panics
     ///
     /// Where the wait is longer than [`Interval::LONGEST`].
+    ///
+    /// ```
+    /// # use std::time::Duration;
+    /// let interval = resil::Interval::fixed(Duration::from_millis(500));
+    /// assert_eq!(interval.after(9), Duration::from_millis(500));
+    /// ```
     #[track_caller]
     #[must_use]
     pub fn fixed(wait: Duration) -> Interval {
@@ -91,6 +97,13 @@ impl Interval {
     ///
     /// In this order: `IntervalTooLong` where `first` or `cap` is longer than [`Interval::LONGEST`]; `BadMultiplier`
     /// unless `1 <= denominator <= numerator <= 1000`; `CapBelowInitial` where `cap` is shorter than `first`.
+    ///
+    /// ```
+    /// # use {resil::Interval, std::time::Duration};
+    /// let growing = Interval::exponential(Duration::from_millis(100), (2, 1), Interval::LONGEST)?;
+    /// assert_eq!(growing.after(4), Duration::from_millis(800));
+    /// # Ok::<(), Box<dyn std::error::Error>>(())
+    /// ```
     pub fn exponential(
         first: Duration,
         (numerator, denominator): (u32, u32),

@@ -1,9 +1,14 @@
 #![doc = include_str!("../README.md")]
 #![warn(missing_docs)]
 
+#[cfg(test)]
+extern crate self as resil;
 mod bulkhead;
 mod call_error;
 mod decorators;
+pub mod guide {
+    #![doc = include_str!("guide.md")]
+}
 mod interval;
 mod library;
 mod lock;
@@ -20,12 +25,13 @@ mod thread_pool;
 
 pub use bulkhead::NoPermit::{Closed, Full};
 pub use bulkhead::{
-    Acquire, AcquireMany, Bulkhead, BulkheadError, BulkheadNumbers, NoPermit, OwnedPermit, Permit,
+    Acquire, AcquireMany, Bulkhead, BulkheadError, BulkheadNumbers, NoPermit, OwnedPermit,
+    OwnedPermits, Permit, Permits,
 };
 pub use call_error::CallError;
-pub use decorators::{Decorators, KeptLayer, Layer};
+pub use decorators::{AsyncDecorators, AsyncLayer, Decorators, KeptLayer, Layer};
 pub use interval::{Interval, IntervalError};
-pub use observer::Observer;
+pub use observer::{Observer, WaitEnd};
 pub use registry::{BulkheadRegistry, RegistryError};
 pub use retry::{Attempts, ErrorTest, EveryError, NoValue, Retry, ValueTest, WaitBy, Waits};
 #[doc(inline)]

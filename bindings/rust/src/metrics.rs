@@ -16,11 +16,17 @@
 //! |---|---|---|
 //! | `resil_bulkhead_calls_total` | `kind`: `permitted`, `refused`; `name` | bulkheads |
 //! | `resil_bulkhead_call_seconds`, a histogram | `name` | calls, from the permit to its end |
+//! | `resil_bulkhead_waits_total` | `kind`: `granted`, `full`, `queue_full`, `timed_out`, `closed`, `abandoned`, after [`WaitEnd`](crate::WaitEnd); `name` | calls that may wait for a permit |
+//! | `resil_bulkhead_wait_seconds`, a histogram | `name` | the same calls, from their first look for a permit to that end; 0 where they don't wait |
+//! | `resil_bulkhead_timed_out_calls_total` | `name` | calls that gave their permit back unused, out of time |
 //! | `resil_bulkhead_retired_permits`, `resil_bulkhead_owed_permits`, `resil_bulkhead_waiting_calls` | `name` | bulkheads |
 //! | `resil_retry_events_total` | `kind`, after its events: `retry`, `success`, `error`, `ignored_error`, and `out_of_time`; `name` | retries |
 //! | `resil_pool_jobs_total` | `kind`, the reply: `core`, `queued`, `extra`, `full`, `closed`; `name` | submissions |
 //! | `resil_pool_panics_total` | `name` | jobs that panicked |
 //! | `resil_pool_wait_seconds`, `resil_pool_run_seconds`, histograms | `name` | jobs, from the submission to the start, and from there to the end |
+//!
+//! The buckets of each histogram end at 0.001, 0.0025, 0.005, 0.01, 0.025, 0.05, 0.1, 0.25, 0.5, 1, 2.5, 5 and 10 seconds, and at
+//! infinity.
 //!
 //! As there, a call that ends by its last attempt or by its limit is `failed_with_retry`, and one that ends by an error that isn't
 //! retried is `failed_without_retry`.
@@ -68,6 +74,16 @@ impl Metrics {
     }
 
     /// Metrics that only count, so that the clock isn't read for them: there are no histograms.
+    ///
+    /// ```
+    /// use std::sync::Arc;
+    ///
+    /// let metrics = Arc::new(resil::metrics::Metrics::untimed());
+    /// let prices = resil::Bulkhead::new("prices", 2)?.observed(metrics.clone());
+    /// prices.call(|| ()).unwrap();
+    /// assert!(!metrics.text(&[], &[]).contains("resil_bulkhead_call_seconds"));
+    /// # Ok::<(), resil::BulkheadError>(())
+    /// ```
     #[must_use]
     pub fn untimed() -> Metrics {
         Metrics {
@@ -85,8 +101,19 @@ impl Metrics {
         all.jobs.remove(name).is_some() || calls || retries
     }
 
-    /// All that was counted, and the numbers of these bulkheads and pools at this moment, as Prometheus' text. Of two that bear
-    /// one name the numbers of the last are told.
+    /// All that was counted, and the numbers of these bulkheads and pools at this moment, as Prometheus' text. If two have one
+    /// name, the text has the numbers of the last.
+    ///
+    /// ```
+    /// use std::sync::Arc;
+    ///
+    /// let metrics = Arc::new(resil::metrics::Metrics::new());
+    /// let registry = resil::BulkheadRegistry::new(2).observed(metrics.clone());
+    /// registry.bulkhead("prices")?.call(|| ()).unwrap();
+    /// let text = metrics.text(&registry.bulkheads(), &[]);
+    /// assert!(text.contains("resilience4j_bulkhead_max_allowed_concurrent_calls{name=\"prices\"} 2"));
+    /// # Ok::<(), resil::RegistryError>(())
+    /// ```
     #[must_use]
     pub fn text(&self, bulkheads: &[Arc<Bulkhead>], pools: &[&ThreadPool]) -> String {
         let mut page = Page::default();

@@ -6,6 +6,24 @@ use std::panic::{RefUnwindSafe, UnwindSafe};
 use std::sync::Arc;
 use std::time::{Duration, Instant};
 
+/// How the wait of a call for a permit ended.
+#[derive(Debug, Clone, Copy, PartialEq, Eq, PartialOrd, Ord, Hash)]
+#[non_exhaustive]
+pub enum WaitEnd {
+    /// The call has its permit.
+    Granted,
+    /// It was refused at once: no permit was free, and it may not wait, or the bulkhead has fewer permits than it asks for.
+    Full,
+    /// It was refused at once: [as many calls](crate::Acquire::most_waiting) wait already as are allowed to.
+    QueueFull,
+    /// There was no permit within its time limit.
+    TimedOut,
+    /// The bulkhead is closed, or was closed meanwhile.
+    Closed,
+    /// Its future was dropped while it waited.
+    Abandoned,
+}
+
 /// Is told what happens to calls of bulkheads and retries and to jobs of pools, as Resilience4j's event consumers are.
 ///
 /// It is set at the making of a [`Bulkhead`](crate::Bulkhead::observed), a [`Retry`](crate::Retry::observed), a
@@ -63,8 +81,21 @@ pub trait Observer: Send + Sync {
     /// A call has a permit of this bulkhead: by whatever way, also by one that waits.
     fn call_permitted(&self, _bulkhead: &str) {}
 
-    /// A call was refused by this bulkhead.
+    /// A call was refused by this bulkhead: at once, or after a wait.
     fn call_refused(&self, _bulkhead: &str) {}
+
+    /// A wait for a permit of this bulkhead is over: it took so long, and ended so.
+    ///
+    /// It is told exactly once for each call that may wait, by whatever way: [`enter_within`](crate::Bulkhead::enter_within),
+    /// [`acquire_owned`](crate::Bulkhead::acquire_owned) and their like, and a layer of tower that waits. The time of one that has its
+    /// permit or its refusal at once is zero. It is told before [`call_permitted`](Observer::call_permitted) or
+    /// [`call_refused`](Observer::call_refused) of the same call, of which an abandoned one has neither. A future that was never polled
+    /// hasn't waited.
+    fn call_waited(&self, _bulkhead: &str, _time: Duration, _end: WaitEnd) {}
+
+    /// A call gave its permit back unused, since what it was to call wasn't ready within the call's time limit. It is told after
+    /// [`call_finished`](Observer::call_finished) of the same call.
+    fn call_timed_out(&self, _bulkhead: &str) {}
 
     /// A permit of this bulkhead was given back so long after it was taken. One that is forgotten isn't told.
     fn call_finished(&self, _bulkhead: &str, _time: Duration) {}
@@ -132,6 +163,8 @@ impl<const N: usize> Observer for [Arc<dyn Observer>; N] {
     tell_each! {
         call_permitted(bulkhead: &str);
         call_refused(bulkhead: &str);
+        call_waited(bulkhead: &str, time: Duration, end: WaitEnd);
+        call_timed_out(bulkhead: &str);
         call_finished(bulkhead: &str, time: Duration);
         attempt_failed(retry: &str, attempt: u32, wait: Duration);
         retry_succeeded(retry: &str, attempts: u32);

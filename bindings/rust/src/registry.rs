@@ -13,7 +13,7 @@ use std::sync::{Arc, Mutex, MutexGuard};
 const DEFAULT_CONFIG: &str = "default";
 
 /// Why a registry didn't do what a call wanted; where more than one holds, the first of these. It is as it was then.
-#[derive(Debug, Clone, Copy, PartialEq, Eq)]
+#[derive(Debug, Clone, Copy, PartialEq, Eq, Hash)]
 #[non_exhaustive]
 pub enum RegistryError {
     /// A name isn't 1 to 64 bytes of ASCII letters, digits, `-`, `_` and `.`.
@@ -168,6 +168,15 @@ impl BulkheadRegistry {
     }
 
     /// All bulkheads that are there, by their names in the order of bytes.
+    ///
+    /// ```
+    /// let registry = resil::BulkheadRegistry::new(25);
+    /// registry.bulkhead("prices")?;
+    /// registry.bulkhead("letters")?;
+    /// let names: Vec<_> = registry.bulkheads().iter().map(|one| one.name().to_owned()).collect();
+    /// assert_eq!(names, ["letters", "prices"]);
+    /// # Ok::<(), resil::RegistryError>(())
+    /// ```
     #[must_use]
     pub fn bulkheads(&self) -> Vec<Arc<Bulkhead>> {
         let mut all: Vec<_> = self.inner().instances.values().map(Arc::clone).collect();

@@ -36,7 +36,9 @@ const MAX_ATTEMPTS: u32 = 1_000;
 /// assert_eq!(retry.call(|| numbers.next().map_or("", |text| text).parse()), Ok(7));
 /// assert_eq!(retry.call(|| Ok::<_, String>("at once")), Ok("at once"));
 /// ```
+/// A clone has the same observer, and draws on the same numbers for its jitter.
 #[must_use]
+#[derive(Clone)]
 pub struct Retry<Errors = EveryError, Values = NoValue, Pause = fn(Duration)> {
     plan: Plan,
     error_test: Errors,
@@ -68,6 +70,11 @@ impl<Errors, Values, Pause> Retry<Errors, Values, Pause> {
     /// # Panics
     ///
     /// Where the number isn't from 1 to 1,000.
+    ///
+    /// ```
+    /// let retry = resil::Retry::new().attempts(1);
+    /// assert_eq!(retry.call(|| Err::<(), _>("busy")), Err("busy"));
+    /// ```
     #[track_caller]
     pub fn attempts(mut self, count: u32) -> Self {
         assert!(
@@ -108,6 +115,12 @@ impl<Errors, Values, Pause> Retry<Errors, Values, Pause> {
     /// Retries the values that this test holds of too. It takes the place of an earlier test of values.
     ///
     /// A value that is still to be retried after the last attempt is the answer.
+    ///
+    /// ```
+    /// let retry = resil::Retry::new().retry_value_if(|left: &u32| *left > 0).pause_by(|_wait| {});
+    /// let mut left = [2, 1, 0].into_iter();
+    /// assert_eq!(retry.call(|| left.next().ok_or("none")), Ok(0));
+    /// ```
     pub fn retry_value_if<T, F: Fn(&T) -> bool>(self, test: F) -> Retry<Errors, F, Pause> {
         Retry {
             plan: self.plan,
@@ -119,6 +132,13 @@ impl<Errors, Values, Pause> Retry<Errors, Values, Pause> {
 
     /// Draws each wait: from half of the interval's to the whole of it, in whole milliseconds, otherwise each time the program is
     /// run.
+    ///
+    /// ```
+    /// let retry = resil::Retry::new().jitter();
+    /// // Half a second at most, and a quarter at least.
+    /// let waits = retry.waits().map(|wait| wait.as_millis());
+    /// assert!(waits.into_iter().all(|wait| (250..=500).contains(&wait)));
+    /// ```
     pub fn jitter(mut self) -> Self {
         self.plan.jitter = Some(Jitter::unseeded());
         self
@@ -128,6 +148,12 @@ impl<Errors, Values, Pause> Retry<Errors, Values, Pause> {
     ///
     /// A retry has one stream of numbers, which begins with the seed, and all of its calls draw on it. So calls that come
     /// one after the other wait the same each time the program is run.
+    ///
+    /// ```
+    /// let waits = |seed| resil::Retry::new().jitter_seeded(seed).waits().collect::<Vec<_>>();
+    /// assert_eq!(waits(7), waits(7));
+    /// assert_ne!(waits(7), waits(8));
+    /// ```
     pub fn jitter_seeded(mut self, seed: u64) -> Self {
         self.plan.jitter = Some(Jitter::new(seed));
         self
@@ -136,6 +162,15 @@ impl<Errors, Values, Pause> Retry<Errors, Values, Pause> {
     /// Asks the error of each attempt that another one follows how long to wait, as where an answer says when to come
     /// again. Where it answers none, the interval says it, with the jitter; what the error says is taken as it is. The
     /// function is given the attempt's number, from 1.
+    ///
+    /// ```
+    /// # use std::time::Duration;
+    /// // An error that says when to come again, in seconds.
+    /// let retry = resil::Retry::new()
+    ///     .wait_by(|error: &Option<u64>, _attempt| error.map(Duration::from_secs))
+    ///     .pause_by(|wait| assert_eq!(wait.as_secs(), 7));
+    /// assert_eq!(retry.call(|| Err::<(), _>(Some(7))), Err(Some(7)));
+    /// ```
     pub fn wait_by<E, F>(self, wait: F) -> Retry<WaitBy<Errors, F>, Values, Pause>
     where
         F: Fn(&E, u32) -> Option<Duration>,
@@ -155,6 +190,14 @@ impl<Errors, Values, Pause> Retry<Errors, Values, Pause> {
     /// answer at once. What is called isn't cut off.
     ///
     /// The time is that of the clock or, where [`pause_by`](Retry::pause_by) doesn't sleep, the sum of the waits.
+    ///
+    /// ```
+    /// # use std::time::Duration;
+    /// let retry = resil::Retry::new().attempts(9).within(Duration::from_millis(1_100)).pause_by(|_wait| {});
+    /// let mut attempts = 0;
+    /// let _failed = retry.call(|| { attempts += 1; Err::<(), _>("busy") });
+    /// assert_eq!(attempts, 3);
+    /// ```
     pub fn within(mut self, limit: Duration) -> Self {
         self.plan.set_limit(limit);
         self
@@ -175,6 +218,11 @@ impl<Errors, Values, Pause> Retry<Errors, Values, Pause> {
     }
 
     /// Waits by this function, in place of [`std::thread::sleep`]: for tests.
+    ///
+    /// ```
+    /// let retry = resil::Retry::new().pause_by(|wait| println!("{wait:?}"));
+    /// assert_eq!(retry.call(|| Err::<(), _>("busy")), Err("busy"));
+    /// ```
     pub fn pause_by<F: Fn(Duration)>(self, pause: F) -> Retry<Errors, Values, F> {
         Retry {
             plan: self.plan,
@@ -191,6 +239,12 @@ impl<Errors, Values, Pause: Fn(Duration)> Retry<Errors, Values, Pause> {
     /// # Errors
     ///
     /// The function's last one.
+    ///
+    /// ```
+    /// let retry = resil::Retry::new().pause_by(|_wait| {});
+    /// let mut outcomes = [Err("busy"), Ok(42)].into_iter();
+    /// assert_eq!(retry.call(|| outcomes.next().unwrap()), Ok(42));
+    /// ```
     #[inline]
     pub fn call<T, E>(&self, mut function: impl FnMut() -> Result<T, E>) -> Result<T, E>
     where
@@ -213,11 +267,19 @@ impl<Errors, Values, Pause> Retry<Errors, Values, Pause> {
     /// Does what [`call`](Retry::call) does for a function that gives futures, on any runtime: it waits by the futures that
     /// the second function gives, in place of a sleep.
     ///
-    /// Where the whole is dropped, so is the future that is under way.
+    /// Where the whole is dropped, so is the future that is under way. The futures may borrow what the function has, but not change it:
+    /// state that changes from attempt to attempt goes into a `Cell` or an atomic.
     ///
     /// # Errors
     ///
     /// The last one.
+    ///
+    /// ```
+    /// async fn price(retry: &resil::Retry) -> Result<u32, String> {
+    ///     // With the sleep of your runtime, such as `tokio::time::sleep`.
+    ///     retry.call_async(async || Ok(42), |_wait| std::future::ready(())).await
+    /// }
+    /// ```
     pub async fn call_async<T, E, Answer, Sleep>(
         &self,
         mut function: impl FnMut() -> Answer,
@@ -241,6 +303,14 @@ impl<Errors, Values, Pause> Retry<Errors, Values, Pause> {
     }
 
     /// Begins a call of one's own, in whose loop [`wait_after`](Retry::wait_after) says what to do after each attempt.
+    ///
+    /// ```
+    /// let retry = resil::Retry::new();
+    /// let mut attempts = retry.begin();
+    /// let outcome = Err::<(), _>("busy");
+    /// let wait = retry.wait_after(&mut attempts, outcome.as_ref());
+    /// assert_eq!(wait.map(|wait| wait.as_millis()), Some(500));
+    /// ```
     #[inline]
     #[must_use]
     pub fn begin(&self) -> Attempts {
@@ -249,6 +319,13 @@ impl<Errors, Values, Pause> Retry<Errors, Values, Pause> {
 
     /// How long to wait before the next attempt of a call that was begun, after this outcome of the last one; none where that is
     /// the answer. The observer is told of it. A limit counts from [`begin`](Retry::begin) on.
+    ///
+    /// ```
+    /// let retry = resil::Retry::new();
+    /// let mut attempts = retry.begin();
+    /// // What succeeds is the answer.
+    /// assert_eq!(retry.wait_after(&mut attempts, Ok::<_, &()>(&42)), None);
+    /// ```
     #[inline]
     pub fn wait_after<T, E>(
         &self,

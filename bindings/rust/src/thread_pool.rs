@@ -3,8 +3,10 @@ mod book;
 mod builder;
 mod crew;
 mod door;
+mod ends;
 mod error;
 mod handle;
+mod inbox;
 mod inside;
 mod joins;
 mod observed;
@@ -85,6 +87,13 @@ impl ThreadPool {
     ///
     /// `Closed` where the pool is closed, and else `Full` where the queue is full and there are as many threads as the
     /// greatest size; with the function, which wasn't called.
+    ///
+    /// ```
+    /// # let pool = resil::ThreadPool::builder(1, 1).open()?;
+    /// let job = pool.submit(|| "a letter".to_uppercase())?;
+    /// assert_eq!(job.wait()?, "A LETTER");
+    /// # Ok::<(), Box<dyn std::error::Error>>(())
+    /// ```
     pub fn submit<T, F>(&self, function: F) -> Result<JobHandle<T>, Refused<F>>
     where
         T: Send + 'static,
@@ -97,6 +106,13 @@ impl ThreadPool {
     }
 
     /// The numbers of this moment.
+    ///
+    /// ```
+    /// # let pool = resil::ThreadPool::builder(1, 1).open()?;
+    /// pool.submit(|| 42)?.wait()?;
+    /// assert_eq!(pool.numbers().accepted, 1);
+    /// # Ok::<(), Box<dyn std::error::Error>>(())
+    /// ```
     #[must_use]
     pub fn numbers(&self) -> PoolNumbers {
         self.crew.numbers()
@@ -112,6 +128,14 @@ impl ThreadPool {
     /// caller 2 with its finish. Where more jobs wait than the record has room for, it is empty up to the next call.
     ///
     /// The last events of a pool come by `close`, `join` and then this. Its text is written by this thread, without the lock.
+    ///
+    /// ```
+    /// # let pool = resil::ThreadPool::builder(1, 1).record(1_000).open()?;
+    /// pool.submit(|| 42)?.wait()?;
+    /// // The program `resil_look` judges and counts it.
+    /// println!("{}", pool.history().unwrap_or_default());
+    /// # Ok::<(), Box<dyn std::error::Error>>(())
+    /// ```
     #[must_use]
     pub fn history(&self) -> Option<String> {
         self.crew.history()
@@ -135,17 +159,40 @@ impl ThreadPool {
     ///
     /// In this order: `CoreOutOfRange` where the core size isn't from 1 to 64; `MaxOutOfRange` where the greatest size
     /// is below the core size, or above that at the opening.
+    ///
+    /// ```
+    /// # let pool = resil::ThreadPool::builder(1, 8).open()?;
+    /// pool.resize(2, 8)?;
+    /// assert_eq!((pool.numbers().core, pool.numbers().max), (2, 8));
+    /// # Ok::<(), Box<dyn std::error::Error>>(())
+    /// ```
     pub fn resize(&self, core: u32, max: u32) -> Result<(), PoolError> {
         self.crew.resize(core, max)
     }
 
     /// Closes the pool: what is submitted from here on is refused. What was accepted still runs, and idle threads end.
+    ///
+    /// ```
+    /// # let pool = resil::ThreadPool::builder(1, 1).open()?;
+    /// pool.close();
+    /// let refused = pool.submit(|| 42).unwrap_err();
+    /// assert_eq!((refused.function)(), 42);
+    /// # Ok::<(), Box<dyn std::error::Error>>(())
+    /// ```
     pub fn close(&self) {
         self.crew.close();
     }
 
     /// Closes the pool, and gives back the jobs that were accepted and haven't begun, oldest first. Those that have begun
     /// still run. In the pool's numbers a job that was given back is finished, and a join doesn't wait for it.
+    ///
+    /// ```
+    /// # let pool = resil::ThreadPool::builder(1, 1).open()?;
+    /// // What hasn't begun comes back.
+    /// let unstarted = pool.close_now();
+    /// assert_eq!(unstarted.len(), 0);
+    /// # Ok::<(), Box<dyn std::error::Error>>(())
+    /// ```
     #[must_use]
     pub fn close_now(&self) -> Vec<Unstarted> {
         self.crew.close_now()
@@ -164,6 +211,14 @@ impl ThreadPool {
     /// runs, waits neither for itself nor for other jobs of this pool that wait so, and where the pool is closed, for the
     /// other threads. A job of another pool waits as any caller: jobs of two pools that join each other's pool wait for
     /// ever, and so does one that joins while a job waits for it. [`join_for`](ThreadPool::join_for) gives up in time.
+    ///
+    /// ```
+    /// # let pool = resil::ThreadPool::builder(1, 1).open()?;
+    /// let job = pool.submit(|| 42)?;
+    /// pool.join();
+    /// assert!(job.is_finished());
+    /// # Ok::<(), Box<dyn std::error::Error>>(())
+    /// ```
     pub fn join(&self) {
         self.crew.join();
     }
@@ -171,6 +226,14 @@ impl ThreadPool {
     /// Waits as [`join`](ThreadPool::join) does, for as long as this, and says whether it has come to its end;
     /// `Duration::MAX` is a wait without an end. Where the pool is closed, its threads have done all that they do for it
     /// then, but their thread-locals may still be about to be dropped.
+    ///
+    /// ```
+    /// # use std::time::Duration;
+    /// # let pool = resil::ThreadPool::builder(1, 1).open()?;
+    /// pool.submit(|| ())?;
+    /// assert!(pool.join_for(Duration::from_secs(60)));
+    /// # Ok::<(), Box<dyn std::error::Error>>(())
+    /// ```
     #[must_use = "it says whether all is finished"]
     pub fn join_for(&self, limit: Duration) -> bool {
         self.crew.join_until(Instant::now().checked_add(limit))
@@ -178,6 +241,13 @@ impl ThreadPool {
 
     /// Closes the pool and lets it go: what was accepted is run by its threads, which end then, and nobody waits for
     /// them.
+    ///
+    /// ```
+    /// # let pool = resil::ThreadPool::builder(1, 1).open()?;
+    /// pool.submit(|| println!("later"))?;
+    /// pool.detach();
+    /// # Ok::<(), Box<dyn std::error::Error>>(())
+    /// ```
     pub fn detach(mut self) {
         self.is_detached = true;
     }

@@ -20,7 +20,7 @@ struct Awaited {
 impl Awaited {
     fn new(backend: &Arc<Bulkhead>) -> Awaited {
         Awaited {
-            permit: backend.acquire(),
+            permit: backend.acquire_owned(),
             caller: Caller::here(),
         }
     }
@@ -152,7 +152,7 @@ fn a_waker_that_panics_leaves_no_place_in_the_row() -> Checked {
     let backend = Arc::new(Bulkhead::new("backend", 1)?);
     let permit = backend.enter()?;
     let waker = waker_that_panics();
-    let (mut first, mut second) = (backend.acquire(), backend.acquire());
+    let (mut first, mut second) = (backend.acquire_owned(), backend.acquire_owned());
     // Before it stands in the row, and while it does.
     for waiting in 0..2 {
         let looks = AssertUnwindSafe(|| look(&mut first, &waker).is_some());
@@ -183,7 +183,7 @@ fn a_permit_that_is_passed_on_is_never_free() -> Checked {
             }
             entered
         });
-        let mut next = backend.acquire();
+        let mut next = backend.acquire_owned();
         let mut is_in_order = polled(&mut next).is_none();
         for _ in 0..2_000 {
             // While one waits the other one gives its permit back.
@@ -191,7 +191,7 @@ fn a_permit_that_is_passed_on_is_never_free() -> Checked {
             let given = polled(&mut next);
             is_in_order &= given.is_some();
             held.extend(given.and_then(Result::ok));
-            next = backend.acquire();
+            next = backend.acquire_owned();
             is_in_order &= polled(&mut next).is_none();
         }
         is_over.store(true, Ordering::SeqCst);

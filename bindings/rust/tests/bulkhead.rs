@@ -84,7 +84,7 @@ fn a_wait_ends_at_its_limit() -> Checked {
     assert_eq!(backend.enter_within(Duration::ZERO).err(), Some(Full));
     let began = Instant::now();
     let refused = backend.enter_within(Duration::from_millis(20)).err();
-    assert_eq!(refused, Some(Full));
+    assert_eq!(refused, Some(NoPermit::TimedOut));
     assert!(began.elapsed() >= Duration::from_millis(20));
     drop(permit);
     assert!(backend.enter_within(Duration::MAX).is_ok());

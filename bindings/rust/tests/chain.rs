@@ -62,7 +62,7 @@ fn name_of(error: CallError<&str>) -> &str {
     match error {
         CallError::Failed(error) => error,
         CallError::Full => "FULL",
-        CallError::Closed => unreachable!("no bulkhead of a chain is closed"),
+        _ => unreachable!("no bulkhead of a chain is closed, and no call waits"),
     }
 }
 

@@ -23,13 +23,22 @@ fn after_rounds(pool: &ThreadPool, count: u64) -> Result<u64, Box<dyn Error>> {
     resident()
 }
 
+// An emulator takes memory of its own for code that it translates, so of several spans one in which nothing grows is enough: a pool that
+// keeps something of each job grows in all of them.
 #[test]
 fn memory_does_not_grow_with_the_jobs() -> Result<(), Box<dyn Error>> {
     let pool = ThreadPool::builder(2, 2).queue(100).open()?;
-    let before = after_rounds(&pool, 1_000)?;
-    let after = after_rounds(&pool, 20_000)?;
-    assert_eq!(pool.numbers().finished, 1_050_000);
-    // A byte for each job would be a mebibyte.
-    assert!(after < before + 512, "{before} and {after} KiB");
-    Ok(())
+    let mut before = after_rounds(&pool, 1_000)?;
+    let mut grown = Vec::new();
+    for span in 1..=5 {
+        let after = after_rounds(&pool, 10_000)?;
+        assert_eq!(pool.numbers().finished, 50_000 + span * 500_000);
+        // A byte for each job would be half a mebibyte.
+        if after < before + 256 {
+            return Ok(());
+        }
+        grown.push(after - before);
+        before = after;
+    }
+    panic!("each half million jobs takes so many KiB: {grown:?}");
 }

@@ -3,7 +3,7 @@ mod common;
 
 use common::{Checked, begun, end, gated};
 use resil::metrics::Metrics;
-use resil::{Bulkhead, Interval, Observer, Refusal, Retry, ThreadPool};
+use resil::{Bulkhead, Interval, Observer, Refusal, Retry, ThreadPool, WaitEnd};
 use std::sync::{Arc, Barrier};
 use std::thread;
 use std::time::Duration;
@@ -96,14 +96,16 @@ fn a_histogram_has_all_times_up_to_each_end() {
     let ms = Duration::from_millis;
     for time in [Duration::ZERO, ms(1), ms(2), ms(30), ms(1_500), ms(10_001)] {
         calls.call_finished("b", time);
+        calls.call_waited("b", time, WaitEnd::Granted);
     }
     let counts = "0.001 2, 0.0025 3, 0.005 3, 0.01 3, 0.025 3, 0.05 4, 0.1 4, 0.25 4, 0.5 4, 1 4, 2.5 5, 5 5, 10 5, +Inf 6";
-    let family = "resil_bulkhead_call_seconds";
-    let mut wanted = counted(&format!("{family}_bucket"), r#"name="b",le="_""#, counts);
-    wanted.push(format!("{family}_sum{{name=\"b\"}} 11.534000000"));
-    wanted.push(format!("{family}_count{{name=\"b\"}} 6"));
     let text = metrics.text(&[], &[]);
-    assert_eq!(lines(&text, family), wanted);
+    for family in ["resil_bulkhead_call_seconds", "resil_bulkhead_wait_seconds"] {
+        let mut wanted = counted(&format!("{family}_bucket"), r#"name="b",le="_""#, counts);
+        wanted.push(format!("{family}_sum{{name=\"b\"}} 11.534000000"));
+        wanted.push(format!("{family}_count{{name=\"b\"}} 6"));
+        assert_eq!(lines(&text, family), wanted);
+    }
 }
 
 #[test]

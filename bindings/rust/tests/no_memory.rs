@@ -72,8 +72,8 @@ fn a_registry_is_as_it_was() -> Result<(), RegistryError> {
 }
 
 #[test]
-fn a_pool_has_room_for_its_queue_and_threads() {
-    for piece in 1..=4 {
+fn a_pool_has_room_for_its_ring_queue_and_threads() {
+    for piece in 1..=5 {
         let refused = without(piece, || ThreadPool::builder(8, 8).open().err());
         assert_eq!(refused, Some(PoolError::Memory));
     }

@@ -81,7 +81,7 @@ fn each_way_to_a_permit_is_told() -> Checked {
         |b| b.enter_within(LIMIT).is_ok(),
         |b| b.enter_owned().is_ok(),
         |b| b.enter_owned_within(LIMIT).is_ok(),
-        |b| matches!(polled(&mut b.acquire()), Some(Ok(_))),
+        |b| matches!(polled(&mut b.acquire_owned()), Some(Ok(_))),
     ];
     for is_permitted in ways {
         assert!(is_permitted(&b));
@@ -97,7 +97,7 @@ fn each_way_to_a_permit_is_told() -> Checked {
     permit.forget();
     assert!(log.take().is_empty());
     assert_eq!(b.available(), 0);
-    let mut waits = b.acquire();
+    let mut waits = b.acquire_owned();
     assert!(polled(&mut waits).is_none());
     b.close();
     assert!(polled(&mut waits).is_some());
@@ -136,7 +136,7 @@ fn a_call_in_a_call_and_one_that_panics_are_told() -> Checked {
 fn a_permit_that_is_handed_on_is_told_once_it_is_awaited() -> Checked {
     let (log, b) = logged(1)?;
     let permit = b.enter()?;
-    let (mut first, mut second) = (b.acquire(), b.acquire());
+    let (mut first, mut second) = (b.acquire_owned(), b.acquire_owned());
     assert!(polled(&mut first).is_none() && polled(&mut second).is_none());
     drop(permit);
     assert_eq!(log.take(), CALL);
@@ -207,7 +207,7 @@ fn nothing_is_lost_where_the_observer_panics() -> Checked {
     let b = Arc::new(Bulkhead::new("b", 1)?.observed(panics.clone()));
     let enter = AssertUnwindSafe(|| b.enter().is_ok());
     assert!(catch_unwind(enter).is_err());
-    let acquire = AssertUnwindSafe(|| polled(&mut b.acquire()).is_some());
+    let acquire = AssertUnwindSafe(|| polled(&mut b.acquire_owned()).is_some());
     assert!(catch_unwind(acquire).is_err());
     assert_eq!((b.available(), panics.0.load(Ordering::Relaxed)), (1, 2));
     let pool = ThreadPool::builder(1, 1).observed(panics).open()?;
@@ -295,7 +295,7 @@ fn nothing_is_locked_while_an_observer_is_told() -> Checked {
     assert_eq!(outcome, Ok(true));
     // While a task waits: who gives back hands the permit on.
     let permit = b.enter()?;
-    let mut waits = b.acquire();
+    let mut waits = b.acquire_owned();
     assert!(polled(&mut waits).is_none());
     drop(permit);
     drop(waits);

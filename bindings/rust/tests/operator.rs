@@ -28,7 +28,7 @@ fn who_asks_later_is_told() -> Checked {
     assert_eq!(backend.enter_within(Duration::MAX).err(), Some(Closed));
     let refused = backend.enter_owned_within(Duration::ZERO).err();
     assert_eq!(refused, Some(Closed));
-    assert!(is_closed(&mut backend.acquire()));
+    assert!(is_closed(&mut backend.acquire_owned()));
     // A second time.
     backend.close();
     assert_eq!(backend.enter().err(), Some(Closed));
@@ -40,7 +40,7 @@ fn who_asks_later_is_told() -> Checked {
 fn who_waits_is_told_at_once() -> Checked {
     let backend = Arc::new(Bulkhead::new("backend", 1)?);
     let permit = backend.enter()?;
-    let mut row = [(); 3].map(|()| backend.acquire());
+    let mut row = [(); 3].map(|()| backend.acquire_owned());
     assert!(row.iter_mut().all(|one| polled(one).is_none()));
     let threads = thread::scope(|scope| {
         let threads = [(); 2].map(|()| scope.spawn(|| backend.enter_within(Duration::MAX).err()));
@@ -63,7 +63,7 @@ fn who_waits_is_told_at_once() -> Checked {
 fn who_was_given_a_permit_has_it() -> Checked {
     let backend = Arc::new(Bulkhead::new("backend", 1)?);
     let permit = backend.enter()?;
-    let (mut first, mut second) = (backend.acquire(), backend.acquire());
+    let (mut first, mut second) = (backend.acquire_owned(), backend.acquire_owned());
     assert!(polled(&mut first).is_none() && polled(&mut second).is_none());
     drop(permit);
     backend.close();
@@ -75,7 +75,7 @@ fn who_was_given_a_permit_has_it() -> Checked {
     // One that is dropped, and not polled.
     let backend = Arc::new(Bulkhead::new("backend", 1)?);
     let permit = backend.enter()?;
-    let mut waits = backend.acquire();
+    let mut waits = backend.acquire_owned();
     assert!(polled(&mut waits).is_none());
     backend.close();
     drop(waits);
@@ -102,7 +102,7 @@ fn a_waker_may_close_it() -> Checked {
     let permit = backend.enter()?;
     let closes = Arc::new(Closes(Arc::downgrade(&backend), AtomicU32::new(0)));
     let waker = Waker::from(Arc::clone(&closes));
-    let mut row = [(); 3].map(|()| backend.acquire());
+    let mut row = [(); 3].map(|()| backend.acquire_owned());
     let mut context = Context::from_waker(&waker);
     for one in &mut row {
         assert!(Pin::new(one).poll(&mut context).is_pending());
@@ -130,7 +130,7 @@ fn it_is_closed_in_the_middle_of_its_work() -> Checked {
                             let refused = match kind % 3 {
                                 0 => backend.call(thread::yield_now).err(),
                                 1 => backend.enter_within(Duration::MAX).err(),
-                                _ => block_on(backend.acquire()).err(),
+                                _ => block_on(backend.acquire_owned()).err(),
                             };
                             if refused == Some(Closed) {
                                 return true;
@@ -183,7 +183,7 @@ fn what_is_free_is_retired_and_the_rest_is_owed() -> Checked {
 fn a_debt_is_paid_before_the_row() -> Checked {
     let backend = Arc::new(Bulkhead::new("backend", 2)?);
     let (first, second) = (backend.enter()?, backend.enter()?);
-    let mut row = [backend.acquire(), backend.acquire()];
+    let mut row = [backend.acquire_owned(), backend.acquire_owned()];
     assert!(row.iter_mut().all(|one| polled(one).is_none()));
     assert_eq!((backend.retire(1), backend.shrink(1)), (0, 0));
     assert_eq!(counts(&backend), (0, 0, 1));
@@ -212,6 +212,12 @@ fn a_permit_that_is_forgotten_pays_nothing() -> Checked {
     assert_eq!((backend.shrink(2), counts(&backend)), (1, (0, 1, 1)));
     assert_eq!((backend.raise(1), counts(&backend)), (1, (0, 1, 0)));
     assert_eq!((backend.raise(9), counts(&backend)), (1, (1, 0, 0)));
+    // Once it is written off it isn't owed again, and what is raised is free.
+    assert_eq!((backend.shrink(2), backend.owed()), (1, 1));
+    assert_eq!((backend.write_off(9), backend.write_off(9)), (1, 0));
+    assert_eq!((backend.raise(9), counts(&backend)), (1, (1, 0, 0)));
+    assert_eq!((backend.shrink(2), counts(&backend)), (1, (0, 1, 0)));
+    assert_eq!(backend.numbers().written_off, 1);
     Ok(())
 }
 
@@ -220,7 +226,7 @@ fn those_who_may_wait_are_not_those_who_are_owed() -> Checked {
     let backend = Arc::new(Bulkhead::new("backend", 1)?);
     let permit = backend.enter()?;
     assert_eq!(backend.shrink(1), 0);
-    let mut waits = backend.acquire().most_waiting(1);
+    let mut waits = backend.acquire_owned().most_waiting(1);
     assert!(polled(&mut waits).is_none() && backend.numbers().waiting == 1);
     drop(permit);
     assert_eq!((counts(&backend), backend.raise(1)), ((0, 1, 0), 1));
@@ -247,7 +253,7 @@ fn an_operator_shrinks_under_load() -> Checked {
                     match kind % 3 {
                         0 => drop(backend.call(goes_in)),
                         1 => drop(backend.enter_within(PATIENCE).map(|_permit| goes_in())),
-                        _ => drop(block_on(backend.acquire()).map(|_permit| goes_in())),
+                        _ => drop(block_on(backend.acquire_owned()).map(|_permit| goes_in())),
                     }
                 }
             });

@@ -40,7 +40,7 @@ static ALONE: Mutex<()> = Mutex::new(());
 
 // So many who stand in the row of a bulkhead all of whose permits are held.
 fn row_of(backend: &Arc<Bulkhead>, count: usize) -> Vec<Acquire> {
-    let mut row: Vec<_> = (0..count).map(|_| backend.acquire()).collect();
+    let mut row: Vec<_> = (0..count).map(|_| backend.acquire_owned()).collect();
     assert!(row.iter_mut().all(|one| polled(one).is_none()));
     row
 }
@@ -78,6 +78,26 @@ fn who_leaves_a_long_row_takes_no_longer() -> Checked {
     let [(_, short), (_, long)] = times;
     assert!(long < 30 * short, "{short} and {long} ns");
     assert_eq!(backend.numbers().waiting, 0);
+    Ok(())
+}
+
+// As many places in the row as permits would take milliseconds each.
+#[test]
+fn who_waits_for_all_permits_comes_and_goes_as_one() -> Checked {
+    let _alone = ALONE.lock().unwrap_or_else(PoisonError::into_inner);
+    let backend = Arc::new(Bulkhead::new("backend", 65_535)?);
+    let _permit = backend.enter()?;
+    let mut quickest = u64::MAX;
+    for _ in 0..5 {
+        let mut all = backend.acquire_many_owned(65_535);
+        let begun = processor_time()?;
+        assert!(polled(&mut all).is_none());
+        drop(all);
+        quickest = quickest.min(processor_time()? - begun);
+    }
+    // Without optimization it is some 30 us.
+    assert!(quickest < 1_000_000, "{quickest} ns");
+    assert_eq!(backend.available(), 65_534);
     Ok(())
 }
 
@@ -124,7 +144,7 @@ fn a_waker_that_panics_leaves_nobody_unwoken() -> Checked {
     });
     let mut row = Vec::new();
     for waker in &wakers {
-        let mut permit = backend.acquire();
+        let mut permit = backend.acquire_owned();
         assert!(look(&mut permit, &Waker::from(Arc::clone(waker))).is_none());
         row.push(permit);
     }

@@ -1,7 +1,7 @@
 //! A pool of threads: its answers, its numbers, its ends, and what is done to it by mistake.
 mod common;
 
-use common::{Checked, PATIENCE, end, gated, in_time, until, wait_at};
+use common::{Checked, PATIENCE, begun, end, gated, in_time, until, wait_at};
 use resil::{JobError, JobHandle, PoolError, PoolNumbers, Refusal, Reply, ThreadPool};
 use std::error::Error;
 use std::panic::{RefUnwindSafe, UnwindSafe};
@@ -275,6 +275,8 @@ fn a_smaller_core_lets_threads_end() -> Checked {
     assert!(until(|| pool.numbers().workers == 1));
     assert_eq!(pool.resize(1, 4), Err(PoolError::MaxOutOfRange));
     assert_eq!(pool.resize(0, 4), Err(PoolError::CoreOutOfRange));
+    // The rule is known to queue what comes, up to the next size.
+    assert_eq!(pool.submit(|| ())?.reply(), Reply::Queued);
     pool.resize(2, 2)?;
     assert_eq!(pool.submit(|| ())?.reply(), Reply::Core);
     Ok(())
@@ -332,6 +334,57 @@ fn jobs_join_their_own_pool() -> Checked {
     pool.close();
     pool.join();
     assert_eq!(pool.numbers().workers, 0);
+    Ok(())
+}
+
+#[test]
+fn one_callers_jobs_begin_in_their_order() -> Checked {
+    let pool = ThreadPool::builder(1, 1).queue(65_536).open()?;
+    let (begins, begun) = mpsc::channel();
+    for number in 0..20_000 {
+        let begins = begins.clone();
+        drop(pool.submit(move || begins.send(number))?);
+    }
+    drop(begins);
+    assert!(begun.into_iter().eq(0..20_000));
+    Ok(())
+}
+
+#[test]
+fn a_long_queue_is_filled_to_its_last_place() -> Checked {
+    let pool = ThreadPool::builder(1, 2).queue(700).open()?;
+    let first = begun(&pool)?;
+    let jobs = (0..700).map(|number| pool.submit(move || number));
+    let jobs = jobs.collect::<Result<Vec<_>, _>>()?;
+    assert!(jobs.iter().all(|job| job.reply() == Reply::Queued));
+    let extra = gated(&pool)?;
+    assert_eq!(extra.1.reply(), Reply::Extra);
+    assert_eq!(pool.submit(|| ()).unwrap_err().reason, Refusal::Full);
+    assert_eq!(pool.numbers().waiting, 700);
+    end(first)?;
+    for (job, number) in jobs.into_iter().zip(0..) {
+        assert_eq!(in_time(job)?, number);
+    }
+    end(extra)
+}
+
+#[test]
+fn an_answer_is_of_a_job_that_is_finished_and_the_other_way_round() -> Checked {
+    let pool = ThreadPool::builder(3, 3).queue(1_000).open()?;
+    for turn in 1..=1_000 {
+        let jobs = [(); 6].map(|()| pool.submit(|| ()));
+        let [first, rest @ ..] = jobs;
+        in_time(first?)?;
+        let finished = pool.numbers().finished;
+        assert!(finished > 7 * (turn - 1));
+        let rest = rest.into_iter().collect::<Result<Vec<_>, _>>()?;
+        assert!(until(|| pool.numbers().finished == 7 * turn - 1));
+        assert!(rest.iter().all(JobHandle::is_finished));
+        // A join sees what was submitted just before it.
+        let last = pool.submit(|| ())?;
+        pool.join();
+        assert!(last.is_finished());
+    }
     Ok(())
 }
 

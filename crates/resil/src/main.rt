@@ -4,8 +4,10 @@
 //! It hands its words, its standard input and its standard output to `drive` of `resil_driver`.
 #![tactic(auto)]
 
+mod said;
+
 use resil_driver::drive;
-use resil_explain::{explain_command, start};
+use resil_explain::start;
 use std::process::ExitCode;
 use std::rt::Env;
 use std::sync::Wait;
@@ -15,7 +17,7 @@ fn run<R: Env + Input + Print + Eprint + AllocGlobal + Threads + Wait + Sync>(rt
     start!(
         rt,
         |words, reader, writer| drive(rt, words, reader, writer),
-        explain_command
+        said::explain_command
     )
 }
 

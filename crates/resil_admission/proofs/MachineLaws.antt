@@ -3,7 +3,7 @@ use Rattle.std.specs.Prelude.{IfNone}
 use Rattle.std.proofs.Common.{inl, inr, ◌⊎◌, Bool, cond, ◌≡◌, ◌<◌, ◌≤◌, ◌+◌, ◌-◌, ◌∷◌, [], ◌++◌, ◌∙◌, ℕ, suc, true, false, List, Option, Some, None, length, drop, take, slice_get, refl, sym, ap, subst, arith, append-nil, length-append}
 use Rattle.std.proofs.lemmas.List.{map-append}
 use Rattle.resil_admission.specs.Words.{PlanView, is_among, is_same_id, times, taken, unfinished, started, accepted, waiting, running, workers, started_id, accepted_id, IsAllowed, AllView, ids_out, IsStateOf, Slot, Id, Reply, Core, Queued, Extra, Full, Closed, Event, Submit, Take, Accepted}
-use Rattle.resil_rule.specs.RuleView.{RuleView, ids_of as ids_waiting, busy, owed, is_acceptance, with_submission, with_pick, with_take, with_finish}
+use Rattle.resil_rule.specs.RuleView.{RuleView, ids_of as ids_waiting, busy, owed, is_acceptance, counted, with_submission, with_pick, with_take, with_finish}
 use Rattle.resil_rule.proofs.EventLaws.{front-is}
 use Rattle.resil_rule.proofs.ConservationLaws.{conserved, in_flight-accepted, times-cons}
 use Rattle.resil_rule.proofs.SlotLaws.{there-out}
@@ -157,6 +157,13 @@ pub out-there : (v : RuleView (Unit {0})) (h : List Event) → IsStateOf h v →
 out-there v h state slot there =
     let more : times slot.id (ids_out v.out) ≡ suc (times slot.id (ids_out (with_finish v slot).out)) = omega (arith, there-out slot.id v.out slot.place there) in
     sym (out-are v h state slot.id) ∙ among-times slot.id (ids_out v.out) ∙ ap is_positive more
+
+-- a submission that is refused is counted alone
+pub refused-counted : (v : RuleView (Unit {0})) (id : Id) (reply : Reply) → is_acceptance reply ≡ false → with_submission v id tt reply ≡ counted v id
+refused-counted v id Core bars = absurd (cc bars)
+refused-counted v id Queued bars = absurd (cc bars)
+refused-counted v id Extra bars = absurd (cc bars)
+refused-counted v id reply bars = refl
 
 -- a machine after a submission, as its contracts see it
 pub refused-view : (v : RuleView (Unit {0})) (h : List Event) (jobs : List Accepted) (id : Id) (reply : Reply) (plan : PlanView) → is_acceptance reply ≡ false

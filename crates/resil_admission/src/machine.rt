@@ -109,8 +109,7 @@ impl Machine {
         };
         let reply = self.rule.next_reply();
         if !is_acceptance(reply) {
-            // It answers what `next_reply` told.
-            let _refused = self.rule.submit(id, ());
+            self.rule.submit_with_reply(id, (), reply);
             self.history.write(Event::Submit { id, reply });
             return Ok(reply);
         }
@@ -120,8 +119,7 @@ impl Machine {
         let Ok(plan) = job.shared_plan() else {
             return Err((AdmitError::Memory, job));
         };
-        // It answers what `next_reply` told.
-        let _accepted = self.rule.submit(id, ());
+        self.rule.submit_with_reply(id, (), reply);
         self.history.write(Event::Submit { id, reply });
         self.jobs.push(id, job, plan);
         Ok(reply)

@@ -1,24 +1,22 @@
 -- Each step of a book follows the definitions, after every history that it may stand for.
-use Rattle.std.proofs.Common.{◌≡◌, ◌+◌, ◌-◌, ◌^◌, ◌∷◌, [], ◌++◌, ◌∙◌, ◌<◌, ℕ, zero, min, suc, Bool, true, false, not, cond, List, Option, Some, None, length, filter, drop, slice_get, Result, IfOk, IfErr, refl, sym, ap, subst, arith, length-append}
+use Rattle.std.proofs.Common.{◌≡◌, ◌+◌, ◌-◌, ◌^◌, ◌∷◌, [], ◌++◌, ◌∙◌, ◌<◌, ℕ, zero, min, suc, Bool, true, false, not, cond, List, Option, Some, None, length, filter, drop, slice_get, refl, sym, ap, subst, arith, length-append}
 use Rattle.std.specs.List.{filter_map}
 use Rattle.std.proofs.lemmas.List.Elements.{filter-append}
 use Rattle.resil_rule.specs.History.{accepted, finished, accepted_id, finished_id}
-use Rattle.resil_rule.specs.RuleView.{RuleView, busy, with_pick, with_take, with_finish, is_acceptance, with_submission, next_reply, made_by, counted, opened}
-use Rattle.resil_rule.specs.RuleState.{IsStateOf, IsSubmitRefusal, Follows as RuleFollows, StaysAt as RuleStaysAt}
+use Rattle.resil_rule.specs.RuleView.{RuleView, busy, with_pick, with_take, with_finish, is_acceptance, with_submission, next_reply, opened}
+use Rattle.resil_rule.specs.RuleState.{IsStateOf, Follows as RuleFollows, StaysAt as RuleStaysAt}
 use Rattle.resil_rule.specs.Record.{LastView, IsLastOf}
 use Rattle.resil_rule.specs.Limits.{Sizes}
 use Rattle.resil_rule.specs.Slots.{ids_out}
 use Rattle.resil_rule.specs.declared.slots.Slot.{Slot}
 use Rattle.resil_rule.specs.declared.rule.Origin.{Origin}
 use Rattle.resil_rule.specs.declared.rule.Origin.TheVariants.{Queue}
-use Rattle.resil_rule.specs.declared.error.Refusal.{Refusal}
 use Rattle.resil_rule.specs.declared.event.Id.{Id}
 use Rattle.resil_rule.specs.declared.event.Reply.{Reply}
 use Rattle.resil_rule.specs.declared.event.Reply.TheVariants.{Core, Queued, Extra, Full, Closed}
 use Rattle.resil_rule.specs.declared.event.Event.{Event}
 use Rattle.resil_rule.specs.declared.event.Event.TheVariants.{Submit, Take, Finish}
 use Rattle.resil_rule.proofs.EventLaws.{front-is}
-use Rattle.resil_rule.proofs.RefusalLaws.{submission-accepted, submission-refused}
 use Rattle.resil_rule.proofs.RuleLaws.{length-ids}
 use Rattle.resil_rule.proofs.SlotLaws.{put-length, clear-length, none-out}
 use Rattle.resil_rule.proofs.UnpickedLaws.{filtered-same, filtered-more}
@@ -127,25 +125,6 @@ pub below : (places : List (Option Id)) (i : ℕ) (o : Option Id) → slice_get 
 below [] i o there = absurd (cc there)
 below (p ∷ places) zero o there = omega arith
 below (p ∷ places) (suc i) o there = let rest = below places i o there in omega (arith, rest)
-
--- what the rule answers to a submission that is next
-module _ (v after : RuleView ℕ) (id : Id) (work : ℕ) (known : id.caller < length v.made) (next : id.number ≡ suc (made_by v id.caller))
-    (result : Result Reply (Refusal × ℕ))
-    (accepted : IfOk result (λ reply. (reply ≡ next_reply v) × (is_acceptance reply ≡ true) × (after ≡ with_submission v id work reply)))
-    (follows : IfOk result (λ reply. RuleFollows v (Submit id reply) after)) (refused : IfErr result (λ e. IsSubmitRefusal v id e.0 after)) where
-  counted-is : (reply : Reply) → is_acceptance reply ≡ false → counted v id ≡ with_submission v id work reply
-  counted-is Core bars = absurd (cc bars)
-  counted-is Queued bars = absurd (cc bars)
-  counted-is Extra bars = absurd (cc bars)
-  counted-is Full bars = refl
-  counted-is Closed bars = refl
-
-  pub submission-is : after ≡ with_submission v id work (next_reply v)
-  submission-is = go (is_acceptance (next_reply v)) refl
-    where
-      go : (accepts : Bool) → is_acceptance (next_reply v) ≡ accepts → after ≡ with_submission v id work (next_reply v)
-      go true accepts = submission-accepted v after id work known next result accepted follows refused accepts
-      go false bars = submission-refused v after id work known next result accepted follows refused bars ∙ counted-is (next_reply v) bars
 
 -- a pick of a job with a worker of its own
 pub pick-stays : (b : BookView) (slot : Slot) (work : ℕ) → slice_get b.rule.out slot.place ≡ Some None → slice_get b.rule.unpicked 0 ≡ Some (slot.id, work)

@@ -14,10 +14,10 @@ ghost use Rattle.resil_chain.specs.Head.{chain_in, chain_head_of};
 ghost use Rattle.resil_heads.specs.Ranges.{AreLayersInRange};
 
 use resil_decor::Chain;
+use resil_heads::HeadFault;
 use resil_heads::document::read_document;
 use resil_heads::forms::Key;
 use resil_heads::layers::{LAYER, PERMITS, build_chain, parse_chain};
-use resil_heads::{HeadError, HeadFault};
 use resil_registry::Registry;
 use std::alloc::Global;
 use std::marker::Model;
@@ -47,7 +47,7 @@ pub fn chain_in(alloc: Global, head: &Table) -> Result<Chain, HeadFault>
 /// one; `BadValue` for an unknown backoff; `UnknownKey`; `MissingKey`; `BadValue`; `Registry` for
 /// the first configuration, in byte order of the names, that can't be added; `Retry` or `Registry`
 /// for the first layer that can't be built; `Chain`. `Memory` may come at any stage.
-pub fn read_head(alloc: Global, head: &[u8]) -> Result<Chain, HeadError>
+pub fn read_head(alloc: Global, head: &[u8]) -> Result<Chain, HeadFault>
     ensures answer { Gives result (chain_head_of head.now) }
 
     // The layers make a chain, each interval and each number of attempts is one that a retry takes,

@@ -13,6 +13,7 @@ pub mod head;
 pub mod rows;
 pub mod run_fields;
 pub mod runs;
+pub mod subject;
 mod worked_heads;
 
 use head::read_head;

@@ -12,7 +12,7 @@ ghost use Rattle.resil_driver.specs.Program.{DrivesTo, IsAnswerTo, WritesNoMemor
 
 use crate::command::command_text;
 use crate::run::{self, ThreadRunner};
-use resil_heads::{CommandError, Refusal, error_output};
+use resil_heads::{error_output, too_long_output};
 use resil_input::io::{Input, InputReader, OutputWriter, ReadError, read_input};
 use resil_input::output::{Output, Status, write_output};
 use resil_words::{Request, RunOptions, Single, UsageError, parse_args};
@@ -40,7 +40,7 @@ fn single_output<R: InputReader>(
                 Err(error) => Ok(error_output(alloc, error)),
             }
         }
-        Ok(Input::TooLong) => Ok(error_output(alloc, CommandError::Refused(Refusal::TooLong))),
+        Ok(Input::TooLong) => Ok(too_long_output(alloc)),
         Err(ReadError::Memory) => Ok(Output::NoMemory),
         Err(ReadError::Reader) => Err(ReadError::Reader),
     }
@@ -67,7 +67,7 @@ fn run_output<R: Threads + Wait + Sync, S: InputReader>(
                 Err(error) => Ok(error_output(alloc, error)),
             }
         }
-        Ok(Input::TooLong) => Ok(error_output(alloc, CommandError::Refused(Refusal::TooLong))),
+        Ok(Input::TooLong) => Ok(too_long_output(alloc)),
         Err(ReadError::Memory) => Ok(Output::NoMemory),
         Err(ReadError::Reader) => Err(ReadError::Reader),
     }

@@ -20,6 +20,7 @@ mod play;
 pub mod report;
 pub mod rows;
 mod runner;
+pub mod subject;
 mod worked_heads;
 
 use crate::run::head::read_head;

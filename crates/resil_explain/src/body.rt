@@ -3,6 +3,7 @@
 use crate::place::{Line, Listed};
 use csv::{ByteRecord, ReaderBuilder};
 use resil_heads::forms::{Body, Form, Row};
+use resil_heads::subject::Subject;
 use resil_input::csv_rows::has_fields;
 use std::alloc::Global;
 use std::fmt;
@@ -147,6 +148,15 @@ fn field_fault(body: Body, record: &ByteRecord, callers: u16) -> Option<RowFault
         }
     }
     None
+}
+
+/// What the bodies of a command under this header may have.
+pub(crate) fn body_under<S: Subject>(subject: S, header: &ByteRecord) -> Body {
+    let mut others = subject.other_bodies().iter();
+    match others.find(|(_, other)| has_fields(header, other.header)) {
+        Some((_, other)) => *other,
+        None => subject.body(),
+    }
 }
 
 /// What is wrong with a record, if it is no row under a header of these bodies.

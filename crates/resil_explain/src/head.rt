@@ -2,21 +2,15 @@
 
 use crate::definition::{Step, place_of};
 use crate::place::{Line, Listed, Shown};
-use crate::table::{key_of, keys_of_layer, said_of};
-use crate::told::{Subject, Told};
-use resil_chain::head::chain_in;
+use crate::table::said_of;
+use crate::told::Told;
 use resil_heads::forms::{Form, Key, PERMIT_COUNT};
-use resil_heads::keys::{count_at, parse_kind_value};
-use resil_heads::layers::{EXPONENTIAL_RETRY_KEYS, build_chain, parse_chain};
-use resil_heads::run::RUN_KEYS;
-use resil_heads::sizes::parse_limits;
-use resil_heads::{HeadError, HeadFault, Part};
+use resil_heads::layers::{EXPONENTIAL_RETRY_KEYS, title_and_keys};
+use resil_heads::subject::Subject;
+use resil_heads::{FaultyKey, HeadError, Part};
 use std::alloc::{AllocError, Global};
 use std::fmt;
 use toml::{Table, Value};
-
-// The longest wait of a retry.
-const LONGEST: Form = Form::Integer(0, 31_536_000_000);
 
 /// What is wrong with a head.
 #[derive(Clone, Copy)]
@@ -46,8 +40,12 @@ enum Fault<'a> {
     Kind(usize),
     // This, its value or what it is, is no name.
     Name(&'a str),
-    // The greatest size, where the core size is this.
-    Greatest(i64),
+    // The core size, which is from the least to the greatest.
+    Core(i64, i64),
+    // The greatest size, where the core size is the first of these, up to the second.
+    Greatest(i64, i64),
+    // The capacity of the queue, from the least to the greatest.
+    Places(i64, i64),
     // The attempts, which come to this with those of the other retries.
     Calls(u128),
     // What is allowed there.
@@ -99,9 +97,15 @@ impl fmt::Display for Explained<'_> {
                     "the name `{name}` is not 1 to 64 bytes of ASCII letters, digits, `-`, `_` and `.`"
                 )
             }
-            Fault::Greatest(core) => {
-                write!(f, "the greatest size is from the core size, {core}, to 64")
+            Fault::Core(least, most) => write!(f, "the core size is from {least} to {most}"),
+            Fault::Greatest(0, most) => write!(f, "the greatest size is from 1 to {most}"),
+            Fault::Greatest(core, most) => {
+                write!(
+                    f,
+                    "the greatest size is from the core size, {core}, to {most}"
+                )
             }
+            Fault::Places(least, most) => write!(f, "the queue has {least} to {most} places"),
             Fault::Calls(calls) => write!(
                 f,
                 "the attempts of all retries of a chain come to at most 1000, multiplied, and here to {calls}"
@@ -111,61 +115,8 @@ impl fmt::Display for Explained<'_> {
     }
 }
 
-// Checks the table of the head of a `run`.
-fn check_run(alloc: Global, table: &Table) -> Result<(), HeadFault> {
-    let asked = parse_chain(alloc, RUN_KEYS, table)?;
-    count_at("keep_alive", 0, table)?;
-    parse_limits(table)?;
-    build_chain(alloc, asked).map(drop)
-}
-
-// The part of a head that is refused, or `None` when out of memory.
-fn refused_part(told: Told<'_>, table: &Table) -> Option<Part> {
-    let checked = match told.subject {
-        Subject::Chain => chain_in(told.alloc, table).map(drop),
-        Subject::Run(_) => check_run(told.alloc, table),
-        // These have one part.
-        Subject::Replay | Subject::Audit | Subject::History(_) | Subject::Weave | Subject::Load => {
-            return Some(Part::Head);
-        }
-    };
-    let fault = checked.err()?;
-    let part = fault.part();
-    match HeadError::from(fault) {
-        HeadError::Memory => None,
-        _ => Some(part),
-    }
-}
-
-// Whether there is a value that isn't of a form.
-fn is_bad(form: Form, value: Option<&Value>) -> bool {
-    value.is_some_and(|value| !form.has(value))
-}
-
-// The place of the first value that is no kind of error.
-fn other_than_kind(values: &[Value]) -> Option<usize> {
-    values
-        .iter()
-        .position(|value| parse_kind_value(value).is_err())
-}
-
 fn is_one_of(keys: &[Key], name: &str) -> bool {
     keys.iter().any(|key| key.name() == name)
-}
-
-// What is wrong at a key, with the key.
-type AtKey<'a> = (&'a str, Fault<'a>);
-
-// The first key of a table that is none of these.
-fn unknown_key<'a>(title: &str, keys: &'static [Key], table: &'a Table) -> Option<AtKey<'a>> {
-    let name = table.keys().find(|name| !is_one_of(keys, name.as_str()))?;
-    let is_of_growth = title == "a retry" && is_one_of(EXPONENTIAL_RETRY_KEYS, name.as_str());
-    let fault = if is_of_growth {
-        Fault::NeedsGrowth
-    } else {
-        Fault::Unknown(keys)
-    };
-    Some((name.as_str(), fault))
 }
 
 // The product of the attempts of all retries of a head.
@@ -182,125 +133,164 @@ fn calls_in(head: &Table) -> Option<u128> {
     Some(calls)
 }
 
-// The first of these keys whose value in a table isn't of its form.
-fn bad_value<'a>(keys: &'static [Key], table: &Table) -> Option<AtKey<'a>> {
-    let mut keys = keys.iter();
-    let key = keys.find(|key| is_bad(key.form(), table.get(key.name())))?;
-    let values = table.get(key.name()).and_then(Value::as_array);
-    let fault = match (key.form(), values) {
-        (Form::Kinds, Some(values)) => Fault::Kind(other_than_kind(values)?),
-        (form, _) => Fault::Value(form),
-    };
-    Some((key.name(), fault))
+// What a key's value may be, of these keys.
+fn form_of(keys: &[Key], name: &str) -> Option<Form> {
+    let key = keys.iter().find(|key| key.name() == name)?;
+    Some(key.form())
 }
 
-// What a part of these keys is refused for by this name, where that can be seen of its table.
-fn fault_in<'a>(
-    (title, keys): (&'static str, &'static [Key]),
-    (head, table): (&'a Table, &'a Table),
-    name: &str,
-) -> Option<AtKey<'a>> {
-    match name {
-        "UnknownKey" => unknown_key(title, keys, table),
-        "MissingKey" => {
-            let mut needed = keys.iter().filter(|key| matches!(**key, Key::Required(..)));
-            let key = needed.find(|key| table.get(key.name()).is_none())?;
-            Some((key.name(), Fault::Missing(key.form())))
-        }
-        "BadValue" => bad_value(keys, table),
-        "BadName" => Some(("name", Fault::Name(table.get("name")?.as_str()?))),
-        "MaxOutOfRange" => match (
-            table.get("core")?.as_integer(),
-            table.get("max")?.as_integer(),
+// The least and the greatest that a key's integers may be, of these keys.
+fn range_of(keys: &[Key], name: &str) -> Option<(i64, i64)> {
+    match form_of(keys, name)? {
+        Form::Integer(least, most) | Form::Count(least, most) => Some((least, most)),
+        Form::Sizes(least, most) => Some((i64::from(least), i64::from(most))),
+        _ => None,
+    }
+}
+
+// The greatest size that a head of these keys may have, where it has one core size and one greatest size.
+fn greatest(keys: &[Key], head: &Table) -> Option<Fault<'static>> {
+    let (_, most) = range_of(keys, "max")?;
+    Some(
+        match (
+            head.get("core")?.as_integer(),
+            head.get("max")?.as_integer(),
         ) {
-            (Some(core), Some(_)) => Some(("max", Fault::Greatest(core))),
-            _ => Some((
-                "max",
-                Fault::Other(
-                    "a greatest size is from 1 to 64, and one of them at least is no lower than a core size",
-                ),
-            )),
+            (Some(core), Some(_)) => Fault::Greatest(core, most),
+            _ => Fault::Other(
+                "a greatest size is from 1 to 64, and one of them at least is no lower than a core size",
+            ),
         },
-        "TooManyCalls" => Some(("attempts", Fault::Calls(calls_in(head)?))),
-        _ => {
-            let (key, said) = (key_of(name), said_of(name)?);
-            let is_cap = name == "IntervalTooLong" && !is_bad(LONGEST, table.get(key));
-            Some((if is_cap { "cap" } else { key }, Fault::Other(said)))
-        }
-    }
+    )
 }
 
-// What a configuration at a place of a head's, in byte order of their names, is refused for by this name.
-fn fault_of_configuration<'a>(head: &'a Table, place: usize, name: &str) -> Option<AtKey<'a>> {
-    let configurations = head.get("permits")?.as_table()?;
-    let key = configurations.keys().nth(place)?.as_str();
-    let fault = match name {
-        "BadValue" => Fault::Value(PERMIT_COUNT),
-        "BadName" => Fault::Name(key),
-        _ => Fault::Other(said_of(name)?),
+// A part of a head, by what it is called, the keys that it may have, and its table.
+#[derive(Clone, Copy)]
+struct PartOfHead<'a> {
+    part: Part,
+    title: &'static str,
+    keys: &'static [Key],
+    table: &'a Table,
+}
+
+// The part of a head of these keys.
+fn part_of<'a>(keys: &'static [Key], head: &'a Table, part: Part) -> Option<PartOfHead<'a>> {
+    let (title, keys, table) = match part {
+        Part::Head => ("", keys, head),
+        Part::Configuration(_) => ("", keys, head.get("permits")?.as_table()?),
+        Part::Layer(place) => {
+            let layer = head.get("layer")?.as_array()?.get(place)?.as_table()?;
+            let (title, keys) = title_and_keys(layer);
+            (title, keys, layer)
+        }
     };
-    Some((key, fault))
+    Some(PartOfHead {
+        part,
+        title,
+        keys,
+        table,
+    })
 }
 
-// The table of a layer, by its place.
-fn layer_at(head: &Table, place: usize) -> Option<&Table> {
-    head.get("layer")?.as_array()?.get(place)?.as_table()
-}
-
-// Where a head has a key of a part with what is wrong there, or where the part begins that lacks it. Errors: memory runs out.
-fn place_in(
-    alloc: Global,
-    head: &str,
-    (part, table): (Part, &Table),
-    (key, fault): AtKey<'_>,
-) -> Result<Option<usize>, AllocError> {
-    let is_there = table.get(key).is_some();
-    let key = Step::Key(key);
-    let layer = Step::Key("layer");
-    match (part, fault) {
-        (Part::Configuration(_), _) => place_of(alloc, head, &[Step::Key("permits"), key]),
-        (Part::Layer(place), Fault::Kind(kind)) => {
-            let (place, kind) = (Step::Item(place), Step::Item(kind));
-            match place_of(alloc, head, &[layer, place, key, kind])? {
-                None => place_of(alloc, head, &[layer, place, key]),
-                found => Ok(found),
+impl<'a> PartOfHead<'a> {
+    // The name of a key of the part, empty where it is none.
+    fn name_of(self, key: FaultyKey) -> Option<&'a str> {
+        Some(match (self.part, key) {
+            (Part::Configuration(place), _) | (_, FaultyKey::Other(place)) => {
+                self.table.keys().nth(place)?.as_str()
             }
+            (_, FaultyKey::Known(name) | FaultyKey::Item(name, _)) => name,
+            (_, FaultyKey::Whole) => "",
+        })
+    }
+
+    // What its reader says of a key of it, by the name of the refusal.
+    fn fault(
+        self,
+        head: &Table,
+        (name, key): (&'a str, FaultyKey),
+        why: &str,
+    ) -> Option<Fault<'a>> {
+        Some(match (why, self.part, key) {
+            ("UnknownKey", ..)
+                if self.title == "a retry" && is_one_of(EXPONENTIAL_RETRY_KEYS, name) => {
+                Fault::NeedsGrowth
+            }
+            ("UnknownKey", ..) => Fault::Unknown(self.keys),
+            ("MissingKey", ..) => Fault::Missing(form_of(self.keys, name)?),
+            ("BadValue", Part::Configuration(_), _) => Fault::Value(PERMIT_COUNT),
+            ("BadValue", _, FaultyKey::Item(_, place)) => Fault::Kind(place),
+            ("BadValue", ..) => Fault::Value(form_of(self.keys, name)?),
+            ("BadName", Part::Configuration(_), _) => Fault::Name(name),
+            ("BadName", ..) => Fault::Name(self.table.get(name)?.as_str()?),
+            ("CoreOutOfRange", ..) => {
+                let (least, most) = range_of(self.keys, "core")?;
+                Fault::Core(least, most)
+            }
+            ("MaxOutOfRange", ..) => greatest(self.keys, head)?,
+            ("QueueOutOfRange", ..) => {
+                let (least, most) = range_of(self.keys, "queue")?;
+                Fault::Places(least, most)
+            }
+            ("TooManyCalls", ..) => Fault::Calls(calls_in(head)?),
+            _ => return None,
+        })
+    }
+
+    // Where a head has a key of the part with what is wrong there, or where the part begins that lacks it. Errors: memory runs out.
+    fn place(
+        self,
+        alloc: Global,
+        head: &str,
+        name: &str,
+        fault: Fault<'_>,
+    ) -> Result<Option<usize>, AllocError> {
+        let is_there = self.table.get(name).is_some();
+        let key = Step::Key(name);
+        let layer = Step::Key("layer");
+        match (self.part, fault) {
+            (Part::Configuration(_), _) => place_of(alloc, head, &[Step::Key("permits"), key]),
+            (Part::Layer(place), Fault::Kind(kind)) => {
+                let (place, kind) = (Step::Item(place), Step::Item(kind));
+                match place_of(alloc, head, &[layer, place, key, kind])? {
+                    None => place_of(alloc, head, &[layer, place, key]),
+                    found => Ok(found),
+                }
+            }
+            (Part::Layer(place), _) if is_there => {
+                place_of(alloc, head, &[layer, Step::Item(place), key])
+            }
+            (Part::Layer(place), _) => place_of(alloc, head, &[layer, Step::Item(place)]),
+            (Part::Head, _) if is_there => place_of(alloc, head, &[key]),
+            (Part::Head, _) => Ok(None),
         }
-        (Part::Layer(place), _) if is_there => {
-            place_of(alloc, head, &[layer, Step::Item(place), key])
-        }
-        (Part::Layer(place), _) => place_of(alloc, head, &[layer, Step::Item(place)]),
-        (Part::Head, _) if is_there => place_of(alloc, head, &[key]),
-        (Part::Head, _) => Ok(None),
     }
 }
 
-/// What the head of an input is refused for by this name, where that can be seen of its table. `None` too when out of memory.
-pub(crate) fn fault_of<'a>(
-    told: Told<'a>,
+/// What the head of an input is refused for by this name, as its reader says, or by that name alone where its reader takes it. `None`
+/// when out of memory.
+pub(crate) fn fault_of<'a, S: Subject>(
+    told: Told<'a, S>,
     head: &str,
     table: &'a Table,
     name: &str,
 ) -> Option<Explained<'a>> {
-    let part = refused_part(told, table)?;
-    let (title, of_part, found) = match part {
-        Part::Head => {
-            let keys = ("", told.subject.keys());
-            ("", table, fault_in(keys, (table, table), name)?)
-        }
-        Part::Configuration(place) => ("", table, fault_of_configuration(table, place, name)?),
-        Part::Layer(place) => {
-            let layer = layer_at(table, place)?;
-            let keys = keys_of_layer(layer);
-            (keys.0, layer, fault_in(keys, (table, layer), name)?)
-        }
+    let (part, faulty) = match told.subject.fault_in(told.alloc, head.as_bytes()) {
+        Some(found) if matches!(found.why(), HeadError::Memory) => return None,
+        Some(found) => (found.part(), found.key()),
+        None => (Part::Head, FaultyKey::Whole),
     };
-    let place = place_in(told.alloc, head, (part, of_part), found).ok()?;
-    let (key, fault) = found;
+    let of = part_of(told.subject.keys(), table, part)?;
+    let key = of.name_of(faulty)?;
+    let fault = match of.fault(table, (key, faulty), name) {
+        Some(fault) => fault,
+        None => Fault::Other(said_of(told.subject, name)?),
+    };
+    let place = of.place(told.alloc, head, key, fault).ok()?;
     Some(Explained {
         line: place.map(|place| Line::from(told.input, place)),
         part,
-        title,
+        title: of.title,
         key,
         fault,
     })

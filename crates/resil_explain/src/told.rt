@@ -1,106 +1,34 @@
 //! What is said behind the line of an output, by what the line names.
 
-use crate::body::{line_of, read_record, remark, row_fault};
+use crate::body::{body_under, line_of, part_upto, read_record, remark, row_fault};
 use crate::head::fault_of;
 use crate::place::{Line, Listed, Shown, near_separator};
-use crate::pool::{rule_at, say_pool};
 use crate::table::said_of;
-use csv::ByteRecord;
-use resil_chain::head::CHAIN_KEYS;
-use resil_heads::answer::answer_to;
-use resil_heads::forms::{Body, Key};
-use resil_heads::history::read_head;
-use resil_heads::load::LOAD_KEYS;
-use resil_heads::run::{RUN_BODY, RUN_KEYS};
-use resil_input::csv_rows::has_fields;
+use resil_heads::forms::Body;
+use resil_heads::subject::Subject;
+use resil_input::answer::InWords;
 use resil_input::framing::split_input;
-use resil_replay::head::POOL_KEYS;
-use resil_replay::{events, rows, timed};
-use resil_weave::head::WEAVE_KEYS;
+use resil_jdk::{JdkEvent, JdkLimits};
+use resil_record::answer::{JdkInWords, StateInWords};
+use resil_rule::{Event, Limits, Rule, answer_to, rule_at_last};
 use std::alloc::Global;
-use std::str;
-
-// The fields of the header of the results of a `run`.
-const RESULTS_HEADER: &[&str] = &["caller", "number", "outcome", "calls", "waits", "asked"];
-
-/// What an input is for.
-#[derive(Clone, Copy)]
-pub enum Subject {
-    /// `replay`.
-    Replay,
-    /// `audit`.
-    Audit,
-    /// A history under a head of its pool or of a `run`, of these keys, behind which results may stand: `judge`, `stats` and `timeline`.
-    History(&'static [Key]),
-    /// `chain`.
-    Chain,
-    /// `weave`.
-    Weave,
-    /// `run`, with the number of its callers.
-    Run(u16),
-    /// `simulate`.
-    Load,
-}
-
-impl Subject {
-    /// The keys of its heads.
-    pub(crate) fn keys(self) -> &'static [Key] {
-        match self {
-            Subject::Replay | Subject::Audit => POOL_KEYS,
-            Subject::Chain => CHAIN_KEYS,
-            Subject::Weave => WEAVE_KEYS,
-            Subject::History(keys) => keys,
-            Subject::Run(_) => RUN_KEYS,
-            Subject::Load => LOAD_KEYS,
-        }
-    }
-
-    // What its bodies may have.
-    fn body(self) -> Body {
-        match self {
-            Subject::Replay => rows::BODY,
-            Subject::Audit | Subject::History(_) => events::BODY,
-            Subject::Chain => resil_chain::rows::BODY,
-            Subject::Weave => resil_weave::rows::BODY,
-            Subject::Run(_) => RUN_BODY,
-            Subject::Load => resil_heads::load::LOAD_BODY,
-        }
-    }
-
-    // What its bodies of this header may have.
-    fn body_under(self, header: &ByteRecord) -> Body {
-        let may_have_times = matches!(self, Subject::History(_) | Subject::Load);
-        if may_have_times && has_fields(header, timed::BODY.header) {
-            timed::BODY
-        } else {
-            self.body()
-        }
-    }
-
-    // The number of callers that a row may name.
-    fn callers(self) -> u16 {
-        match self {
-            Subject::Run(callers) => callers,
-            _ => 1,
-        }
-    }
-}
+use std::{fmt, str};
 
 /// An input of which something is said, what it is for, and where memory for that comes from.
 #[derive(Clone, Copy)]
-pub(crate) struct Told<'a> {
+pub(crate) struct Told<'a, S> {
     pub alloc: Global,
-    pub subject: Subject,
+    pub subject: S,
     pub input: &'a [u8],
 }
 
 /// Says on standard error what the line of an output means for its input, in one to three lines, each of which begins with `resil: `:
-/// by what the line names, which is a row, by its number from 1, the head, the header, or nothing that has a place; then `judge`,
-/// where that takes what `audit` refuses. Where the line is no refusal and no `illegal`, or where memory for it isn't there, it says
+/// by what the line names, which is a row, by its number from 1, the head, the header, or nothing that has a place; then the command
+/// that takes what this one refuses. Where the line is no refusal and no `illegal`, or where memory for it isn't there, it says
 /// nothing.
-pub(crate) fn explain<R: Eprint + AllocGlobal>(
+pub(crate) fn explain<R: Eprint + AllocGlobal, S: Subject>(
     rt: &R,
-    subject: Subject,
+    subject: S,
     line: &[u8],
     input: &[u8],
 ) -> Option<()> {
@@ -115,54 +43,45 @@ pub(crate) fn explain<R: Eprint + AllocGlobal>(
         return explain_row(rt, told, position.parse().ok()?, "illegal");
     }
     let (place, name) = text.strip_prefix("refused ")?.split_once(' ')?;
+    let other = other_command(alloc, subject, input, place, name)?;
     match place {
         "head" => explain_head(rt, told, name),
-        "body" => explain_header(rt, told),
+        "body" => explain_header(rt, told, other.is_some()),
         "input" if name == "NoBody" => explain_separator(rt, told),
         _ => match place.parse() {
             Ok(row) => explain_row(rt, told, row, name),
-            Err(_) => explain_name(rt, name),
+            Err(_) => explain_name(rt, said_of(subject, name)),
         },
     }?;
-    if matches!(subject, Subject::Audit) {
-        let _named = name_judge(rt, told, place, name);
-    }
-    Some(())
+    explain_name(rt, other)
 }
 
-// What of an input that `audit` refuses for this, at a place, `judge` takes, if it does.
-fn taken_by_judge(told: Told<'_>, place: &str, name: &str) -> Option<&'static str> {
-    let (head, body) = split_input(told.input)?;
-    match place {
-        "head" => {
-            let is_of_run = name == "UnknownKey" && read_head(told.alloc, RUN_KEYS, head).is_ok();
-            is_of_run.then_some("the head of a `run`")
-        }
-        "body" => {
-            let header = read_record(told.alloc, body, 0)??;
-            has_fields(&header, timed::BODY.header).then_some("a history with times")
-        }
-        _ if name == "BadRow" => {
-            let record = read_record(told.alloc, body, place.parse().ok()?)??;
-            has_fields(&record, RESULTS_HEADER).then_some(
-                "the results of a `run` behind its history",
-            )
-        }
-        _ => None,
-    }
+// What is said of a part of an input that another command takes, if one does; or `None` where memory to read that part isn't there.
+fn other_command<S: Subject>(
+    alloc: Global,
+    subject: S,
+    input: &[u8],
+    place: &str,
+    name: &str,
+) -> Option<Option<&'static str>> {
+    let Some((head, body)) = split_input(input) else {
+        return Some(None);
+    };
+    let number = match place {
+        "head" => None,
+        "body" => Some(0),
+        _ => place.parse().ok(),
+    };
+    let read = match number {
+        Some(number) => read_record(alloc, body, number)?,
+        None => None,
+    };
+    Some(subject.other_command(alloc, name, head, read.as_ref()))
 }
 
-// Names `judge` on standard error where it takes an input that `audit` refuses for this, at a place.
-fn name_judge<R: Eprint>(rt: &R, told: Told<'_>, place: &str, name: &str) -> Option<()> {
-    let taken = taken_by_judge(told, place, name)?;
-    eprintln!(rt;
-        "resil: the command `judge` says the same of a history, and takes {taken} too"
-    ).ok()
-}
-
-// Says what a name means.
-fn explain_name<R: Eprint>(rt: &R, name: &str) -> Option<()> {
-    let allowed = said_of(name)?;
+// Says this, if it is anything.
+fn explain_name<R: Eprint>(rt: &R, said: Option<&'static str>) -> Option<()> {
+    let allowed = said?;
     eprintln!(rt; "resil: {allowed}").ok()
 }
 
@@ -173,7 +92,7 @@ fn explain_line<R: Eprint>(rt: &R, input: &[u8], place: usize, what: &str) -> Op
 }
 
 // Says where the line that parts a head from a body nearly is, or where it has to be.
-fn explain_separator<R: Eprint>(rt: &R, told: Told<'_>) -> Option<()> {
+fn explain_separator<R: Eprint, S: Subject>(rt: &R, told: Told<'_, S>) -> Option<()> {
     if let Some(line) = near_separator(told.input) {
         return eprintln!(rt;
             "resil: {line}this is not `---` alone, which parts the head from the body"
@@ -191,7 +110,7 @@ fn explain_separator<R: Eprint>(rt: &R, told: Told<'_>) -> Option<()> {
 }
 
 // Says what a head is refused for.
-fn explain_head<R: Eprint>(rt: &R, told: Told<'_>, name: &str) -> Option<()> {
+fn explain_head<R: Eprint, S: Subject>(rt: &R, told: Told<'_, S>, name: &str) -> Option<()> {
     let (head, _) = split_input(told.input)?;
     let text = match str::from_utf8(head) {
         Ok(text) => text,
@@ -208,44 +127,77 @@ fn explain_head<R: Eprint>(rt: &R, told: Told<'_>, name: &str) -> Option<()> {
     }
 }
 
-// Says what the header of a body is, and what stands in its place.
-fn explain_header<R: Eprint>(rt: &R, told: Told<'_>) -> Option<()> {
+// Says what the header of a body is, unless it is that of another command, and what stands in its place.
+fn explain_header<R: Eprint, S: Subject>(rt: &R, told: Told<'_, S>, is_other: bool) -> Option<()> {
     let (_, text) = split_input(told.input)?;
     match read_record(told.alloc, text, 0)? {
         Some(record) => {
             let line = line_of(told.input, text, &record);
             let remark = remark(line.text);
             eprintln!(rt; "resil: {line}this is no header of a body{remark}").ok()?;
-            if matches!(told.subject, Subject::Audit) && has_fields(&record, timed::BODY.header) {
-                return Some(());
-            }
         }
         None => eprintln!(rt; "resil: the body is empty").ok()?,
+    }
+    if is_other {
+        return Some(());
     }
     let body = told.subject.body();
     let header = Listed(body.without_resizes().header, ",");
     eprintln!(rt; "resil: a body begins with the header `{header}`").ok()?;
-    let resized = Listed(body.header, ",");
-    let with_times = Listed(timed::BODY.header, ",");
-    match told.subject {
-        Subject::History(_) => eprintln!(rt;
-            "resil: or, where the pool is resized, with `{resized}`, or, with times, `{with_times}`"
-        ).ok(),
-        Subject::Load => eprintln!(rt; "resil: or, of a history, with `{with_times}`").ok(),
-        _ if body.has_resizes => {
-            eprintln!(rt; "resil: or, where the pool is resized, with `{resized}`").ok()
+    let others = OtherHeaders {
+        resized: body.has_resizes.then_some(body.header),
+        others: told.subject.other_bodies(),
+    };
+    if others.is_empty() {
+        return Some(());
+    }
+    eprintln!(rt; "resil: {others}").ok()
+}
+
+// The other headers that a body may have, and when.
+#[derive(Clone, Copy)]
+struct OtherHeaders {
+    // That of a pool that is resized, if it is another.
+    resized: Option<&'static [&'static str]>,
+    others: &'static [(&'static str, Body)],
+}
+
+impl OtherHeaders {
+    fn is_empty(self) -> bool {
+        self.resized.is_none() && self.others.is_empty()
+    }
+}
+
+impl fmt::Display for OtherHeaders {
+    fn fmt<W: fmt::Write>(&self, f: &mut fmt::Formatter<W>) -> fmt::Result {
+        let mut with = "with ";
+        if let Some(header) = self.resized {
+            let header = Listed(header, ",");
+            write!(f, "or, where the pool is resized, with `{header}`")?;
+            with = "";
         }
-        _ => Some(()),
+        for (when, other) in self.others {
+            let header = Listed(other.header, ",");
+            let before = if with.is_empty() { ", " } else { "" };
+            write!(f, "{before}or, {when}, {with}`{header}`")?;
+            with = "";
+        }
+        Ok(())
     }
 }
 
 // Says what a row is refused for, or what the rule answers there.
-fn explain_row<R: Eprint>(rt: &R, told: Told<'_>, row: usize, name: &str) -> Option<()> {
+fn explain_row<R: Eprint, S: Subject>(
+    rt: &R,
+    told: Told<'_, S>,
+    row: usize,
+    name: &str,
+) -> Option<()> {
     let (head, body) = split_input(told.input)?;
     let header = read_record(told.alloc, body, 0)??;
     let record = read_record(told.alloc, body, row)??;
     let line = line_of(told.input, body, &record);
-    let rows = told.subject.body_under(&header);
+    let rows = body_under(told.subject, &header);
     if name == "BadRow" {
         let fault = row_fault(rows, &record, &header, told.subject.callers())?;
         let remark = remark(line.text);
@@ -259,15 +211,54 @@ fn explain_row<R: Eprint>(rt: &R, told: Told<'_>, row: usize, name: &str) -> Opt
             "resil: row {row}, {line}its time {time} is lower than that of the row before it, {earlier}"
         ).ok();
     }
-    if matches!(
-        told.subject,
-        Subject::Chain | Subject::Weave | Subject::Run(_) | Subject::Load
-    ) {
-        let allowed = said_of(name)?;
-        return eprintln!(rt; "resil: row {row}, {line}{allowed}").ok();
+    let part = part_upto(told.alloc, body, row)?;
+    if let Some((limits, events)) = told.subject.pool(told.alloc, head, part) {
+        return explain_answer(rt, told.alloc, (row, line), limits, &events);
     }
-    let (rule, event) = rule_at(told, head, body, row)?;
-    let answer = answer_to(&rule, event);
+    if let Some((limits, events)) = told.subject.whole_pool(told.alloc, head, part) {
+        return explain_whole_answer(rt, told.alloc, (row, line), limits, &events);
+    }
+    let allowed = said_of(told.subject, name)?;
+    eprintln!(rt; "resil: row {row}, {line}{allowed}").ok()
+}
+
+// Says what the rule of admission answers at a row, by the events up to it, and what the pool has there.
+fn explain_answer<R: Eprint>(
+    rt: &R,
+    alloc: Global,
+    (row, line): (usize, Line<'_>),
+    limits: Limits,
+    events: &[Event],
+) -> Option<()> {
+    let before = events.get(..row).unwrap_or(events);
+    let (rule, event) = rule_at_last(alloc, limits, before)?;
+    let answer = InWords(answer_to(&rule, event));
     eprintln!(rt; "resil: row {row}, {line}{answer}").ok()?;
     say_pool(rt, &rule)
+}
+
+// Says what the whole rule of the JDK's pools answers at a row, by the events up to it, and what the pool has there.
+fn explain_whole_answer<R: Eprint>(
+    rt: &R,
+    alloc: Global,
+    (row, line): (usize, Line<'_>),
+    limits: JdkLimits,
+    events: &[JdkEvent],
+) -> Option<()> {
+    let before = events.get(..row).unwrap_or(events);
+    let (rule, event) = resil_jdk::rule_at_last(alloc, limits, before)?;
+    let answer = JdkInWords(rule.answer_to(event));
+    eprintln!(rt; "resil: row {row}, {line}{answer}").ok()?;
+    let state = StateInWords(rule.state());
+    eprintln!(rt; "resil: the pool there: {state}").ok()
+}
+
+// Says what numbers a pool has.
+fn say_pool<R: Eprint>(rt: &R, rule: &Rule<()>) -> Option<()> {
+    let (workers, running) = (rule.workers(), rule.running());
+    let (core, max) = (rule.core(), rule.max());
+    let (waiting, queue) = (rule.waiting(), rule.limits().queue());
+    eprintln!(rt;
+        "resil: the pool there: workers {workers}, with a job {running}; core size {core}, greatest size {max}; waiting {waiting} of {queue}"
+    ).ok()
 }

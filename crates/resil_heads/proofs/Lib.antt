@@ -1,5 +1,5 @@
 pub mod BulkheadLaws
 pub mod DocumentLaws
 pub mod LayerLaws
-pub mod LoadLaws
+pub mod OutputLaws
 pub mod RangeLaws

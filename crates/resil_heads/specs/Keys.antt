@@ -1,5 +1,5 @@
 -- What the values at the keys of a table say. A value that isn't of its kind, or isn't in its range, is the error `BadValue`.
-use Rattle.std.specs.Prelude.{ℕ, ◌^◌, ◌==◌, Bool, ℤ, pos, negsuc, List, [], ◌∷◌, Option, Some, None, Result, Ok, Err, ok_or, if◌then◌else◌, codes, nat_lt, option_map, option_and_then}
+use Rattle.std.specs.Prelude.{ℕ, ◌^◌, ◌==◌, Bool, ℤ, pos, negsuc, List, [], ◌∷◌, Option, Some, None, Result, Ok, Err, ok_or, if◌then◌else◌, chars, codes, length, nat_lt, option_map, option_and_then}
 use Rattle.std.specs.Option.{option_map_or}
 use Rattle.toml.specs.Data.{Data, Items, no_items, item, Members, get_member, as_str, as_integer, as_bool, as_array, as_table}
 use Rattle.resil_retry.specs.declared.outcome.Kind.{Kind}
@@ -31,6 +31,11 @@ parse_named named value = ok_or (option_and_then named (as_str value)) error.Bad
 -- any text
 abbrev pub parse_text : Data → Result (List ℕ) HeadError
 parse_text value = ok_or (as_str value) error.BadValue
+
+-- the text at a key, of at most 64 characters, empty where there is none
+abbrev pub parse_short_text : List ℕ → Members → Result (List ℕ) HeadError
+parse_short_text key head =
+    and_then (parse_at parse_text [] key head) (λ text. if nat_lt 64 (length (chars text)) then Err error.BadValue else Ok text)
 
 -- any integer
 abbrev pub parse_integer : Data → Result ℤ HeadError

@@ -9,8 +9,10 @@ pub mod LayerBuild
 pub mod LayerBulkheads
 pub mod LayerValues
 pub mod Layers
-pub mod Load
+pub mod Length
+pub mod Output
 pub mod Parts
+pub mod PoolHead
 pub mod Ranges
 pub mod Refusal
 pub mod Sizes

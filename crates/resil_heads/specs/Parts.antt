@@ -18,11 +18,8 @@ SplitsInto head_of input said body = (head : List ℕ) × (parts_of input ≡ So
 
 -- The refusal of the first step that refuses an input: its parts, its head, its body. Each step stands on what the steps before it gave.
 abbrev pub IsPartRefusal : {Head : Type 0} → (List ℕ → Result Head HeadError) → (List ℕ → BodyError → Type 0) → List ℕ → Refusal → Type 0
-IsPartRefusal head_of IsBad input refusal.TooLong = ⊥
 IsPartRefusal head_of IsBad input refusal.NoBody = parts_of input ≡ None
 IsPartRefusal head_of IsBad input (refusal.Head why) = (head : List ℕ) × (body : List ℕ) × (parts_of input ≡ Some (head, body)) × (head_of head ≡ Err why)
 IsPartRefusal {Head} head_of IsBad input refusal.BadHeader = (said : Head) × (body : List ℕ) × SplitsInto head_of input said body × IsBad body body_error.BadHeader
 IsPartRefusal {Head} head_of IsBad input (refusal.BadRow position) = (said : Head) × (body : List ℕ) × SplitsInto head_of input said body × IsBad body (body_error.BadRow position)
-IsPartRefusal head_of IsBad input (refusal.Row position why) = ⊥
-IsPartRefusal head_of IsBad input (refusal.Step position why) = ⊥
-IsPartRefusal head_of IsBad input (refusal.Run why) = ⊥
+IsPartRefusal head_of IsBad input why = ⊥

@@ -11,6 +11,8 @@ use Rattle.resil_retry.specs.declared.error.RetryError.{RetryError}
 use Rattle.resil_retry.specs.declared.error.RetryError.TheVariants as retry
 use Rattle.resil_heads.specs.declared.error.HeadError.{HeadError}
 use Rattle.resil_heads.specs.declared.error.HeadError.TheVariants as head
+use Rattle.resil_heads.specs.declared.refusal.LoadRefusal.{LoadRefusal}
+use Rattle.resil_heads.specs.declared.refusal.LoadRefusal.TheVariants as load
 use Rattle.resil_heads.specs.declared.refusal.RowRefusal.{RowRefusal}
 use Rattle.resil_heads.specs.declared.refusal.RowRefusal.TheVariants as row
 use Rattle.resil_heads.specs.declared.refusal.Refusal.{Refusal}
@@ -84,6 +86,13 @@ step_name step.NotHolding = codes "NotHolding"
 step_name step.StillLoaded = codes "StillLoaded"
 step_name step.NotRetired = codes "NotRetired"
 
+-- the printed name of why a row of a load can't be taken
+abbrev pub load_name : LoadRefusal → List ℕ
+load_name load.NoTakes = codes "NoTakes"
+load_name load.Illegal = codes "Illegal"
+load_name load.TimeGoesBack = codes "TimeGoesBack"
+load_name load.TimeTooLate = codes "TimeTooLate"
+
 -- the printed name of why a run has no report
 abbrev pub run_name : RunRefusal → List ℕ
 run_name run.Stranger = codes "Stranger"
@@ -102,8 +111,11 @@ abbrev pub refusal_line : Refusal → List ℕ
 refusal_line refusal.TooLong = part_line (codes "input") (codes "TooLong")
 refusal_line refusal.NoBody = part_line (codes "input") (codes "NoBody")
 refusal_line (refusal.Head why) = part_line (codes "head") (head_name why)
+refusal_line refusal.ManyPools = part_line (codes "head") (codes "ManyPools")
 refusal_line refusal.BadHeader = part_line (codes "body") (codes "BadHeader")
 refusal_line (refusal.BadRow position) = row_line position (codes "BadRow")
 refusal_line (refusal.Row position why) = row_line position (row_name why)
 refusal_line (refusal.Step position why) = row_line position (step_name why)
+refusal_line (refusal.Load position why) = row_line position (load_name why)
+refusal_line refusal.BadResult = part_line (codes "results") (codes "BadRow")
 refusal_line (refusal.Run why) = part_line (codes "run") (run_name why)

@@ -35,3 +35,16 @@ build_limits sizes =
 -- the sizes at the keys of a table, where a pool takes them
 unfoldable pub parse_limits : Members → Result Sizes HeadError
 parse_limits head = and_then (parse_sizes head) build_limits
+
+-- the sizes, where a pool of the JDK takes them, or the same errors: a core size from 0 to 2^29 - 1, a maximum size from 1 and the core size on, and a queue
+-- from 0 to 2^31 - 1
+abbrev pub build_jdk_limits : Sizes → Result Sizes HeadError
+build_jdk_limits sizes =
+    if not (nat_le sizes.core 536870911) then Err (error.Limits refused.CoreOutOfRange)
+    else if not (nat_le 1 sizes.max && is_within sizes.core 536870911 sizes.max) then Err (error.Limits refused.MaxOutOfRange)
+    else if not (nat_le sizes.queue 2147483647) then Err (error.Limits refused.QueueOutOfRange)
+    else Ok sizes
+
+-- the sizes at the keys of a table, where a pool of the JDK takes them
+unfoldable pub parse_jdk_limits : Members → Result Sizes HeadError
+parse_jdk_limits head = and_then (parse_sizes head) build_jdk_limits

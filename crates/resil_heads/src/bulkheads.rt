@@ -103,7 +103,7 @@ pub fn read_text(alloc: Global, text: &str) -> Result<Table, TextError>
     match toml::table_from_str(alloc, text) {
         Ok(table) => match check_known(TEXT_KEYS, &table) {
             Ok(()) => Ok(table),
-            Err(why) => Err(at(Place::Text, why)),
+            Err(fault) => Err(at(Place::Text, fault.why())),
         },
         Err(error) => match error.span() {
             Some(span) => Err(at(Place::Line(line_at(text, span.start)), HeadError::BadToml)),
@@ -133,7 +133,7 @@ pub fn read_configurations(alloc: Global, text: &Table) -> Result<Registry<u16>,
 {
     match parse_configurations(alloc, text) {
         Ok(names) => Ok(names),
-        Err(fault) => Err(at(Place::Permits, fault.into())),
+        Err(fault) => Err(at(Place::Permits, fault.why())),
     }
 }
 
@@ -145,7 +145,7 @@ pub fn read_configurations(alloc: Global, text: &Table) -> Result<Registry<u16>,
 pub fn read_tables<'a>(alloc: Global, text: &'a Table) -> Result<Vec<&'a Table>, TextError>
     ensures { IfOk result (λ tables. bulkhead_tables (table_view text.now) ≡ Ok (map (λ table. table_view table.now) tables.items)) }
 {
-    tables_at(alloc, "bulkhead", text).map_err(|why| at(Place::Text, why))
+    tables_at(alloc, "bulkhead", text).map_err(|fault| at(Place::Text, fault.why()))
 }
 
 /// What the table of a bulkhead says. One without `config` has the configuration `default`, and one without `wait` waits for no permit.

@@ -3,11 +3,13 @@
 //! The error of each step becomes a `CommandError` by `?`, with the row that the step named, so each command reads as its steps. All are
 //! said here, but for that of carrying out the rows of `replay` and that of a run, which their commands say.
 
-ghost use Rattle.std.specs.Prelude.{◌≡◌};
+ghost use Rattle.std.specs.Prelude.{◌≡◌, MatchResult};
 ghost use Rattle.resil_heads.specs.CommandError.{IsErrorOutput, from_body_error, from_head_error, from_weave_error};
 ghost use Rattle.resil_heads.specs.declared.command_error.CommandError.TheVariants.{Memory, Refused};
+ghost use Rattle.resil_heads.specs.declared.refusal.Refusal.TheVariants.{TooLong};
+ghost use Rattle.resil_input.specs.declared.output.Output.{Output};
 
-use crate::error::HeadError;
+use crate::error::{HeadError, HeadFault};
 use crate::refusal::{Refusal, StepRefusal, refusal_line};
 use resil_input::csv_rows::BodyError;
 use resil_input::output::Output;
@@ -45,11 +47,11 @@ impl From<Refusal> for CommandError {
     }
 }
 
-impl From<HeadError> for CommandError {
-    ghost from_gives = { λ why error. error ≡ from_head_error why };
+impl From<HeadFault> for CommandError {
+    ghost from_gives = { λ fault error. error ≡ from_head_error fault };
 
-    fn from(why: HeadError) -> CommandError {
-        match why {
+    fn from(fault: HeadFault) -> CommandError {
+        match fault.why() {
             HeadError::Memory => CommandError::Memory,
             other => CommandError::Refused(Refusal::Head(other)),
         }
@@ -83,6 +85,24 @@ impl From<WeaveError> for CommandError {
             WeaveError::NotRetired(position) => (position, StepRefusal::NotRetired),
         };
         CommandError::Refused(Refusal::Step(position, step))
+    }
+}
+
+/// The output for an input that is too long, which is refused before a command sees it. Where memory runs out for its line, it is
+/// `NoMemory`.
+pub fn too_long_output(alloc: Global) -> Output
+    ensures { IsErrorOutput (Refused TooLong) result }
+{
+    error_output(alloc, CommandError::Refused(Refusal::TooLong))
+}
+
+/// The output of what a command gave: its text, or as of `error_output`.
+pub fn made_output(alloc: Global, made: Result<Vec<u8>, CommandError>) -> Output
+    ensures { MatchResult made (λ text. result ≡ Output.Text text) (λ error. IsErrorOutput error result) }
+{
+    match made {
+        Ok(text) => Output::Text(text),
+        Err(error) => error_output(alloc, error),
     }
 }
 

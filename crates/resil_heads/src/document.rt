@@ -10,7 +10,7 @@ ghost use Rattle.toml.specs.Errors.{IsBlank};
 ghost use Rattle.resil_heads.specs.Document.{name_of, keys_of, document_of, is_known, has_needed, check_known, check_required, check_keys};
 ghost use Rattle.resil_heads.specs.Checks.{GivesBy};
 
-use crate::error::HeadError;
+use crate::error::{FaultyKey, HeadError, HeadFault};
 use crate::forms::Key;
 use crate::keys::value_at;
 use std::alloc::Global;
@@ -55,20 +55,46 @@ fn has_needed(key: Key, table: &Table) -> bool
     }
 }
 
+// The fault of a table that has a key which is none of these: the first of them.
+fn unknown(keys: &[Key], table: &Table) -> HeadFault
+    ensures { result ≡ HeadError.UnknownKey }
+{
+    let first = table.keys().position(|name| !is_known(keys, name.as_str()));
+    let key = first.map_or(FaultyKey::Whole, FaultyKey::Other);
+    HeadFault::at(key, HeadError::UnknownKey)
+}
+
+// The fault of a table that lacks one of these keys: the first of them.
+fn missing(keys: &[Key], table: &Table) -> HeadFault
+    ensures { result ≡ HeadError.MissingKey }
+{
+    let first = keys.iter().find(|key| !has_needed(**key, table));
+    let key = first.map_or(FaultyKey::Whole, |key| FaultyKey::Known(key.name()));
+    HeadFault::at(key, HeadError::MissingKey)
+}
+
 /// Checks that each key of a table is one of these. Errors: `UnknownKey`.
-pub(crate) fn check_known(keys: &[Key], table: &Table) -> Result<(), HeadError>
+pub(crate) fn check_known(keys: &[Key], table: &Table) -> Result<(), HeadFault>
     ensures { result ≡ check_known (keys_of keys.now) (table_view table.now) }
 {
     let all = table.keys().all(|name| is_known(keys, name.as_str()));
-    all.then_some(()).ok_or(HeadError::UnknownKey)
+    if all {
+        Ok(())
+    } else {
+        Err(unknown(keys, table))
+    }
 }
 
 /// Checks that a table has those of the keys that are required. Errors: `MissingKey`.
-pub(crate) fn check_required(keys: &[Key], table: &Table) -> Result<(), HeadError>
+pub(crate) fn check_required(keys: &[Key], table: &Table) -> Result<(), HeadFault>
     ensures { result ≡ check_required (keys_of keys.now) (table_view table.now) }
 {
     let all = keys.iter().all(|key| has_needed(*key, table));
-    all.then_some(()).ok_or(HeadError::MissingKey)
+    if all {
+        Ok(())
+    } else {
+        Err(missing(keys, table))
+    }
 }
 
 /// Checks that a table has no other keys than these, and those of them that are required.
@@ -76,7 +102,7 @@ pub(crate) fn check_required(keys: &[Key], table: &Table) -> Result<(), HeadErro
 /// # Errors
 ///
 /// In this order: `UnknownKey`; `MissingKey`.
-pub fn check_keys(keys: &[Key], table: &Table) -> Result<(), HeadError>
+pub fn check_keys(keys: &[Key], table: &Table) -> Result<(), HeadFault>
     ensures { result ≡ check_keys (keys_of keys.now) (table_view table.now) }
 {
     check_known(keys, table)?;

@@ -66,7 +66,7 @@ impl<T: Drop> From<AllocFailed<T>> for HeadError {
 }
 
 /// A part of a head.
-#[derive(Clone, Copy)]
+#[derive(Clone, Copy, Debug)]
 pub enum Part {
     /// The head itself, by its own keys, or the chain of its layers.
     Head,
@@ -76,11 +76,25 @@ pub enum Part {
     Layer(usize),
 }
 
-/// Why a head is refused, with the part that is. Contracts see why alone.
-#[derive(Drop)]
+/// Which key of a part is at fault.
+#[derive(Clone, Copy, Debug)]
+pub enum FaultyKey {
+    /// None of them, or the part is one key itself.
+    Whole,
+    /// This one: it is missing, or its value is refused.
+    Known(&'static str),
+    /// This one, for the item at this place of its array, from 0.
+    Item(&'static str, usize),
+    /// The one at this place of all that the part has, in byte order, from 0: no such part has it.
+    Other(usize),
+}
+
+/// Why a head is refused, with the part that is and its key. Contracts see why alone.
+#[derive(Debug, Drop)]
 pub struct HeadFault {
     why: HeadError,
     part: Part,
+    key: FaultyKey,
 }
 
 impl Model for HeadFault {
@@ -91,17 +105,65 @@ impl Model for HeadFault {
     ghost view = { λ fault. fault.why };
 }
 
+// The key that an error is about wherever it comes from, if there is one.
+fn key_of(why: HeadError) -> FaultyKey {
+    FaultyKey::Known(match why {
+        HeadError::Limits(AdmitError::CoreOutOfRange) => "core",
+        HeadError::Limits(AdmitError::MaxOutOfRange) => "max",
+        HeadError::Limits(AdmitError::QueueOutOfRange) => "queue",
+        HeadError::TooManyPermits => "permits",
+        HeadError::Registry(RegistryError::NoSuchConfig) => "config",
+        HeadError::Registry(_) => "name",
+        HeadError::Retry(RetryError::IntervalTooLong) => "interval",
+        HeadError::Retry(RetryError::BadMultiplier) => "multiplier",
+        HeadError::Retry(RetryError::CapBelowInitial) => "cap",
+        HeadError::Retry(_) | HeadError::Chain(DecorError::TooManyCalls) => "attempts",
+        _ => return FaultyKey::Whole,
+    })
+}
+
 impl HeadFault {
-    /// A part that is refused for this reason.
-    pub fn new(part: Part, why: HeadError) -> HeadFault
+    /// A key of the head itself that is refused for this reason.
+    pub fn at(key: FaultyKey, why: HeadError) -> HeadFault
         ensures { result ≡ why }
     {
-        HeadFault { why, part }
+        let part = Part::Head;
+        HeadFault { why, part, key }
+    }
+
+    /// The same fault, of a part of the head.
+    pub fn of(self, part: Part) -> HeadFault
+        ensures { result ≡ self }
+    {
+        let HeadFault { why, key, .. } = self;
+        HeadFault { why, part, key }
+    }
+
+    /// Why the head is refused.
+    pub fn why(&self) -> HeadError
+        ensures { result ≡ self.now }
+    {
+        self.why
     }
 
     /// The part that is refused.
     pub fn part(&self) -> Part {
         self.part
+    }
+
+    /// The key of the part that is at fault.
+    pub fn key(&self) -> FaultyKey {
+        self.key
+    }
+}
+
+/// What was read of the value at a key, with the key where the value is refused.
+pub fn at_key<T>(key: &'static str, read: Result<T, HeadError>) -> Result<T, HeadFault>
+    ensures { result ≡ read }
+{
+    match read {
+        Ok(value) => Ok(value),
+        Err(why) => Err(HeadFault::at(FaultyKey::Known(key), why)),
     }
 }
 
@@ -109,7 +171,7 @@ impl From<HeadError> for HeadFault {
     ghost from_gives = { λ why fault. fault ≡ why };
 
     fn from(why: HeadError) -> HeadFault {
-        HeadFault::new(Part::Head, why)
+        HeadFault::at(key_of(why), why)
     }
 }
 
@@ -125,7 +187,7 @@ impl From<AllocError> for HeadFault {
     ghost from_gives = { λ _ fault. fault ≡ Memory };
 
     fn from(_refused: AllocError) -> HeadFault {
-        HeadFault::new(Part::Head, HeadError::Memory)
+        HeadFault::from(HeadError::Memory)
     }
 }
 
@@ -133,6 +195,6 @@ impl<T: Drop> From<AllocFailed<T>> for HeadFault {
     ghost from_gives = { λ _ fault. fault ≡ Memory };
 
     fn from(_refused: AllocFailed<T>) -> HeadFault {
-        HeadFault::new(Part::Head, HeadError::Memory)
+        HeadFault::from(HeadError::Memory)
     }
 }

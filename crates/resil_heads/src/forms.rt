@@ -5,11 +5,9 @@
 ghost use Rattle.std.specs.Prelude.{◌≡◌};
 ghost use Rattle.resil_heads.specs.Document.{name_of};
 
-use crate::keys::{parse_kind_value, parse_result_test};
 use resil_input::number::parse_number;
 use resil_input::outcome_text::parse_outcome;
 use std::fmt;
-use toml::Value;
 
 /// The permits of a configuration.
 pub const PERMIT_COUNT: Form = Form::Integer(0, 65_535);
@@ -30,6 +28,10 @@ pub enum Form {
     Text,
     /// A text of so many characters at most.
     ShortText(usize),
+    /// How many of the first events recreate the state in which a record begins.
+    Made,
+    /// An offset date-time.
+    Moment,
     /// The kind of a layer.
     Layer,
     Backoff,
@@ -48,6 +50,10 @@ pub enum Form {
     /// A caller of `run`, of which it has this many as its words say.
     Caller,
     Reply,
+    /// A reply by the whole rule.
+    JdkReply,
+    /// `on` or `off`.
+    Switch,
     Script,
     Grants,
     /// Nothing, where a row doesn't use the field.
@@ -78,6 +84,8 @@ impl fmt::Display for Form {
             Form::Wait => "an integer from 0 to 31536000000",
             Form::Flag => "true or false",
             Form::Text => "a text",
+            Form::Made => "an integer from 0 to the number of events",
+            Form::Moment => "an offset date-time, as `2026-05-27T07:32:00.250000Z`",
             Form::Layer => "`\"retry\"`, `\"bulkhead\"` or `\"fallback\"`",
             Form::Backoff => "`\"fixed\"` or `\"exponential\"`",
             Form::ResultTest => {
@@ -91,6 +99,8 @@ impl fmt::Display for Form {
                 "a caller of this run, from 1 to what `--callers` says, 1 without it, without a sign or leading zeros"
             }
             Form::Reply => "core, queued, extra, full or closed",
+            Form::JdkReply => "core, first, queued, handed, extra, full or closed",
+            Form::Switch => "on or off",
             Form::Script => {
                 "outcomes with `;` between them, each V and an integer, E and 0 to 65535, FULL or EXCEEDED, without leading zeros"
             }
@@ -102,38 +112,6 @@ impl fmt::Display for Form {
 }
 
 impl Form {
-    /// Whether a value of a head is of this form.
-    pub fn has(self, value: &Value) -> bool {
-        match (self, value) {
-            (Form::Integer(least, greatest), Value::Integer(integer)) => {
-                least <= *integer && *integer <= greatest
-            }
-            (Form::Sizes(..), Value::Array(items)) => {
-                matches!(items.len(), 1..=8) && items.iter().all(is_count)
-            }
-            (Form::Count(..) | Form::Sizes(..), value) => is_count(value),
-            (Form::AnyInteger, Value::Integer(_)) => true,
-            (Form::Wait, Value::Integer(integer)) => *integer >= 0,
-            (Form::Flag, Value::Boolean(_)) => true,
-            (Form::Text, Value::String(_)) => true,
-            (Form::ShortText(most), Value::String(text)) => text.as_str().chars().count() <= most,
-            (Form::Layer, Value::String(text)) => {
-                matches!(text.as_str(), "retry" | "bulkhead" | "fallback")
-            }
-            (Form::Backoff, Value::String(text)) => {
-                matches!(text.as_str(), "fixed" | "exponential")
-            }
-            (Form::ResultTest, value) => parse_result_test(value).is_ok(),
-            (Form::Kinds, Value::Array(items)) => {
-                items.iter().all(|item| parse_kind_value(item).is_ok())
-            }
-            (Form::Fraction, Value::Array(items)) => items.len() == 2 && items.iter().all(is_count),
-            (Form::Tables(_), Value::Array(items)) => items.iter().all(Value::is_table),
-            (Form::Configurations, Value::Table(_)) => true,
-            _ => false,
-        }
-    }
-
     /// Whether a field of a row, of which there are this many callers, is of this form.
     pub fn has_field(self, field: &[u8], callers: u16) -> bool {
         match self {
@@ -141,6 +119,11 @@ impl Form {
             Form::Number(least, greatest) => is_number(field, least, greatest),
             Form::Caller => is_number(field, 1, u64::from(callers)),
             Form::Reply => matches!(field, b"core" | b"queued" | b"extra" | b"full" | b"closed"),
+            Form::JdkReply => matches!(
+                field,
+                b"core" | b"first" | b"queued" | b"handed" | b"extra" | b"full" | b"closed"
+            ),
+            Form::Switch => matches!(field, b"on" | b"off"),
             Form::Script => field
                 .split(|byte| *byte == b';')
                 .all(|item| parse_outcome(item).is_some()),
@@ -158,10 +141,6 @@ fn is_number(field: &[u8], least: u64, greatest: u64) -> bool {
         Some(number) => number <= greatest,
         None => least == 0 && field == b"0".as_slice(),
     }
-}
-
-fn is_count(value: &Value) -> bool {
-    matches!(value, Value::Integer(0..=4_294_967_295))
 }
 
 /// A key that a table may have, with what its value may be.
@@ -201,13 +180,24 @@ pub struct Body {
     pub header: &'static [&'static str],
     /// What each field may be in a row that uses it.
     pub forms: &'static [Form],
-    /// The rows, or none where there is one kind of row, which uses the first two fields.
+    /// The rows, or none where there is one kind of row, which uses the first two fields. A field behind the header counts for nothing.
     pub rows: &'static [Row],
     /// Whether there is a shorter header too, without the last row and the last two fields, which are those of a resize.
     pub has_resizes: bool,
 }
 
 impl Body {
+    /// The bodies without the last field, which is a time: under these there is a shorter header too.
+    pub fn without_times(self) -> Body {
+        let fields = self.header.len().saturating_sub(1);
+        Body {
+            header: self.header.get(..fields).unwrap_or(self.header),
+            forms: self.forms.get(..fields).unwrap_or(self.forms),
+            rows: self.rows,
+            has_resizes: true,
+        }
+    }
+
     /// The bodies under the shorter header, where there are two.
     pub fn without_resizes(self) -> Body {
         if !self.has_resizes {

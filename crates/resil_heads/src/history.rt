@@ -3,21 +3,19 @@
 //!
 //! It stands below the commands, so that who judges a history depends on no thread.
 
-ghost use Rattle.std.specs.Prelude.{◌≡◌, IfOk, chars, length, nat_lt, string_bytes};
-ghost use Rattle.toml.specs.View.{table_view};
+ghost use Rattle.std.specs.Prelude.{◌≡◌, IfOk, string_bytes};
 ghost use Rattle.resil_rule.specs.Limits.{AreLimits};
 ghost use Rattle.resil_heads.specs.Checks.{GivesBy};
 ghost use Rattle.resil_heads.specs.Document.{keys_of};
-ghost use Rattle.resil_heads.specs.History.{history_head_of, parse_name};
+ghost use Rattle.resil_heads.specs.History.{history_head_of};
 
 use crate::document::{check_keys, read_document};
-use crate::error::HeadError;
+use crate::error::HeadFault;
 use crate::forms::Key;
-use crate::keys::text_at;
+use crate::keys::short_text_at;
 use crate::sizes::parse_limits;
 use resil_rule::Limits;
 use std::alloc::Global;
-use toml::Table;
 
 /// What the head of a history says.
 #[derive(Drop)]
@@ -28,18 +26,6 @@ pub struct HistoryHead {
     pub name: String,
 }
 
-// The name in a table, empty where it has none. Errors: `BadValue` where it is no text, or one of more than 64 characters.
-#[tactic(auto, using(std::proofs::lemmas::Str::chars_from_encodes))]
-fn parse_name(alloc: Global, table: &Table) -> Result<String, HeadError>
-    ensures { GivesBy string_bytes result (parse_name (table_view table.now)) }
-{
-    let name = text_at("name", "", table)?.as_str();
-    if name.chars().count() > 64 {
-        return Err(HeadError::BadValue);
-    }
-    Ok(name.to_string(alloc)?)
-}
-
 /// What a head of these keys says: the limits that `core`, `max` (workers, both required) and `queue` (jobs, 100 where it is absent)
 /// give, and the text at `name`, of at most 64 characters. The values of other keys aren't looked at.
 ///
@@ -47,13 +33,13 @@ fn parse_name(alloc: Global, table: &Table) -> Result<String, HeadError>
 ///
 /// The first in this order: `BadToml`; `UnknownKey`; `MissingKey`; `BadValue` of one of the four; `Limits` where the pool refuses
 /// the sizes. `Memory` may come at any stage.
-pub fn read_head(alloc: Global, keys: &[Key], bytes: &[u8]) -> Result<HistoryHead, HeadError>
+pub fn read_head(alloc: Global, keys: &[Key], bytes: &[u8]) -> Result<HistoryHead, HeadFault>
     ensures answer { GivesBy (λ head. (head.limits, string_bytes head.name)) result (history_head_of (keys_of keys.now) bytes.now) }
     ensures in_range { IfOk result (λ head. AreLimits head.limits) }
 {
     let table = read_document(alloc, bytes)?;
     check_keys(keys, &table)?;
-    let name = parse_name(alloc, &table)?;
+    let name = short_text_at(alloc, "name", &table)?;
     let limits = parse_limits(&table)?;
     Ok(HistoryHead { limits, name })
 }

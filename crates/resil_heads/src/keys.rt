@@ -4,15 +4,15 @@
 //! is absent gives its default. So each reader of this module has the error `BadValue` and no
 //! other, but for `Memory` where it takes an allocator, and `MissingKey` of `required`.
 
-ghost use Rattle.std.specs.Prelude.{◌≡◌, Some, None, [], map, option_map, MatchResult};
+ghost use Rattle.std.specs.Prelude.{◌≡◌, Some, None, [], chars, length, map, nat_lt, option_map, string_bytes, MatchResult};
 ghost use Rattle.toml.specs.Data.{get_member};
 ghost use Rattle.toml.specs.View.{view, table_view};
 ghost use Rattle.resil_retry.specs.declared.result_test.ResultTest.TheVariants.{Never};
 ghost use Rattle.resil_heads.specs.Checks.{GivesBy};
 ghost use Rattle.resil_input.specs.OutcomeText.{parse_kind};
-ghost use Rattle.resil_heads.specs.Keys.{parse_at, parse_named, parse_text, parse_count, parse_integer, parse_wait, parse_flag, parse_fraction, parse_kinds, parse_table, parse_tables, result_test_from_name};
+ghost use Rattle.resil_heads.specs.Keys.{parse_at, parse_named, parse_short_text, parse_text, parse_count, parse_integer, parse_wait, parse_flag, parse_fraction, parse_kinds, parse_table, parse_tables, result_test_from_name};
 
-use crate::error::HeadError;
+use crate::error::{FaultyKey, HeadError, HeadFault, at_key};
 use resil_input::outcome_text::{parse_kind, parse_signed};
 use resil_retry::{Kind, ResultTest};
 use std::alloc::Global;
@@ -51,17 +51,18 @@ impl<'a> HeadText<'a> {
 
 /// The value at a key.
 #[tactic(auto, using(toml::proofs::Views::table_get))]
-pub(crate) fn value_at<'a>(key: &str, table: &'a Table) -> Option<&'a Value>
+pub fn value_at<'a>(key: &str, table: &'a Table) -> Option<&'a Value>
     ensures { option_map (λ value. view value.now) result ≡ get_member key.now (table_view table.now) }
 {
     table.get(key)
 }
 
 /// The value at a required key. Errors: `MissingKey`.
-pub(crate) fn required<'a>(key: &str, table: &'a Table) -> Result<&'a Value, HeadError>
+pub fn required<'a>(key: &'static str, table: &'a Table) -> Result<&'a Value, HeadFault>
     ensures { MatchResult result (λ value. get_member key.now (table_view table.now) ≡ Some (view value.now)) (λ why. (why ≡ HeadError.MissingKey) × (get_member key.now (table_view table.now) ≡ None)) }
 {
-    value_at(key, table).ok_or(HeadError::MissingKey)
+    let missing = HeadFault::at(FaultyKey::Known(key), HeadError::MissingKey);
+    value_at(key, table).ok_or(missing)
 }
 
 /// Any text.
@@ -73,13 +74,30 @@ pub(crate) fn parse_text<'a>(value: &'a Value) -> Result<HeadText<'a>, HeadError
 
 /// The text at a key.
 pub(crate) fn text_at<'a>(
-    key: &str,
+    key: &'static str,
     default: &'a str,
     table: &'a Table,
-) -> Result<HeadText<'a>, HeadError>
+) -> Result<HeadText<'a>, HeadFault>
     ensures { result ≡ parse_at parse_text default.now key.now (table_view table.now) }
 {
-    value_at(key, table).map_or(Ok(HeadText::new(default)), parse_text)
+    let read = value_at(key, table).map_or(Ok(HeadText::new(default)), parse_text);
+    at_key(key, read)
+}
+
+/// The text of at most 64 characters at a key, empty where it is absent.
+///
+/// # Errors
+///
+/// `BadValue` for any other value; `Memory`.
+#[tactic(auto, using(std::proofs::lemmas::Str::chars_from_encodes))]
+pub fn short_text_at(alloc: Global, key: &'static str, table: &Table) -> Result<String, HeadFault>
+    ensures { GivesBy string_bytes result (parse_short_text key.now (table_view table.now)) }
+{
+    let text = text_at(key, "", table)?.as_str();
+    if text.chars().count() > 64 {
+        return Err(HeadFault::at(FaultyKey::Known(key), HeadError::BadValue));
+    }
+    Ok(text.to_string(alloc)?)
 }
 
 /// Any integer of 64 bits.
@@ -90,7 +108,7 @@ pub(crate) fn parse_integer(value: &Value) -> Result<i64, HeadError>
 }
 
 /// An integer from 0 to 4,294,967,295.
-pub(crate) fn parse_count(value: &Value) -> Result<u32, HeadError>
+pub fn parse_count(value: &Value) -> Result<u32, HeadError>
     ensures { result ≡ parse_count (view value.now) }
 {
     u32::try_from(parse_integer(value)?).map_err(|_| HeadError::BadValue)
@@ -101,32 +119,32 @@ pub(crate) fn parse_count(value: &Value) -> Result<u32, HeadError>
 /// # Errors
 ///
 /// `BadValue` for any other value.
-pub fn count_at(key: &str, default: u32, table: &Table) -> Result<u32, HeadError>
+pub fn count_at(key: &'static str, default: u32, table: &Table) -> Result<u32, HeadFault>
     ensures { result ≡ parse_at parse_count default key.now (table_view table.now) }
 {
-    value_at(key, table).map_or(Ok(default), parse_count)
+    at_key(key, value_at(key, table).map_or(Ok(default), parse_count))
 }
 
-// An integer from 0 on, in milliseconds.
-fn parse_wait(value: &Value) -> Result<u64, HeadError>
+/// An integer from 0 on.
+pub(crate) fn parse_wait(value: &Value) -> Result<u64, HeadError>
     ensures { result ≡ parse_wait (view value.now) }
 {
     u64::try_from(parse_integer(value)?).map_err(|_| HeadError::BadValue)
 }
 
-/// The wait at a key, in milliseconds.
-pub(crate) fn wait_at(key: &str, default: u64, table: &Table) -> Result<u64, HeadError>
+/// The integer from 0 on at a key, as a wait in milliseconds.
+pub fn wait_at(key: &'static str, default: u64, table: &Table) -> Result<u64, HeadFault>
     ensures { result ≡ parse_at parse_wait default key.now (table_view table.now) }
 {
-    value_at(key, table).map_or(Ok(default), parse_wait)
+    at_key(key, value_at(key, table).map_or(Ok(default), parse_wait))
 }
 
 /// True or false at a key.
-pub(crate) fn flag_at(key: &str, default: bool, table: &Table) -> Result<bool, HeadError>
+pub(crate) fn flag_at(key: &'static str, default: bool, table: &Table) -> Result<bool, HeadFault>
     ensures { result ≡ parse_at parse_flag default key.now (table_view table.now) }
 {
     match value_at(key, table) {
-        Some(value) => value.as_bool().ok_or(HeadError::BadValue),
+        Some(value) => at_key(key, value.as_bool().ok_or(HeadError::BadValue)),
         None => Ok(default),
     }
 }
@@ -145,8 +163,8 @@ pub(crate) fn parse_fraction(value: &Value) -> Result<(u32, u32), HeadError>
     }
 }
 
-/// A kind of error, by its text.
-pub fn parse_kind_value(value: &Value) -> Result<Kind, HeadError>
+// A kind of error, by its text.
+fn parse_kind_value(value: &Value) -> Result<Kind, HeadError>
     ensures { result ≡ parse_named parse_kind (view value.now) }
 {
     let kind = value.as_str().and_then(|text| parse_kind(text.as_bytes()));
@@ -155,25 +173,32 @@ pub fn parse_kind_value(value: &Value) -> Result<Kind, HeadError>
 
 // The kinds of error in a value, where it is an array of them.
 #[tactic(auto, using(crate::proofs::LayerLaws::each_next))]
-fn parse_kinds(alloc: Global, value: &Value) -> Result<Vec<Kind>, HeadError>
+fn parse_kinds(alloc: Global, key: &'static str, value: &Value) -> Result<Vec<Kind>, HeadFault>
     ensures { GivesBy (λ kinds. kinds.items) result (parse_kinds (view value.now)) }
 {
     let Some(items) = value.as_array() else {
-        return Err(HeadError::BadValue);
+        return Err(HeadFault::at(FaultyKey::Known(key), HeadError::BadValue));
     };
     let mut kinds = Vec::new(alloc);
     for item in items.as_slice() {
-        kinds.push(parse_kind_value(item)?)?;
+        match parse_kind_value(item) {
+            Ok(kind) => kinds.push(kind)?,
+            Err(why) => return Err(HeadFault::at(FaultyKey::Item(key, kinds.len()), why)),
+        }
     }
     Ok(kinds)
 }
 
 /// The kinds of error at a key, none where it is absent.
-pub(crate) fn kinds_at(alloc: Global, key: &str, table: &Table) -> Result<Vec<Kind>, HeadError>
+pub(crate) fn kinds_at(
+    alloc: Global,
+    key: &'static str,
+    table: &Table,
+) -> Result<Vec<Kind>, HeadFault>
     ensures { GivesBy (λ kinds. kinds.items) result (parse_at parse_kinds [] key.now (table_view table.now)) }
 {
     match value_at(key, table) {
-        Some(value) => parse_kinds(alloc, value),
+        Some(value) => parse_kinds(alloc, key, value),
         None => Ok(Vec::new(alloc)),
     }
 }
@@ -191,12 +216,8 @@ fn result_test_from_name(text: &[u8]) -> Option<ResultTest>
     }
 }
 
-/// A test of values, by its text.
-///
-/// # Errors
-///
-/// `BadValue` where the value is no test.
-pub fn parse_result_test(value: &Value) -> Result<ResultTest, HeadError>
+// A test of values, by its text. Errors: `BadValue` where the value is no test.
+fn parse_result_test(value: &Value) -> Result<ResultTest, HeadError>
     ensures { result ≡ parse_named result_test_from_name (view value.now) }
 {
     let text = value.as_str().ok_or(HeadError::BadValue)?;
@@ -204,10 +225,11 @@ pub fn parse_result_test(value: &Value) -> Result<ResultTest, HeadError>
 }
 
 /// The test of values at a key; where it is absent, no value is retried.
-pub(crate) fn result_test_at(key: &str, table: &Table) -> Result<ResultTest, HeadError>
+pub(crate) fn result_test_at(key: &'static str, table: &Table) -> Result<ResultTest, HeadFault>
     ensures { result ≡ parse_at (parse_named result_test_from_name) Never key.now (table_view table.now) }
 {
-    value_at(key, table).map_or(Ok(ResultTest::Never), parse_result_test)
+    let read = value_at(key, table).map_or(Ok(ResultTest::Never), parse_result_test);
+    at_key(key, read)
 }
 
 /// The table that a value is.
@@ -235,13 +257,13 @@ fn parse_tables<'a>(alloc: Global, value: &'a Value) -> Result<Vec<&'a Table>, H
 /// The tables in the array at a key, none where it is absent.
 pub(crate) fn tables_at<'a>(
     alloc: Global,
-    key: &str,
+    key: &'static str,
     table: &'a Table,
-) -> Result<Vec<&'a Table>, HeadError>
+) -> Result<Vec<&'a Table>, HeadFault>
     ensures { GivesBy (λ tables. map (λ table. table_view table.now) tables.items) result (parse_at parse_tables [] key.now (table_view table.now)) }
 {
     match value_at(key, table) {
-        Some(value) => parse_tables(alloc, value),
+        Some(value) => at_key(key, parse_tables(alloc, value)),
         None => Ok(Vec::new(alloc)),
     }
 }

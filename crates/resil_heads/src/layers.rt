@@ -19,9 +19,7 @@ use crate::forms::{Form, Key};
 use crate::layers::build::build_layers;
 pub use crate::layers::bulkheads::{DEFAULT_PERMITS, byte_order_is_of_members};
 use crate::layers::bulkheads::{ConfigSpec, configured, parse_configs, permits_in};
-pub use crate::layers::values::{
-    BULKHEAD_KEYS, EXPONENTIAL_RETRY_KEYS, FALLBACK_KEYS, FIXED_RETRY_KEYS, LAYER_KEYS,
-};
+pub use crate::layers::values::{EXPONENTIAL_RETRY_KEYS, title_and_keys};
 use crate::layers::values::{LayerSpec, requested_layers};
 use resil_decor::{Chain, Layer, MAX_CALLS, MAX_LAYERS};
 use resil_registry::Registry;
@@ -121,6 +119,9 @@ pub fn build_chain(alloc: Global, said: ChainSpec) -> Result<BuiltChain, HeadFau
     let layers = build_layers(alloc, &mut bulkheads, said.layers)?;
     match Chain::new(layers) {
         Ok(chain) => Ok(BuiltChain { chain, bulkheads }),
-        Err((why, layers)) => Err(HeadFault::new(excess(&layers), HeadError::Chain(why))),
+        Err((why, layers)) => {
+            let fault = HeadFault::from(HeadError::Chain(why));
+            Err(fault.of(excess(&layers)))
+        }
     }
 }

@@ -4,7 +4,7 @@
 //! of the variant, whichever crate refused. The line is `refused`, where, and the name.
 
 ghost use Rattle.std.specs.Prelude.{◌≡◌, IfOk, string_bytes};
-ghost use Rattle.resil_heads.specs.Refusal.{chain_name, head_name, part_line, pool_name, refusal_line, registry_name, retry_name, row_line, row_name, run_name, step_name};
+ghost use Rattle.resil_heads.specs.Refusal.{chain_name, head_name, load_name, part_line, pool_name, refusal_line, registry_name, retry_name, row_line, row_name, run_name, step_name};
 
 use crate::error::HeadError;
 use resil_decor::DecorError;
@@ -22,6 +22,8 @@ pub enum Refusal {
     NoBody,
     /// Its head is refused.
     Head(HeadError),
+    /// The history in one pool is asked for, and its head has several.
+    ManyPools,
     /// Its body doesn't begin with the header.
     BadHeader,
     /// The record at this position, from 1 under the header, is no row.
@@ -30,6 +32,10 @@ pub enum Refusal {
     Row(usize, RowRefusal),
     /// The step at this position, from 1, can't be made.
     Step(usize, StepRefusal),
+    /// The row at this position, from 1, of a load or of a history with times can't be taken.
+    Load(usize, LoadRefusal),
+    /// A result of a run behind its history can't be read.
+    BadResult,
     /// The run was carried out, and has no report.
     Run(RunRefusal),
 }
@@ -60,6 +66,19 @@ pub enum StepRefusal {
     StillLoaded,
     /// A raise by a caller without a retired permit.
     NotRetired,
+}
+
+/// Why a row of a load, or of a history with times, can't be taken.
+#[derive(Clone, Copy, Debug)]
+pub enum LoadRefusal {
+    /// The job of this submission has no finish in the history, and nothing else says how long it takes.
+    NoTakes,
+    /// No pool has the history up to this event.
+    Illegal,
+    /// Its time is below that of the row before it.
+    TimeGoesBack,
+    /// Its time, all runs up to it and the time after which an idle worker may end pass 2^64 - 1.
+    TimeTooLate,
 }
 
 /// Why a run that was carried out has no report.
@@ -171,6 +190,18 @@ fn step_name(why: StepRefusal) -> &'static str
     }
 }
 
+// The printed name of why a row of a load can't be taken.
+fn load_name(why: LoadRefusal) -> &'static str
+    ensures { result.now ≡ load_name why }
+{
+    match why {
+        LoadRefusal::NoTakes => "NoTakes",
+        LoadRefusal::Illegal => "Illegal",
+        LoadRefusal::TimeGoesBack => "TimeGoesBack",
+        LoadRefusal::TimeTooLate => "TimeTooLate",
+    }
+}
+
 // The printed name of why a run has no report.
 fn run_name(why: RunRefusal) -> &'static str
     ensures { result.now ≡ run_name why }
@@ -207,10 +238,13 @@ pub fn refusal_line(alloc: Global, why: Refusal) -> Result<String, AllocError>
         Refusal::TooLong => part_line(alloc, "input", "TooLong"),
         Refusal::NoBody => part_line(alloc, "input", "NoBody"),
         Refusal::Head(why) => part_line(alloc, "head", head_name(why)),
+        Refusal::ManyPools => part_line(alloc, "head", "ManyPools"),
         Refusal::BadHeader => part_line(alloc, "body", "BadHeader"),
         Refusal::BadRow(position) => row_line(alloc, position, "BadRow"),
         Refusal::Row(position, why) => row_line(alloc, position, row_name(why)),
         Refusal::Step(position, why) => row_line(alloc, position, step_name(why)),
+        Refusal::Load(position, why) => row_line(alloc, position, load_name(why)),
+        Refusal::BadResult => part_line(alloc, "results", "BadRow"),
         Refusal::Run(why) => part_line(alloc, "run", run_name(why)),
     }
 }

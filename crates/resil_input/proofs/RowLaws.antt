@@ -4,7 +4,7 @@ use Rattle.std.specs.Result.{IsErrAnd}
 use Rattle.std.proofs.lemmas.List.{length-append, length-map, map_push}
 use Rattle.std.specs.List.{prefix_len}
 use Rattle.std.specs.Option.{is_some}
-use Rattle.resil_input.specs.CsvRows.{IsBody, IsBodyError, ParseAs, records_of, row_under}
+use Rattle.resil_input.specs.CsvRows.{IsBody, IsBodyError, IsUnopened, ParseAs, records_of, row_under}
 use Rattle.resil_input.specs.declared.csv_rows.BodyError.{BodyError}
 use Rattle.resil_input.specs.declared.csv_rows.BodyError.TheVariants as error
 
@@ -29,6 +29,12 @@ pub bad-row : {Row : Type 0} (header : List (List ℕ)) (row_of : List (List ℕ
     → IsBodyError header row_of body (error.BadRow position)
 bad-row header row_of body records left more bad rows position all next spell none here =
     (records, bad, more, rows, rw next at all, spell, none, omega (arith, here, ParseAs-length header row_of records rows spell))
+
+-- a body without a first record has no rows
+pub unopened : {Row : Type 0} (header : List (List ℕ)) (row_of : List (List ℕ) → Option Row) (body : List ℕ) (why : BodyError) → IsUnopened body why → IsBodyError header row_of body why
+unopened header row_of body error.Memory is = tt
+unopened header row_of body error.BadHeader none = λ same. cc (rw none at same)
+unopened header row_of body (error.BadRow position) is = absurd is
 
 -- an error that is passed on as it is
 pub handed-on : {T E : Type 0} (r : Result T E) (P : T → Type 0) (Q : E → Type 0) (why : E) → IsErrAnd r (λ e. e ≡ why) → Q why → MatchResult r P Q

@@ -1,5 +1,5 @@
 -- The rows of a body, whose records are the header and one record a row, and why a body has none.
-use Rattle.std.specs.Prelude.{ℕ, suc, ◌≡◌, ◌≢◌, ◌==◌, ◌++◌, ◌∷◌, List, Option, Some, None, if◌then◌else◌, length, map, slice_get, Result, IfOk, ⊤}
+use Rattle.std.specs.Prelude.{ℕ, suc, ◌≡◌, ◌≢◌, ◌==◌, ◌++◌, ◌∷◌, [], List, Option, Some, None, if◌then◌else◌, length, map, slice_get, Result, IfOk, ⊤}
 use denote.Ref.{Bor}
 use Rattle.csv.specs.Records.{Row as Record, fields_of}
 use Rattle.csv.specs.Reading.{records, default_config, strip_bom}
@@ -35,6 +35,12 @@ IsBodyError header row_of body error.BadHeader = slice_get (records_of body) 0 �
 -- the records before that position are rows, and the one there is none; positions are from 1
 IsBodyError {Row} header row_of body (error.BadRow position) = (prefix : List (List (List ℕ))) × (bad : List (List ℕ)) × (rest : List (List (List ℕ))) × (rows : List Row)
     × (records_of body ≡ header ∷ (prefix ++ bad ∷ rest)) × ParseAs header row_of prefix rows × (row_under header row_of bad ≡ None) × (position ≡ suc (length prefix))
+
+-- why a body has no first record: memory ran out, or it has no record
+abbrev pub IsUnopened : List ℕ → BodyError → Type 0
+IsUnopened body error.Memory = ⊤
+IsUnopened body error.BadHeader = records_of body ≡ []
+IsUnopened body (error.BadRow position) = ⊥
 
 -- A body has one list of rows at most.
 abbrev pub RowsUnique : {Row : Type 0} → List (List ℕ) → (List (List ℕ) → Option Row) → Type 0

@@ -15,14 +15,18 @@ inner_of s = s.inner
 abbrev pub has_failed : {S : Type 0} → FailureTracking S → Bool
 has_failed s = s.failed
 
--- the greatest length of an input, in bytes: one mebibyte
+-- the greatest length of an input of `resil`, and of a head, in bytes: one mebibyte
 abbrev pub input_limit : ℕ
 input_limit = 1048576
 
--- what these bytes are read as: all of them, or too long an input
+-- what these bytes are read as, up to a limit: all of them, or too long an input
+abbrev pub IsInputUpTo : ℕ → List ℕ → Input → Type 0
+IsInputUpTo limit bytes (Whole text) = (text.items ≡ bytes) × (length bytes ≤ limit)
+IsInputUpTo limit bytes TooLong = limit < length bytes
+
+-- the same for an input of `resil`
 abbrev pub IsInput : List ℕ → Input → Type 0
-IsInput bytes (Whole text) = (text.items ≡ bytes) × (length bytes ≤ input_limit)
-IsInput bytes TooLong = input_limit < length bytes
+IsInput = IsInputUpTo input_limit
 
 -- at most this many bytes were taken from the front of what was left to read
 abbrev pub ConsumesAtMost : ℕ → Option (List ℕ) → Option (List ℕ) → Type 0

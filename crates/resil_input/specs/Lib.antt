@@ -1,3 +1,4 @@
+pub mod Answer
 pub mod CsvRows
 pub mod CsvTable
 pub mod Framing

@@ -2,9 +2,12 @@
 use Rattle.std.specs.Prelude.{ℕ, suc, ◌≡◌, ◌≢◌, ◌∷◌, [], false, List, Some, length, unwrap_or, IfSome}
 use denote.Ref.{Bor}
 use Rattle.csv.specs.Machine.{ends_at_end}
+use Rattle.csv.specs.Records.{fields_of}
 use Rattle.csv.specs.Reading.{Ready, records_from, default_config, source_of}
 use Rattle.csv.specs.declared.reader.Reader.{Reader}
 use Rattle.csv.specs.declared.reader.Trim.TheVariants as trim
+use Rattle.resil_input.specs.CsvRows.{records_of}
+use Rattle.resil_input.specs.declared.csv_rows.OpenBody.{OpenBody}
 use Rattle.resil_input.specs.declared.csv_rows.Next.{Next}
 use Rattle.resil_input.specs.declared.csv_rows.Next.TheVariants.{Record, UnequalLength, End}
 
@@ -34,3 +37,12 @@ GivesNext old new fields End = records_left old ≡ []
 -- a reader after the header, so that each record that it gives has as many fields
 abbrev pub IsInBody : List (List ℕ) → Reader (Bor (List ℕ)) → Type 0
 IsInBody header reader = IsBetweenRecords reader × (reader.expected ≡ Some (length header))
+
+-- the fields of the first record of an open body
+abbrev pub header_of : OpenBody → List (List ℕ)
+header_of opened = fields_of opened.header
+
+-- The body was opened: its first record was read, and none behind it.
+pub record IsOpened (body : List ℕ) (opened : OpenBody) : Type 0 where
+  pub first : records_of body ≡ header_of opened ∷ records_left opened.reader
+  pub inside : IsInBody (header_of opened) opened.reader

@@ -4,11 +4,11 @@
 //! ends are left to `csv`. The records that were read and those that the reader has yet to give are
 //! together that list after each read, so no record is lost and none is read twice.
 
-ghost use Rattle.std.specs.Prelude.{◌≡◌, ℕ, List, Option, None, map, MatchResult, IfOk, IfErr, IsTrue, ◌↔◌};
+ghost use Rattle.std.specs.Prelude.{◌≡◌, ℕ, List, Option, map, MatchResult, IfOk, IfErr, IsTrue, ◌↔◌};
 ghost use Rattle.csv.specs.Records.{fields_of};
 ghost use Rattle.resil_input.specs.declared.csv_rows.BodyError.TheVariants.{Memory};
-ghost use Rattle.resil_input.specs.CsvRows.{AnswersRows, IsBody, IsBodyError, records_of, RowsUnique, RowsExcludeErrors, ErrorsUnique};
-ghost use Rattle.resil_input.specs.ReaderState.{IsBetweenRecords, GivesNext, records_left};
+ghost use Rattle.resil_input.specs.CsvRows.{AnswersRows, IsBody, IsBodyError, IsUnopened, RowsUnique, RowsExcludeErrors, ErrorsUnique};
+ghost use Rattle.resil_input.specs.ReaderState.{IsBetweenRecords, IsOpened, GivesNext, header_of};
 
 use crate::fields::{field_at, is_text};
 use csv::{ByteRecord, ErrorKind, Reader, ReaderBuilder};
@@ -86,35 +86,72 @@ fn next_record(reader: &mut Reader<&[u8]>, fields: &mut ByteRecord) -> Result<Ne
     }
 }
 
-// Reads the header and the rows of a body that the reader has yet to read. Errors: as for
-// `read_rows`.
-fn read_body<R: Drop, F: Fn(&ByteRecord) -> Result<Option<R>, AllocError>>(
-    alloc: Global,
-    header: &[&str],
-    row_of: &F,
-    reader: &mut Reader<&[u8]>,
-) -> Result<Vec<R>, BodyError>
-    requires calls { F.IsAlwaysCallable row_of.now }
-    requires between { IsBetweenRecords reader.old }
-    requires first { reader.old.expected ≡ None }
-    ensures { let names = map (λ name. name.now) header.now in
-        (body : List ℕ) (parse : List (List ℕ) → Option R) → records_left reader.old ≡ records_of body → AnswersRows (F.post row_of.now) names parse
-        → MatchResult result (λ rows. IsBody names parse body rows.items) (IsBodyError names parse body) }
+/// A body whose first record was read.
+#[derive(Drop)]
+pub struct OpenBody<'a> {
+    // What reads the records behind the first one.
+    reader: Reader<&'a [u8]>,
+    // The first record.
+    header: ByteRecord,
+}
+
+/// Opens a body, whose header may be one of several: reads its first record.
+///
+/// # Errors
+///
+/// The first that is met: `Memory` when out of memory; `BadHeader` where there is no record.
+pub fn open_body(alloc: Global, body: &[u8]) -> Result<OpenBody<'_>, BodyError>
+    ensures opened { IfOk result (IsOpened body.now) }
+    ensures refused { IfErr result (IsUnopened body.now) }
 {
-    let mut fields = ByteRecord::new(alloc);
-    match next_record(reader, &mut fields)? {
-        Next::Record if has_fields(&fields, header) => {}
-        _ => return Err(BodyError::BadHeader),
+    let mut reader = ReaderBuilder::new()
+        .has_headers(false)
+        .from_reader(alloc, body);
+    let mut header = ByteRecord::new(alloc);
+    match next_record(&mut reader, &mut header)? {
+        Next::Record => Ok(OpenBody { reader, header }),
+        Next::UnequalLength | Next::End => Err(BodyError::BadHeader),
     }
-    let mut rows = Vec::new(alloc);
-    'rows: loop {
-        match next_record(reader, &mut fields)? {
-            Next::Record => match row_of(&fields)? {
-                Some(row) => rows.push(row)?,
-                None => return Err(BodyError::BadRow(rows.len() + 1)),
-            },
-            Next::UnequalLength => return Err(BodyError::BadRow(rows.len() + 1)),
-            Next::End => return Ok(rows),
+}
+
+impl OpenBody<'_> {
+    /// Whether its first record has exactly these fields, in this order.
+    pub fn has_header(&self, names: &[&str]) -> bool
+        ensures { IsTrue result ↔ (header_of self.now ≡ map (λ name. name.now) names.now) }
+    {
+        has_fields(&self.header, names)
+    }
+
+    /// Reads the rows behind the header, in order. `row_of` reads the row of a record with as many fields as the header, or `None`
+    /// where it is no row; it fails when out of memory.
+    ///
+    /// # Errors
+    ///
+    /// The first that is met: `Memory` when out of memory; `BadRow` with the position of the first record that is no row.
+    pub fn rows<R: Drop, F: Fn(&ByteRecord) -> Result<Option<R>, AllocError> + Drop>(
+        self,
+        alloc: Global,
+        row_of: F,
+    ) -> Result<Vec<R>, BodyError>
+        requires calls { F.IsAlwaysCallable row_of }
+        requires opened { (body : List ℕ) × IsOpened body self }
+        ensures { (body : List ℕ) (parse : List (List ℕ) → Option R) → IsOpened body self.entry → AnswersRows (F.post row_of) (header_of self.entry) parse
+            → MatchResult result (λ rows. IsBody (header_of self.entry) parse body rows.items) (IsBodyError (header_of self.entry) parse body) }
+    {
+        let OpenBody {
+            mut reader,
+            header: mut fields,
+        } = self;
+        let mut rows = Vec::new(alloc);
+        'rows: loop {
+            match next_record(&mut reader, &mut fields)? {
+                Next::Record => match row_of(&fields)? {
+                    Some(row) => rows.push(row)?,
+                    None => return Err(BodyError::BadRow(rows.len() + 1)),
+                },
+                Next::UnequalLength => return Err(BodyError::BadRow(rows.len() + 1)),
+                Next::End => return Ok(rows),
+            }
         }
     }
 }
@@ -138,10 +175,11 @@ pub fn read_rows<R: Drop, F: Fn(&ByteRecord) -> Result<Option<R>, AllocError> + 
         (parse : List (List ℕ) → Option R) → AnswersRows (F.post row_of) names parse
         → MatchResult result (λ rows. IsBody names parse body.now rows.items) (IsBodyError names parse body.now) }
 {
-    let mut reader = ReaderBuilder::new()
-        .has_headers(false)
-        .from_reader(alloc, body);
-    read_body(alloc, header, &row_of, &mut reader)
+    let opened = open_body(alloc, body)?;
+    if !opened.has_header(header) {
+        return Err(BodyError::BadHeader);
+    }
+    opened.rows(alloc, row_of)
 }
 
 /// The law of bodies: a body alone determines how it is read. It has one list of rows at most, a

@@ -7,13 +7,13 @@
 
 ghost use Rattle.std.specs.Prelude.{◌≡◌, ◌≤◌, ◌<◌, ◌+◌, ◌-◌, ◌||◌, false, length, vec_len, is_err, IfOk, OnOk, IfSome};
 ghost use Rattle.std.specs.Io.KnownBytes.{Appends, Keeps, ReadConsumes, WriteAppends};
-ghost use Rattle.resil_input.specs.Io.{inner_of, has_failed, input_limit, is_reader_error, AddsRead, IsInput, ConsumesAtMost, AppendsPrefix};
+ghost use Rattle.resil_input.specs.Io.{inner_of, has_failed, input_limit, is_reader_error, AddsRead, IsInput, IsInputUpTo, ConsumesAtMost, AppendsPrefix};
 
 use std::alloc::Global;
 use std::io::{ErrorKind, Read, Write};
 use thiserror::Error;
 
-/// The greatest length of an input, in bytes: one mebibyte (a limit of this program).
+/// The greatest length of an input of the program `resil`, and of a head with its separator line, in bytes: one mebibyte.
 pub const MAX_INPUT_LEN: usize = 1_048_576;
 
 // The greatest number of bytes that one read asks for. Room for them is zeroed at each start, so there are few.
@@ -183,9 +183,9 @@ impl<W: Write> OutputWriter for FailureTracking<W> {
 /// An input, as it was read.
 #[derive(Drop)]
 pub enum Input {
-    /// All its bytes, which are at most `MAX_INPUT_LEN`.
+    /// All its bytes, which are within the limit that it was read by.
     Whole(Vec<u8>),
-    /// It has more bytes than `MAX_INPUT_LEN`.
+    /// It has more bytes than that.
     TooLong,
 }
 
@@ -210,10 +210,27 @@ pub fn read_input<R: InputReader>(alloc: Global, reader: &mut R) -> Result<Input
     ensures taken { ConsumesAtMost (input_limit + 1) (R.remaining reader.old) (R.remaining reader.new) }
     ensures failed { R.has_failed reader.new ≡ (R.has_failed reader.old || is_reader_error result) }
 {
+    read_up_to(alloc, reader, MAX_INPUT_LEN)
+}
+
+/// Reads to the end of the input, or to the first byte past a limit, and no further.
+///
+/// # Errors
+///
+/// As of `read_input`.
+pub fn read_up_to<R: InputReader>(
+    alloc: Global,
+    reader: &mut R,
+    limit: usize,
+) -> Result<Input, ReadError>
+    ensures input { IfOk result (λ input. IfSome (R.remaining reader.old) (λ bytes. IsInputUpTo limit bytes input)) }
+    ensures taken { ConsumesAtMost (limit + 1) (R.remaining reader.old) (R.remaining reader.new) }
+    ensures failed { R.has_failed reader.new ≡ (R.has_failed reader.old || is_reader_error result) }
+{
     let mut bytes = Vec::new(alloc);
     let mut piece = [0u8; MAX_READ_LEN];
-    'pieces: while bytes.len() <= MAX_INPUT_LEN {
-        let count = read_piece(reader, &mut piece, &mut bytes)?;
+    'pieces: while bytes.len() <= limit {
+        let count = read_piece(reader, limit, &mut piece, &mut bytes)?;
         if count == 0 {
             return Ok(Input::Whole(bytes));
         }
@@ -221,23 +238,23 @@ pub fn read_input<R: InputReader>(alloc: Global, reader: &mut R) -> Result<Input
     Ok(Input::TooLong)
 }
 
-// Reads once, to the first byte past `MAX_INPUT_LEN` at most, and adds what was read to the bytes.
+// Reads once, to the first byte past the limit at most, and adds what was read to the bytes.
 // Answers how many they are: 0 at the end of the input. Errors: `Reader` where the read fails;
 // `Memory` when out of memory.
 fn read_piece<R: InputReader>(
     reader: &mut R,
+    limit: usize,
     piece: &mut [u8],
     bytes: &mut Vec<u8>,
 ) -> Result<usize, ReadError>
-    requires room { vec_len bytes.old ≤ input_limit }
+    requires room { vec_len bytes.old ≤ limit }
     requires piece { 0 < length piece.old }
     ensures added { IfOk result (AddsRead (R.remaining reader.old) (R.remaining reader.new) bytes.old.items bytes.new.items) }
-    ensures within { IfOk result (λ _. vec_len bytes.new ≤ input_limit + 1) }
-    ensures taken { ConsumesAtMost (input_limit + 1 - vec_len bytes.old) (R.remaining reader.old) (R.remaining reader.new) }
+    ensures within { IfOk result (λ _. vec_len bytes.new ≤ limit + 1) }
+    ensures taken { ConsumesAtMost (limit + 1 - vec_len bytes.old) (R.remaining reader.old) (R.remaining reader.new) }
     ensures failed { R.has_failed reader.new ≡ (R.has_failed reader.old || is_reader_error result) }
 {
-    let room = MAX_INPUT_LEN + 1 - bytes.len();
-    let most = room.min(piece.len());
+    let most = (limit - bytes.len()).min(piece.len() - 1) + 1;
     let space = &mut piece[..most];
     let Ok(count) = reader.read(space) else {
         return Err(ReadError::Reader);

@@ -1,16 +1,18 @@
 -- What the words of `resil_look` request, and what is written for an input.
-use Rattle.std.specs.Prelude.{ℕ, ◌≡◌, ◌&&◌, ◌∷◌, [], List, Option, Some, None, IfSome, codes, if◌then◌else◌, option_map}
+use Rattle.std.specs.Prelude.{ℕ, ◌+◌, ◌≡◌, ◌&&◌, ◌∷◌, [], List, Option, Some, None, IfSome, codes, if◌then◌else◌, option_map}
+use Rattle.resil_heads.specs.Output.{IsOutputFor, IsRefusalLine}
+use Rattle.resil_heads.specs.declared.refusal.Refusal.{Refusal}
 use Rattle.resil_input.specs.TextEquality.{is_same}
 use Rattle.resil_input.specs.declared.output.Output.{Output}
 use Rattle.resil_input.specs.declared.output.Output.TheVariants as output
 use Rattle.resil_look.specs.declared.look.Request.{Request}
 use Rattle.resil_look.specs.declared.look.Request.TheVariants as request
 use Rattle.resil_look.specs.declared.look.Request.TheVariants.{Simulate}
-use Rattle.resil_view.specs.Output.{IsViewOutput}
-use Rattle.resil_view.specs.Simulate.{IsSimulateOutput, text_of}
+use Rattle.resil_simulate.specs.Command.{IsSimulateRefusal, text_of}
+use Rattle.resil_simulate.specs.declared.command.LoadView.TheVariants as load_view
+use Rattle.resil_view.specs.Command.{IsViewRefusal, IsViewText}
 use Rattle.resil_view.specs.declared.command.View.{View}
 use Rattle.resil_view.specs.declared.command.View.TheVariants.{Judge, Stats, Timeline}
-use Rattle.resil_view.specs.declared.simulate.LoadView.TheVariants as load_view
 
 -- the view that a word requests
 abbrev pub view_named : List ℕ → Option View
@@ -26,10 +28,28 @@ requested (name ∷ word ∷ []) = request_named word
 requested (name ∷ word ∷ option ∷ []) = if is_same word (codes "simulate") && is_same option (codes "--history") then Some (Simulate load_view.History) else None
 requested _ = None
 
+-- the greatest length of an input of what is requested, in bytes: 16 mebibytes of a history, 4 of a load
+abbrev pub limit_of : Request → ℕ
+limit_of (request.View view) = 16777216
+limit_of (Simulate shown) = 4194304
+
+-- at most this many bytes are read for what the words request: those of an input, and one more that shows that it is too long
+abbrev pub most_read : Option Request → ℕ
+most_read None = 0
+most_read (Some request) = limit_of request + 1
+
+-- a text of what is requested of an input, and a refusal
+abbrev pub IsRequestText : Request → List ℕ → List ℕ → Type 0
+IsRequestText (request.View view) = IsViewText view
+IsRequestText (Simulate shown) = text_of shown
+
+abbrev pub IsRequestRefusal : Request → List ℕ → Refusal → Type 0
+IsRequestRefusal (request.View view) = IsViewRefusal view
+IsRequestRefusal (Simulate shown) = IsSimulateRefusal
+
 -- an output of what is requested for an input
 abbrev pub IsRequestOutput : Request → List ℕ → Output → Type 0
-IsRequestOutput (request.View view) input out = IsViewOutput view input out
-IsRequestOutput (Simulate shown) input out = IsSimulateOutput (text_of shown) input out
+IsRequestOutput request input out = IsOutputFor (limit_of request) (IsRequestText request) (IsRefusalLine (IsRequestRefusal request)) input out
 
 -- an output for what the words request and an input, where the reader tells its bytes
 abbrev pub IsLooked : Option Request → Option (List ℕ) → Output → Type 0

@@ -3,18 +3,27 @@
 //! All input is read before anything is answered, and an answer is made whole before its first byte is
 //! written.
 
-ghost use Rattle.std.specs.Prelude.{◌≡◌, ◌≤◌, ◌⊎◌, ◌||◌, ◌+◌, ℕ, List, Option, true, false, None, map, is_err, IfOk};
-ghost use Rattle.resil_input.specs.Io.{ConsumesAtMost, IsInput, input_limit};
+ghost use Rattle.std.specs.Prelude.{◌≡◌, ◌≤◌, ◌⊎◌, ◌||◌, ◌+◌, ℕ, List, Option, true, false, None, Some, map, is_err, IfOk, MatchResult};
+ghost use Rattle.resil_heads.specs.CommandError.{IsError};
+ghost use Rattle.resil_input.specs.Io.{ConsumesAtMost, IsInputUpTo};
 ghost use Rattle.resil_input.specs.Output.{IsWritten, code_of};
 ghost use Rattle.resil_input.specs.declared.output.Output.{Output};
 ghost use Rattle.resil_input.specs.declared.output.Status.{Status};
-ghost use Rattle.resil_look.specs.Look.{IsLooked, IsRequestOutput, request_named, requested, view_named};
+ghost use Rattle.resil_look.specs.Look.{IsLooked, IsRequestOutput, IsRequestRefusal, IsRequestText, limit_of, most_read, request_named, requested, view_named};
 
-use resil_heads::{CommandError, Refusal, error_output};
-use resil_input::io::{Input, InputReader, OutputWriter, ReadError, read_input};
+use resil_heads::length::is_too_long;
+use resil_heads::{CommandError, made_output, too_long_output};
+use resil_input::io::{Input, InputReader, OutputWriter, ReadError, read_up_to};
 use resil_input::output::{Output, write_output};
-use resil_view::{LoadView, View, simulate_output, view_output};
+use resil_simulate::command::{self, LoadView};
+use resil_view::{View, view_text};
 use std::alloc::Global;
+
+/// The greatest length of a history, in bytes: 16 mebibytes.
+const MAX_HISTORY_LEN: usize = 16_777_216;
+
+/// The greatest length of a load, in bytes: 4 mebibytes.
+const MAX_LOAD_LEN: usize = 4_194_304;
 
 /// What the words request.
 #[derive(Clone, Copy, Debug, PartialEq, Eq)]
@@ -25,8 +34,8 @@ pub(crate) enum Request {
     Simulate(LoadView),
 }
 
-// What the words request, of which the first is the program's name.
-fn requested(words: &[&str]) -> Option<Request>
+/// What the words request, of which the first is the program's name.
+pub(crate) fn requested(words: &[&str]) -> Option<Request>
     ensures { result ≡ requested (map (λ word. word.now) words.now) }
 {
     match *words {
@@ -49,8 +58,8 @@ fn request_named(word: &str) -> Option<Request>
     Some(Request::View(view))
 }
 
-// The view that a word requests.
-fn view_named(word: &str) -> Option<View>
+/// The view that a word requests.
+pub(crate) fn view_named(word: &str) -> Option<View>
     ensures { result ≡ view_named word.now }
 {
     if word == "judge" {
@@ -64,17 +73,68 @@ fn view_named(word: &str) -> Option<View>
     }
 }
 
-// The output of what is requested for what was read of an input.
-fn request_output(alloc: Global, request: Request, input: &Input) -> Output
-    ensures { (bytes : List ℕ) → IsInput bytes input.now → IsRequestOutput request bytes result }
+/// The greatest length of an input of what is requested, in bytes.
+pub(crate) fn limit_of(request: Request) -> usize
+    ensures { result ≡ limit_of request }
 {
-    let bytes = match input {
-        Input::TooLong => return error_output(alloc, CommandError::Refused(Refusal::TooLong)),
-        Input::Whole(bytes) => bytes,
-    };
     match request {
-        Request::View(view) => view_output(alloc, view, bytes),
-        Request::Simulate(shown) => simulate_output(alloc, shown, bytes),
+        Request::View(_) => MAX_HISTORY_LEN,
+        Request::Simulate(_) => MAX_LOAD_LEN,
+    }
+}
+
+// The text of what is requested of an input. Errors: as those of a view, or of `simulate`.
+fn request_text(alloc: Global, request: Request, input: &[u8]) -> Result<Vec<u8>, CommandError>
+    ensures { MatchResult result (λ text. IsRequestText request input.now text.items) (IsError (IsRequestRefusal request input.now)) }
+{
+    match request {
+        Request::View(view) => view_text(alloc, view, input),
+        Request::Simulate(shown) => command::text(alloc, shown, input),
+    }
+}
+
+// The output of what is requested for an input. One that is too long, or whose head is, is refused first.
+#[tactic(auto, using(resil_heads::proofs::OutputLaws::error_answers, resil_heads::proofs::OutputLaws::too_long_answers))]
+fn whole_output(alloc: Global, request: Request, input: &[u8]) -> Output
+    ensures { IsRequestOutput request input.now result }
+{
+    if is_too_long(limit_of(request), input) {
+        return too_long_output(alloc);
+    }
+    made_output(alloc, request_text(alloc, request, input))
+}
+
+// The output of what is requested for what was read of an input.
+#[tactic(auto, using(resil_heads::proofs::OutputLaws::longer_than, resil_heads::proofs::OutputLaws::too_long_answers))]
+fn request_output(alloc: Global, request: Request, input: &Input) -> Output
+    ensures { (bytes : List ℕ) → IsInputUpTo (limit_of request) bytes input.now → IsRequestOutput request bytes result }
+{
+    match input {
+        Input::TooLong => too_long_output(alloc),
+        Input::Whole(bytes) => whole_output(alloc, request, bytes),
+    }
+}
+
+// The output of what is requested for what a reader gives. Errors: a read failed.
+fn read_output<R: InputReader>(
+    alloc: Global,
+    request: Request,
+    reader: &mut R,
+) -> Result<Output, ReadError>
+    ensures output { IfOk result (IsLooked (Some request) (R.remaining reader.old)) }
+    ensures taken { ConsumesAtMost (most_read (Some request)) (R.remaining reader.old) (R.remaining reader.new) }
+    ensures failed { R.has_failed reader.new ≡ (R.has_failed reader.old || is_err result) }
+{
+    match read_up_to(alloc, reader, limit_of(request)) {
+        Ok(input) => {
+            let output = request_output(alloc, request, &input);
+            if let Input::Whole(bytes) = input {
+                reader.take_back(bytes);
+            }
+            Ok(output)
+        }
+        Err(ReadError::Memory) => Ok(Output::NoMemory),
+        Err(ReadError::Reader) => Err(ReadError::Reader),
     }
 }
 
@@ -85,23 +145,13 @@ fn output_for<R: InputReader>(
     reader: &mut R,
 ) -> Result<Output, ReadError>
     ensures output { IfOk result (IsLooked (requested (map (λ word. word.now) words.now)) (R.remaining reader.old)) }
-    ensures taken { ConsumesAtMost (input_limit + 1) (R.remaining reader.old) (R.remaining reader.new) }
+    ensures taken { ConsumesAtMost (most_read (requested (map (λ word. word.now) words.now))) (R.remaining reader.old) (R.remaining reader.new) }
     ensures failed { R.has_failed reader.new ≡ (R.has_failed reader.old || is_err result) }
     ensures unread { requested (map (λ word. word.now) words.now) ≡ None → reader.new ≡ reader.old }
 {
-    let Some(request) = requested(words) else {
-        return Ok(Output::Usage);
-    };
-    match read_input(alloc, reader) {
-        Ok(input) => {
-            let output = request_output(alloc, request, &input);
-            if let Input::Whole(bytes) = input {
-                reader.take_back(bytes);
-            }
-            Ok(output)
-        }
-        Err(ReadError::Memory) => Ok(Output::NoMemory),
-        Err(ReadError::Reader) => Err(ReadError::Reader),
+    match requested(words) {
+        Some(request) => read_output(alloc, request, reader),
+        None => Ok(Output::Usage),
     }
 }
 
@@ -118,7 +168,7 @@ pub(crate) fn look<R: InputReader, W: OutputWriter>(
         × IsWritten (W.contents writer.old) (W.contents writer.new) (W.has_failed writer.old) (W.has_failed writer.new) out s × (result ≡ code_of s)) }
     ensures no_read_fault { R.has_failed reader.old ≡ false → R.has_failed reader.new ≡ true → (result ≡ 4) × (writer.new ≡ writer.old) }
     ensures no_write_fault { W.has_failed writer.old ≡ false → W.has_failed writer.new ≡ true → result ≡ 4 }
-    ensures taken { ConsumesAtMost (input_limit + 1) (R.remaining reader.old) (R.remaining reader.new) }
+    ensures taken { ConsumesAtMost (most_read (requested (map (λ word. word.now) words.now))) (R.remaining reader.old) (R.remaining reader.new) }
     ensures unread { requested (map (λ word. word.now) words.now) ≡ None → reader.new ≡ reader.old }
 {
     match output_for(alloc, words, reader) {

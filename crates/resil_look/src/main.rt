@@ -5,8 +5,9 @@
 #![tactic(auto)]
 
 mod look;
+mod said;
 
-use resil_explain::{explain_look, start};
+use resil_explain::start;
 use std::process::ExitCode;
 use std::rt::Env;
 
@@ -14,7 +15,7 @@ fn run<R: Env + Input + Print + Eprint + AllocGlobal>(rt: &R) -> u8 {
     start!(
         rt,
         |words, reader, writer| look::look(rt.alloc(), words, reader, writer),
-        explain_look
+        said::explain_look
     )
 }
 

@@ -1,16 +1,21 @@
 -- What a page is answered: the output of a command for an input, and where its bytes are.
 use Rattle.std.specs.Prelude.{ℕ, ◌≡◌, ◌≤◌, ◌<◌, ◌++◌, ◌⊎◌, ◌==◌, if◌then◌else◌, List, Option, Some, None, length, drop}
+use Rattle.resil_heads.specs.Output.{IsOutputFor, IsRefusalLine}
+use Rattle.resil_heads.specs.declared.refusal.Refusal.{Refusal}
+use Rattle.resil_input.specs.Io.{input_limit}
 use Rattle.resil_input.specs.Output.{bytes_of, code_of, status_of}
 use Rattle.resil_input.specs.declared.output.Output.{Output}
 use Rattle.resil_input.specs.declared.output.Output.TheVariants as output
+use Rattle.resil_page.specs.Head.{IsHeadRefusal, IsHeadText}
+use Rattle.resil_page.specs.declared.head.HeadOf.TheVariants as head_of
 use Rattle.resil_page.specs.declared.output.Command.{Command}
-use Rattle.resil_page.specs.declared.output.Command.TheVariants.{Replay, Audit, View, Simulate}
+use Rattle.resil_page.specs.declared.output.Command.TheVariants.{Replay, Audit, View, Simulate, Head}
 use Rattle.resil_replay.specs.Audit.{IsAuditText, IsAuditRefusal}
 use Rattle.resil_replay.specs.Replay.{IsReplayText, IsReplayRefusal}
-use Rattle.resil_view.specs.Output.{IsOutputFor, IsRefusalLine, IsViewOutput}
-use Rattle.resil_view.specs.Simulate.{IsSimulateOutput, text_of}
+use Rattle.resil_simulate.specs.Command.{IsSimulateRefusal, text_of}
+use Rattle.resil_simulate.specs.declared.command.LoadView.TheVariants.{Numbers, History}
+use Rattle.resil_view.specs.Command.{IsViewRefusal, IsViewText}
 use Rattle.resil_view.specs.declared.command.View.TheVariants.{Judge, Stats, Timeline}
-use Rattle.resil_view.specs.declared.simulate.LoadView.TheVariants.{Numbers, History}
 
 -- the command of a number
 abbrev pub command_of : ℕ → Option Command
@@ -22,14 +27,28 @@ command_of number =
     else if number == 4 then Some (View Timeline)
     else if number == 5 then Some (Simulate Numbers)
     else if number == 6 then Some (Simulate History)
+    else if number == 7 then Some (Head head_of.History)
+    else if number == 8 then Some (Head head_of.Load)
     else None
+
+-- a text of a command for an input, and a refusal
+abbrev pub IsCommandText : Command → List ℕ → List ℕ → Type 0
+IsCommandText Replay = IsReplayText
+IsCommandText Audit = IsAuditText
+IsCommandText (View view) = IsViewText view
+IsCommandText (Simulate shown) = text_of shown
+IsCommandText (Head whose) = IsHeadText whose
+
+abbrev pub IsCommandRefusal : Command → List ℕ → Refusal → Type 0
+IsCommandRefusal Replay = IsReplayRefusal
+IsCommandRefusal Audit = IsAuditRefusal
+IsCommandRefusal (View view) = IsViewRefusal view
+IsCommandRefusal (Simulate shown) = IsSimulateRefusal
+IsCommandRefusal (Head whose) = IsHeadRefusal whose
 
 -- an output of a command for an input
 abbrev pub IsCommandOutput : Command → List ℕ → Output → Type 0
-IsCommandOutput Replay input out = IsOutputFor IsReplayText (IsRefusalLine IsReplayRefusal) input out
-IsCommandOutput Audit input out = IsOutputFor IsAuditText (IsRefusalLine IsAuditRefusal) input out
-IsCommandOutput (View view) input out = IsViewOutput view input out
-IsCommandOutput (Simulate view) input out = IsSimulateOutput (text_of view) input out
+IsCommandOutput command input out = IsOutputFor input_limit (IsCommandText command) (IsRefusalLine (IsCommandRefusal command)) input out
 
 -- the same, or that of wrong words where no command is asked for
 abbrev pub IsPageOutput : Option Command → List ℕ → Output → Type 0

@@ -10,8 +10,8 @@ use crate::said::said_of;
 use std::alloc::Global;
 
 /// Hands over the output of a command for an input: 0 is `replay`, 1 `audit`, 2 `judge`, 3 `stats`, 4 `timeline`, 5 `simulate` and
-/// 6 `simulate --history`; another number is answered as wrong words. `count` is set to the number of its bytes, and the answer is the
-/// number of its status.
+/// 6 `simulate --history`; 7 and 8 give what the head of a history says, and that of a load; another number is answered as wrong words.
+/// `count` is set to the number of its bytes, and the answer is the number of its status.
 #[unsafe(no_mangle)]
 pub extern "C" fn resil_page_answer(
     alloc: Global,

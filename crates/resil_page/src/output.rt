@@ -1,17 +1,20 @@
 //! The output of a command for an input, and its bytes in the memory of a caller.
 
 ghost use Rattle.std.specs.Prelude.{◌≡◌, MatchResult};
-ghost use Rattle.resil_heads.specs.CommandError.{IsErrorOutput};
-ghost use Rattle.resil_page.specs.Page.{IsCommandOutput, IsFilled, IsHandedOver, IsPageOutput, command_of};
+ghost use Rattle.resil_heads.specs.CommandError.{IsError};
+ghost use Rattle.resil_page.specs.Page.{IsCommandOutput, IsCommandRefusal, IsCommandText, IsFilled, IsHandedOver, IsPageOutput, command_of};
 
-use resil_heads::{CommandError, Refusal, error_output};
+use crate::head::{HeadOf, head_text};
+use resil_heads::length::is_too_long;
+use resil_heads::{CommandError, made_output, too_long_output};
 use resil_input::io::MAX_INPUT_LEN;
 use resil_input::output::Output;
 use resil_replay::{audit, replay};
-use resil_view::{LoadView, View, simulate_output, view_output};
+use resil_simulate::command::{self, LoadView};
+use resil_view::{View, view_text};
 use std::alloc::Global;
 
-/// A command of one thread.
+/// A command of one thread, or what the page needs of a head.
 #[derive(Clone, Copy, Debug, PartialEq, Eq)]
 pub(crate) enum Command {
     /// `replay`.
@@ -22,6 +25,8 @@ pub(crate) enum Command {
     View(View),
     /// `simulate`.
     Simulate(LoadView),
+    /// What the head of an input says.
+    Head(HeadOf),
 }
 
 /// The command of a number.
@@ -36,33 +41,34 @@ pub(crate) fn command_of(number: u8) -> Option<Command>
         4 => Some(Command::View(View::Timeline)),
         5 => Some(Command::Simulate(LoadView::Numbers)),
         6 => Some(Command::Simulate(LoadView::History)),
+        7 => Some(Command::Head(HeadOf::History)),
+        8 => Some(Command::Head(HeadOf::Load)),
         _ => None,
     }
 }
 
-// The output of what a command gave.
-fn made_output(alloc: Global, made: Result<Vec<u8>, CommandError>) -> Output
-    ensures { MatchResult made (λ text. result ≡ Output.Text text) (λ error. IsErrorOutput error result) }
+// The text of a command for an input. Errors: as those of the command.
+fn command_text(alloc: Global, command: Command, input: &[u8]) -> Result<Vec<u8>, CommandError>
+    ensures { MatchResult result (λ text. IsCommandText command input.now text.items) (IsError (IsCommandRefusal command input.now)) }
 {
-    match made {
-        Ok(text) => Output::Text(text),
-        Err(error) => error_output(alloc, error),
+    match command {
+        Command::Replay => replay::text(alloc, input),
+        Command::Audit => audit::text(alloc, input),
+        Command::View(view) => view_text(alloc, view, input),
+        Command::Simulate(shown) => command::text(alloc, shown, input),
+        Command::Head(whose) => head_text(alloc, whose, input),
     }
 }
 
 // The output of a command for an input, of which one that is too long is refused first.
+#[tactic(auto, using(resil_heads::proofs::OutputLaws::error_answers, resil_heads::proofs::OutputLaws::too_long_answers))]
 fn command_output(alloc: Global, command: Command, input: &[u8]) -> Output
     ensures { IsCommandOutput command input.now result }
 {
-    if input.len() > MAX_INPUT_LEN {
-        return error_output(alloc, CommandError::Refused(Refusal::TooLong));
+    if is_too_long(MAX_INPUT_LEN, input) {
+        return too_long_output(alloc);
     }
-    match command {
-        Command::Replay => made_output(alloc, replay::text(alloc, input)),
-        Command::Audit => made_output(alloc, audit::text(alloc, input)),
-        Command::View(view) => view_output(alloc, view, input),
-        Command::Simulate(view) => simulate_output(alloc, view, input),
-    }
+    made_output(alloc, command_text(alloc, command, input))
 }
 
 /// The output of a command, if there is one, for an input.

@@ -1,9 +1,8 @@
 //! What is said of an answer, collected as text.
 
 use crate::output::Command;
-use resil_explain::{Subject, explain_input};
-use resil_heads::run::{NAMED_KEYS, RUN_KEYS};
-use resil_view::View;
+use resil_explain::explain_input;
+use resil_replay::subject::{AuditSubject, ReplaySubject};
 use std::alloc::Global;
 use std::cell::RefCell;
 use std::fmt::{Display, Write};
@@ -29,17 +28,6 @@ impl Eprint for Said {
     }
 }
 
-// What an input is for.
-fn subject_of(command: Command) -> Subject {
-    match command {
-        Command::Replay => Subject::Replay,
-        Command::Audit => Subject::Audit,
-        Command::View(View::Judge) => Subject::History(RUN_KEYS),
-        Command::View(_) => Subject::History(NAMED_KEYS),
-        Command::Simulate(_) => Subject::Load,
-    }
-}
-
 /// What the program says on standard error of a command's answer for an input, by its status and its first line.
 pub(crate) fn said_of(
     alloc: Global,
@@ -52,8 +40,12 @@ pub(crate) fn said_of(
         lines: RefCell::new(String::new(alloc)),
     };
     let rt = (said, alloc);
-    if let Some(command) = command {
-        explain_input(&rt, subject_of(command), code, line, input);
+    match command {
+        Some(Command::Replay) => explain_input(&rt, ReplaySubject, code, line, input),
+        Some(Command::Audit) => explain_input(&rt, AuditSubject, code, line, input),
+        Some(Command::View(view)) => explain_input(&rt, view, code, line, input),
+        Some(Command::Simulate(shown)) => explain_input(&rt, shown, code, line, input),
+        Some(Command::Head(_)) | None => {}
     }
     let (said, _) = rt;
     said.lines.into_inner()

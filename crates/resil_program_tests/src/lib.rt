@@ -10,6 +10,8 @@
 #[cfg(test)]
 mod growths;
 #[cfg(test)]
+mod heads;
+#[cfg(test)]
 mod shared;
 #[cfg(test)]
 mod streams;

@@ -1,19 +1,8 @@
 -- The text of a history is read as that history.
-use Rattle.std.proofs.Common.{ℕ, ◌≡◌, ◌<◌, ◌^◌, ◌∷◌, zero, suc, List, [], Some, map, length, refl, add-one, arith}
-use Rattle.std.specs.List.{All}
-use Rattle.std.specs.Fmt.{decimal}
+use Rattle.resil_replay.proofs.Words.{ℕ, ◌≡◌, ◌<◌, ◌^◌, ◌∷◌, zero, suc, List, [], Some, map, length, refl, add-one, arith, All, decimal, Id, Event, Resized, parse_event, HistoriesRoundTrip, Version, One, Two, FitsEvent, FitsId, record_fields, history_header, history_text, IsBody, ParseAs, records_of, row_under, below-round_trip, from_zero-round_trip}
 use Rattle.csv.specs.Reading.{strip_bom}
-use Rattle.resil_rule.specs.declared.event.Id.{Id}
-use Rattle.resil_rule.specs.declared.event.Event.{Event}
-use Rattle.resil_rule.specs.declared.event.Event.TheVariants.{Resized}
 use Rattle.resil_replay.specs.Id.{parse_id}
 use Rattle.resil_replay.specs.Sizes.{parse_sizes}
-use Rattle.resil_replay.specs.Events.{parse_event, HistoriesRoundTrip}
-use Rattle.resil_replay.specs.declared.history.Version.{Version}
-use Rattle.resil_replay.specs.declared.history.Version.TheVariants.{One, Two}
-use Rattle.resil_replay.specs.History.{FitsEvent, FitsId, record_fields, history_header, history_text}
-use Rattle.resil_input.specs.CsvRows.{IsBody, ParseAs, records_of, row_under}
-use Rattle.resil_input.proofs.NumberLaws.{below-round_trip, from_zero-round_trip}
 use Rattle.resil_replay.proofs.HistoryLaws.{reply-read, text-records}
 use Rattle.resil_replay.proofs.VersionLaws.{versions-unique}
 

@@ -1,23 +1,11 @@
 -- No two histories have the same text.
-use Rattle.std.proofs.Common.{Some, codes, get_or, zero, suc, map, take, ◌≡◌, ◌<◌, ◌∷◌, ◌++◌, ◌∙◌, [], ℕ, List, length, refl, sym, ap, arith}
-use Rattle.std.specs.List.{All, flat_map}
-use Rattle.std.specs.Fmt.{decimal}
-use Rattle.std.proofs.lemmas.Fmt.{decimal_injective}
+use Rattle.resil_replay.proofs.Words.{Some, codes, get_or, zero, suc, map, take, ◌≡◌, ◌<◌, ◌∷◌, ◌++◌, ◌∙◌, [], ℕ, List, length, refl, sym, ap, arith, All, flat_map, decimal, Id, Reply, Event, Submit, Take, Finish, IdleEnd, Close, Resized, ArePlain, IsPlain, record_text, parse_reply, Version, One, Two, FitsEvent, FitsId, HistoryTextInjective, history_text, columns_of, event_fields, history_header, job_fields, record_fields, IsPlain_number, records_from-end, records_from-next}
 use Rattle.csv.specs.Machine.{next_record}
 use Rattle.csv.specs.Reading.{default_config, records_from}
+use Rattle.std.proofs.lemmas.Fmt.{decimal_injective}
 use Rattle.csv.specs.declared.parser.State.TheVariants as st
-use Rattle.resil_rule.specs.declared.event.Id.{Id}
-use Rattle.resil_rule.specs.declared.event.Reply.{Reply}
 use Rattle.resil_rule.specs.declared.event.Reply.TheVariants.{Core}
-use Rattle.resil_rule.specs.declared.event.Event.{Event}
-use Rattle.resil_rule.specs.declared.event.Event.TheVariants.{Submit, Take, Finish, IdleEnd, Close, Resized}
-use Rattle.resil_input.specs.CsvTable.{ArePlain, IsPlain, record_text}
-use Rattle.resil_replay.specs.Events.{parse_reply}
-use Rattle.resil_replay.specs.declared.history.Version.{Version}
-use Rattle.resil_replay.specs.declared.history.Version.TheVariants.{One, Two}
-use Rattle.resil_replay.specs.History.{FitsEvent, FitsId, HistoryTextInjective, history_text, columns_of, event_fields, history_header, job_fields, record_fields, reply_name}
-use Rattle.resil_input.proofs.PlainLaws.{IsPlain_number}
-use Rattle.resil_input.proofs.RecordLaws.{records_from-end, records_from-next}
+use Rattle.resil_input.specs.Answer.{reply_name}
 use Rattle.resil_input.proofs.TableLaws.{ArePlain-take, record-read}
 
 pub IsPlain_reply_name : (reply : Reply) → IsPlain (reply_name reply)
@@ -43,6 +31,17 @@ several-record_fields : (version : Version) (event : Event) → 1 < length (reco
 several-record_fields One (Submit id reply) = omega arith
 several-record_fields Two (Submit id reply) = omega arith
 several-record_fields version event = omega arith
+
+-- the fields of an event in a version, of those of a row
+pub first_fields : (version : Version) (event : Event) (at : List ℕ) → take (columns_of version) (event_fields event ++ at ∷ []) ≡ record_fields version event
+first_fields One (Submit id reply) at = refl
+first_fields One event at = refl
+first_fields Two (Submit id reply) at = refl
+first_fields Two event at = refl
+
+pub all_fields : (event : Event) (at : List ℕ) → take 7 (event_fields event ++ at ∷ []) ≡ event_fields event ++ at ∷ []
+all_fields (Submit id reply) at = refl
+all_fields event at = refl
 
 -- a reply is read from its name
 pub reply-read : (reply : Reply) → parse_reply (reply_name reply) ≡ Some reply

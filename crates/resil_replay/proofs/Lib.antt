@@ -4,3 +4,4 @@ pub mod PlayLaws
 pub mod PoolLaws
 pub mod TimedLaws
 pub mod VersionLaws
+mod Words

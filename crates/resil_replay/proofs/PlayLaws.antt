@@ -1,15 +1,8 @@
 -- Rows and the events that they write, one after the other.
-use Rattle.std.proofs.Common.{◌≡◌, ◌<◌, ◌≤◌, ◌+◌, ◌∷◌, [], ◌++◌, ◌∙◌, ℕ, suc, Bool, true, false, ◌||◌, List, length, map, refl, sym, ap, arith, take, drop, drop-cons, get_or, append-nil, IsTrue, inl, inr}
-use Rattle.std.specs.Bool.{OnTrue, OnFalse}
+use Rattle.resil_replay.proofs.Words.{◌≡◌, ◌<◌, ◌≤◌, ◌+◌, ◌∷◌, [], ◌++◌, ◌∙◌, ℕ, suc, Bool, true, false, ◌||◌, List, length, map, refl, sym, ap, arith, take, drop, drop-cons, get_or, append-nil, IsTrue, inl, inr, OnTrue, OnFalse, true_from_ne_false, list_any-append, is_close, is_closed, IsAllowed, AreAllowedAfter, MachineView, with_event, Event, HasReplayed, IsCarriedOut}
 use Rattle.std.specs.List.{list_any}
-use Rattle.std.proofs.lemmas.Bool.{true_from_ne_false}
 use Rattle.std.proofs.lemmas.List.{map-append, take_more, take-append-drop, length-take-le}
-use Rattle.std.proofs.lemmas.List.Folds.{list_any-append}
 use Rattle.resil_rule.specs.Limits.{Sizes}
-use Rattle.resil_rule.specs.History.{is_close, is_closed}
-use Rattle.resil_rule.specs.Admission.{IsAllowed, AreAllowedAfter}
-use Rattle.resil_admission.specs.MachineView.{MachineView, with_event}
-use Rattle.resil_rule.specs.declared.event.Event.{Event}
 use Rattle.resil_rule.specs.declared.event.Event.TheVariants as event
 use Rattle.resil_rule.proofs.LegalLaws.{legal-push}
 use Rattle.resil_heads.specs.declared.refusal.RowRefusal.{RowRefusal}
@@ -17,7 +10,6 @@ use Rattle.resil_replay.specs.declared.pool.RowError.{RowError}
 use Rattle.resil_replay.specs.declared.pool.RowError.TheVariants as row_error
 use Rattle.resil_replay.specs.declared.play.ReplayError.TheVariants as error
 use Rattle.resil_replay.specs.Play.{IsRowRefusal, IsRowError, IsReplayError, error_at_row, row_of_event, drop_repeated_closings, is_closing, IsHistoryOf}
-use Rattle.resil_replay.specs.State.{HasReplayed, IsCarriedOut}
 use Rattle.resil_replay.specs.declared.rows.ReplayRow.{ReplayRow}
 use Rattle.resil_replay.specs.declared.rows.ReplayRow.TheVariants as row
 

@@ -1,29 +1,19 @@
 -- The jobs that are out of a pool, after each event.
-use Rattle.std.proofs.Common.{◌≡◌, ◌+◌, ◌<◌, ◌∷◌, [], ◌++◌, ◌∙◌, suc, Bool, true, false, not, ◌&&◌, ◌||◌, List, Option, Some, None, length, refl, sym, ap, arith, take, drop, get_or, remove, take-append-drop, drop-cons, append-nil, length-append, slice_get, IfNone, IsSome, inl, inr, ℕ}
+use Rattle.resil_replay.proofs.Words.{◌≡◌, ◌+◌, ◌<◌, ◌∷◌, [], ◌++◌, ◌∙◌, suc, Bool, true, false, not, ◌&&◌, ◌||◌, List, Option, Some, None, length, refl, sym, ap, arith, take, drop, get_or, remove, take-append-drop, drop-cons, append-nil, length-append, slice_get, IfNone, IsSome, inl, inr, ℕ, nat_lt, both_ways, false_from_ne_true, list_any-append, started, started_id, taken, finished, unfinished, running, is_among, is_same_id, MachineView, with_event, with_submission, with_finish, with_run, newly_accepted, jobs_in_flight, next_started, plan_of, IsPicked, HasNoneToPick, IsFinishRefusal, Id, Reply, Event, IsAllowed, ids_in_flight, IsRemoved, HavePlans, ReplayPoolInvariant}
 use Rattle.std.specs.List.{position, position_or_len}
-use Rattle.std.specs.Prelude.{nat_lt}
 use Rattle.std.proofs.Math.Seq.{take-length}
-use Rattle.std.proofs.lemmas.Bool.{both_ways, false_from_ne_true}
 use Rattle.std.proofs.lemmas.Grind.{common_steps}
 use Rattle.std.proofs.lemmas.List.{map-append}
 use Rattle.std.proofs.lemmas.List.Elements.{filter_map-append}
-use Rattle.std.proofs.lemmas.List.Folds.{list_any-append}
 use Rattle.std.proofs.lemmas.Option.{slice_get_past}
 use Rattle.resil_decor.specs.Plan.{PlanView}
 use Rattle.resil_decor.specs.Run.{RunView}
-use Rattle.resil_rule.specs.History.{started, started_id, taken, finished, unfinished, running, is_among, is_same_id}
-use Rattle.resil_admission.specs.MachineView.{MachineView, with_event, with_submission, with_finish, with_run, newly_accepted, jobs_in_flight, next_started, plan_of, IsPicked, HasNoneToPick, IsFinishRefusal}
 use Rattle.resil_rule.specs.declared.error.AdmitError.{AdmitError}
 use Rattle.resil_rule.specs.declared.error.AdmitError.TheVariants as admit
-use Rattle.resil_rule.specs.declared.event.Id.{Id}
-use Rattle.resil_rule.specs.declared.event.Reply.{Reply}
-use Rattle.resil_rule.specs.declared.event.Event.{Event}
 use Rattle.resil_rule.specs.declared.event.Event.TheVariants as event
 use Rattle.resil_admission.specs.declared.jobs.Accepted.{Accepted}
-use Rattle.resil_rule.specs.Admission.{IsAllowed}
 use Rattle.resil_rule.proofs.IdLaws.{among-unfinished, same_id-equal}
 use Rattle.resil_admission.proofs.JobLaws.{plan_of-grows, plan_of-with_run}
-use Rattle.resil_replay.specs.Pool.{ids_in_flight, IsRemoved, HavePlans, ReplayPoolInvariant}
 
 -- jobs keep their plans, with more jobs, with runs, and with one more of them
 pub plans-grow : (jobs more : List Accepted) (line : List (Id × PlanView)) → HavePlans jobs line → HavePlans (jobs ++ more) line

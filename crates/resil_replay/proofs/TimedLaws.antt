@@ -1,24 +1,10 @@
 -- The text of a history with times is read as that history.
-use Rattle.std.proofs.Common.{ℕ, ◌≡◌, ◌∙◌, ◌^◌, ◌++◌, ◌∷◌, zero, suc, List, [], Option, Some, None, get_or, map, length, refl, sym, ap, add-one, arith}
-use Rattle.std.specs.List.{All, flat_map}
-use Rattle.std.specs.Fmt.{decimal}
-use Rattle.csv.specs.Reading.{strip_bom}
-use Rattle.resil_rule.specs.declared.event.Event.{Event}
-use Rattle.resil_rule.specs.declared.event.Event.TheVariants.{Submit, Take, Finish, IdleEnd, Close, Resized}
-use Rattle.resil_replay.specs.Events.{parse_event}
-use Rattle.resil_replay.specs.History.{event_fields, history_header, record_fields}
-use Rattle.resil_replay.specs.Timed.{FitsTimed, IsHistoryBody, IsTimedBody, TimedHistoriesRoundTrip, events_in, parse_timed, timed_fields, timed_header, timed_text, times_in}
-use Rattle.resil_replay.specs.declared.history.Version.{Version}
-use Rattle.resil_replay.specs.declared.history.Version.TheVariants.{One, Two}
-use Rattle.resil_replay.specs.declared.timed.Timed.{Timed}
-use Rattle.resil_input.specs.CsvRows.{ParseAs, records_of, row_under}
-use Rattle.resil_input.specs.CsvTable.{ArePlain, record_text}
-use Rattle.resil_input.specs.Number.{parse_from_zero}
-use Rattle.resil_input.proofs.NumberLaws.{from_zero-round_trip}
-use Rattle.resil_input.proofs.PlainLaws.{IsPlain_number}
-use Rattle.resil_input.proofs.RecordLaws.{records_from-end}
-use Rattle.resil_input.proofs.RowLaws.{rows-unique}
+use Rattle.resil_replay.proofs.Words.{ℕ, ◌≡◌, ◌∙◌, ◌^◌, ◌++◌, ◌∷◌, zero, suc, List, [], Option, Some, None, get_or, map, length, refl, sym, ap, add-one, arith, All, flat_map, decimal, Event, Submit, Take, Finish, IdleEnd, Close, Resized, parse_event, event_fields, history_header, record_fields, FitsTimed, IsHistoryBody, IsTimedBody, TimedHistoriesRoundTrip, parse_timed, timed_fields, timed_header, timed_text, Version, One, Two, ParseAs, records_of, row_under, ArePlain, record_text, from_zero-round_trip, IsPlain_number, records_from-end, rows-unique}
 use Rattle.csv.specs.Machine.{next_record}
+use Rattle.csv.specs.Reading.{strip_bom}
+use Rattle.resil_rule.specs.Timed.{events_in, times_in}
+use Rattle.resil_rule.specs.declared.timed.Timed.{Timed}
+use Rattle.resil_input.specs.Number.{parse_from_zero}
 use Rattle.csv.specs.declared.parser.State.TheVariants as st
 use Rattle.resil_replay.proofs.EventLaws.{event-read}
 use Rattle.resil_replay.proofs.HistoryLaws.{IsPlain_reply_name, read_records, record-first}

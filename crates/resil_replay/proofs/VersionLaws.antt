@@ -1,30 +1,39 @@
--- Bodies of two versions, which are read by the header of one after the other.
-use Rattle.std.proofs.Common.{◌≡◌, ◌∙◌, ◌∷◌, refl, ℕ, List, Option, Result, Ok, Err, MatchResult, [], get_or, length, sym, ap}
-use Rattle.resil_replay.specs.declared.history.Version.{Version}
-use Rattle.resil_replay.specs.declared.history.Version.TheVariants.{One, Two}
-use Rattle.resil_input.specs.CsvRows.{IsBody, IsBodyError, records_of}
+-- Bodies of several versions, whose header says which.
+use Rattle.resil_replay.proofs.Words.{◌≡◌, ◌∙◌, ◌∷◌, refl, ℕ, List, Option, Some, Result, Ok, Err, MatchResult, [], get_or, length, slice_get, sym, ap, inr, arith, Version, One, Two, IsAuditBodyError, history_header, IsHistoryBodyError, parse_timed, timed_header, IsBody, IsBodyError, records_of, IsOpened, header_of, rows-unique, rows-exclude_errors, errors-unique}
+use Rattle.resil_replay.specs.declared.layout.Layout.{Layout}
+use Rattle.resil_replay.specs.declared.layout.Layout.TheVariants.{Untimed, Timed}
+use Rattle.resil_replay.specs.Layout.{layout_header}
+use Rattle.resil_input.specs.declared.csv_rows.OpenBody.{OpenBody}
 use Rattle.resil_input.specs.declared.csv_rows.BodyError.{BodyError}
 use Rattle.resil_input.specs.declared.csv_rows.BodyError.TheVariants as error
-use Rattle.resil_input.proofs.RowLaws.{rows-unique, rows-exclude_errors, errors-unique}
 use Rattle.resil_replay.specs.Versions.{IsVersionsError, VersionsUnique, VersionsExcludeErrors, VersionErrorsUnique}
 
-module _ {Row : Type 0} (header : Version → List (List ℕ)) (row_of : List (List ℕ) → Option Row) (body : List ℕ) where
-  -- where the first record isn't the header of version 1, the error is that of version 2
-  pub second-error : (why : BodyError) → IsBodyError (header One) row_of body error.BadHeader → IsBodyError (header Two) row_of body why → IsVersionsError header row_of body why
-  second-error error.Memory one two = tt
-  second-error error.BadHeader one two = λ version. both version
-    where
-      both : (version : Version) → IsBodyError (header version) row_of body error.BadHeader
-      both One = one
-      both Two = two
-  second-error (error.BadRow position) one two = (Two, two)
+-- where the first record isn't the header of version 1, the error is that of version 2
+pub second-error : {Row : Type 0} (header : Version → List (List ℕ)) (row_of : List (List ℕ) → Option Row) (body : List ℕ) (why : BodyError)
+    → IsBodyError (header One) row_of body error.BadHeader → IsBodyError (header Two) row_of body why → IsVersionsError header row_of body why
+second-error header row_of body error.Memory one two = tt
+second-error header row_of body error.BadHeader one two = λ version. both version
+  where
+    both : (version : Version) → IsBodyError (header version) row_of body error.BadHeader
+    both One = one
+    both Two = two
+second-error header row_of body (error.BadRow position) one two = (Two, two)
 
-  -- what is read by the header of version 2, where the first record isn't that of version 1
-  pub second-read : {T : Type 0} (rows_of : T → List Row) (r : Result T BodyError) → IsBodyError (header One) row_of body error.BadHeader
-      → MatchResult r (λ read. IsBody (header Two) row_of body (rows_of read)) (IsBodyError (header Two) row_of body)
+-- a body that was opened, and has the header of a version
+module _ {Row : Type 0} (header : Version → List (List ℕ)) (row_of : List (List ℕ) → Option Row) (body : List ℕ) (opened : OpenBody) (is : IsOpened body opened) (version : Version) (same : header_of opened ≡ header version) where
+  pub version-error : (why : BodyError) → IsBodyError (header_of opened) row_of body why → IsVersionsError header row_of body why
+  version-error error.Memory h = tt
+  version-error error.BadHeader h = absurd (h (rw is.first refl))
+  version-error (error.BadRow position) h = (version, rw same at h)
+
+  pub version-read : {T : Type 0} (rows_of : T → List Row) (r : Result T BodyError) → MatchResult r (λ read. IsBody (header_of opened) row_of body (rows_of read)) (IsBodyError (header_of opened) row_of body)
       → MatchResult r (λ read. (version : Version) × IsBody (header version) row_of body (rows_of read)) (IsVersionsError header row_of body)
-  second-read rows_of (Ok read) one two = (Two, two)
-  second-read rows_of (Err why) one two = second-error why one two
+  version-read rows_of (Ok read) h = (version, rw same at h)
+  version-read rows_of (Err why) h = version-error why h
+
+-- a body that was opened, and has the header of no version
+pub other-header : (body : List ℕ) (opened : OpenBody) → IsOpened body opened → (header : List (List ℕ)) → (header_of opened ≡ header → ⊥) → slice_get (records_of body) 0 ≡ Some header → ⊥
+other-header body opened is header other same = other (cc (rw is.first at same))
 
 -- Two versions with headers of other lengths: no body is of both.
 module _ {Row : Type 0} (header : Version → List (List ℕ)) (row_of : List (List ℕ) → Option Row) (apart : length (header One) ≡ length (header Two) → ⊥) where
@@ -56,3 +65,25 @@ module _ {Row : Type 0} (header : Version → List (List ℕ)) (row_of : List (L
   version-errors_unique body (error.BadRow position) error.BadHeader (version, a) b m n = errors-unique (header version) row_of body (error.BadRow position) error.BadHeader a (b version) m n
   version-errors_unique body (error.BadRow position) (error.BadRow later) (version, a) (another, b) m n =
       errors-unique (header version) row_of body (error.BadRow position) (error.BadRow later) a (rw (same body another version _ _ b.4 a.4) at b) m n
+
+-- ---- Histories.
+
+-- the header with times is that of no other version
+timed-apart : (version : Version) → history_header version ≡ timed_header → ⊥
+timed-apart One same = omega (arith, ap length same)
+timed-apart Two same = omega (arith, ap length same)
+
+module _ (body : List ℕ) (opened : OpenBody) (is : IsOpened body opened) where
+  pub audit-headless : ((version : Version) → header_of opened ≡ history_header version → ⊥) → IsAuditBodyError body error.BadHeader
+  audit-headless other version = other-header body opened is (history_header version) (other version)
+
+  pub audit-timed : header_of opened ≡ timed_header → IsAuditBodyError body error.BadHeader
+  audit-timed same = audit-headless (λ version other. timed-apart version (sym other ∙ same))
+
+  pub history-headless : ((layout : Layout) → header_of opened ≡ layout_header layout → ⊥) → IsHistoryBodyError body error.BadHeader
+  history-headless other = (audit-headless (λ version. other (Untimed version)), other-header body opened is timed_header (other Timed))
+
+  pub history-timed : header_of opened ≡ timed_header → (why : BodyError) → IsBodyError timed_header parse_timed body why → IsHistoryBodyError body why
+  history-timed same error.Memory h = tt
+  history-timed same error.BadHeader h = absurd (h (rw (is.first, same) refl))
+  history-timed same (error.BadRow position) h = inr h

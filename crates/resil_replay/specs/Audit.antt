@@ -1,6 +1,5 @@
 -- Which text `audit` writes for an input, and which refusal an input has.
-use Rattle.std.specs.Prelude.{ℕ, ◌≡◌, ◌++◌, List, codes}
-use Rattle.std.specs.Fmt.{decimal}
+use Rattle.std.specs.Prelude.{ℕ, ◌≡◌, ◌++◌, List, codes, decimal}
 use Rattle.resil_rule.specs.Limits.{Sizes}
 use Rattle.resil_rule.specs.Verdict.{IsVerdict}
 use Rattle.resil_rule.specs.declared.event.Event.{Event}

@@ -8,7 +8,8 @@ use Rattle.resil_replay.specs.Id.{parse_id}
 use Rattle.resil_replay.specs.Sizes.{parse_sizes}
 use Rattle.resil_replay.specs.Versions.{IsVersionsError}
 use Rattle.resil_replay.specs.declared.history.Version.{Version}
-use Rattle.resil_replay.specs.History.{history_header, reply_name, history_text, FitsEvent}
+use Rattle.resil_replay.specs.History.{history_header, history_text, FitsEvent}
+use Rattle.resil_input.specs.Answer.{reply_name}
 use Rattle.resil_input.specs.CsvRows.{IsBody}
 use Rattle.resil_input.specs.TextEquality.{is_same}
 use Rattle.resil_input.specs.declared.csv_rows.BodyError.{BodyError}

@@ -1,13 +1,12 @@
 -- The text of a history, in its two versions.
-use Rattle.std.specs.Prelude.{ℕ, ◌≡◌, ◌<◌, ◌≤◌, ◌^◌, ◌∷◌, [], List, All, codes, map, take}
-use Rattle.std.specs.Fmt.{decimal}
+use Rattle.std.specs.Prelude.{ℕ, ◌≡◌, ◌<◌, ◌≤◌, ◌^◌, ◌∷◌, [], List, All, codes, map, take, decimal}
 use Rattle.resil_rule.specs.declared.event.Id.{Id}
-use Rattle.resil_rule.specs.declared.event.Reply.{Reply}
 use Rattle.resil_rule.specs.declared.event.Reply.TheVariants.{Core, Queued, Extra, Full, Closed}
 use Rattle.resil_rule.specs.declared.event.Event.{Event}
 use Rattle.resil_rule.specs.declared.event.Event.TheVariants.{Submit, Take, Finish, IdleEnd, Close, Resized}
 use Rattle.resil_replay.specs.declared.history.Version.{Version}
 use Rattle.resil_replay.specs.declared.history.Version.TheVariants.{One, Two}
+use Rattle.resil_input.specs.Answer.{reply_name}
 use Rattle.resil_input.specs.CsvTable.{table_text}
 
 -- the columns of a version, of the six that there are: version 1 has the first four
@@ -18,14 +17,6 @@ columns_of Two = 6
 -- the fields of the header of a version
 abbrev pub history_header : Version → List (List ℕ)
 history_header version = take (columns_of version) (codes "event" ∷ codes "caller" ∷ codes "number" ∷ codes "reply" ∷ codes "core" ∷ codes "max" ∷ [])
-
--- the name of a reply
-abbrev pub reply_name : Reply → List ℕ
-reply_name Core = codes "core"
-reply_name Queued = codes "queued"
-reply_name Extra = codes "extra"
-reply_name Full = codes "full"
-reply_name Closed = codes "closed"
 
 -- the six fields of an event that names a job
 abbrev pub job_fields : List ℕ → Id → List ℕ → List (List ℕ)

@@ -3,6 +3,7 @@ pub mod Events
 pub mod Head
 pub mod History
 pub mod Id
+pub mod Layout
 pub mod Play
 pub mod Pool
 pub mod Replay

@@ -1,6 +1,5 @@
 -- The sizes of a resize that two fields are read as.
-use Rattle.std.specs.Prelude.{ℕ, ◌≡◌, ◌<◌, ◌^◌, List, Option, Some, option_map, option_and_then}
-use Rattle.std.specs.Fmt.{decimal}
+use Rattle.std.specs.Prelude.{ℕ, ◌≡◌, ◌<◌, ◌^◌, List, Option, Some, option_map, option_and_then, decimal}
 use Rattle.resil_input.specs.Number.{parse_from_zero}
 
 -- a size, from 0 to 4,294,967,295, that a field is read as

@@ -1,11 +1,11 @@
 -- Version 3 of the text of a history: a record for each event with its time behind it, and what a body of any version is read as.
-use Rattle.std.specs.Prelude.{ℕ, ◌≡◌, ◌≤◌, ◌<◌, ◌+◌, ◌-◌, ◌^◌, ◌++◌, ◌∷◌, ◌⊎◌, [], List, All, Option, Some, None, codes, get_or, length, map, option_and_then, option_map, slice_index, take, ⊤}
-use Rattle.std.specs.Fmt.{decimal}
+use Rattle.std.specs.Prelude.{ℕ, ◌≡◌, ◌<◌, ◌^◌, ◌++◌, ◌∷◌, ◌⊎◌, [], List, All, Option, Some, None, codes, get_or, map, option_and_then, option_map, ⊤, decimal}
+use Rattle.resil_rule.specs.Timed.{events_in, times_in}
 use Rattle.resil_rule.specs.declared.event.Event.{Event}
+use Rattle.resil_rule.specs.declared.timed.Timed.{Timed}
 use Rattle.resil_replay.specs.Events.{IsAuditBody, IsAuditBodyError, parse_event}
 use Rattle.resil_replay.specs.History.{FitsEvent, event_fields}
 use Rattle.resil_replay.specs.declared.history.Version.TheVariants.{Two}
-use Rattle.resil_replay.specs.declared.timed.Timed.{Timed}
 use Rattle.resil_input.specs.CsvRows.{IsBody, IsBodyError}
 use Rattle.resil_input.specs.CsvTable.{table_text}
 use Rattle.resil_input.specs.Number.{parse_from_zero}
@@ -22,16 +22,14 @@ timed_header = codes "event" ∷ codes "caller" ∷ codes "number" ∷ codes "re
 abbrev pub parse_timed : List (List ℕ) → Option Timed
 parse_timed fields = option_and_then (λ event. option_map (λ at. record { event = event; at = at }) (parse_from_zero (2 ^ 64) (get_or fields 6 []))) (parse_event fields)
 
--- the events of a history, and their times
-abbrev pub events_in : List Timed → List Event
-events_in history = map (λ timed. timed.event) history
-
-abbrev pub times_in : List Timed → List ℕ
-times_in history = map (λ timed. timed.at) history
-
 -- a body of these events in version 3
 abbrev pub IsTimedBody : List ℕ → List Timed → Type 0
 IsTimedBody body history = IsBody timed_header parse_timed body history
+
+-- what contracts see of a history: its events, and their times where it has them
+pub record HistoryView : Type 0 where
+  pub events : List Event
+  pub times : Option (List ℕ)
 
 -- a body of these events, and of their times where its version has them
 abbrev pub IsHistoryBody : List ℕ → List Event → Option (List ℕ) → Type 0
@@ -44,19 +42,6 @@ abbrev pub IsHistoryBodyError : List ℕ → BodyError → Type 0
 IsHistoryBodyError body error.Memory = ⊤
 IsHistoryBodyError body error.BadHeader = IsAuditBodyError body error.BadHeader × IsBodyError timed_header parse_timed body error.BadHeader
 IsHistoryBodyError body (error.BadRow position) = IsAuditBodyError body (error.BadRow position) ⊎ IsBodyError timed_header parse_timed body (error.BadRow position)
-
--- ---- The order of times.
-
--- no time is lower than the one before it
-abbrev pub AreAscending : List ℕ → Type 0
-AreAscending times = (k : ℕ) → k + 1 < length times → slice_index times k ≤ slice_index times (k + 1)
-
--- The first time that is lower than the one before it stands at this position, from 1.
-pub record GoesBackAt (times : List ℕ) (position : ℕ) : Type 0 where
-  pub second : 2 ≤ position
-  pub within : position ≤ length times
-  pub lower : slice_index times (position - 1) < slice_index times (position - 2)
-  pub first : AreAscending (take (position - 1) times)
 
 -- ---- What is written.
 

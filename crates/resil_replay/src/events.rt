@@ -5,42 +5,22 @@
 //! by itself: a history that is read here may be illegal, which is for the audit to say. The text of a
 //! history is read as that history.
 
-ghost use Rattle.std.specs.Prelude.{◌≡◌, map, MatchResult};
+ghost use Rattle.std.specs.Prelude.{◌≡◌, ℕ, List, MatchResult};
 ghost use Rattle.csv.specs.Records.{fields_of};
-ghost use Rattle.resil_input.specs.CsvRows.{IsBody, IsBodyError};
+ghost use Rattle.resil_input.specs.ReaderState.{IsOpened, header_of};
 ghost use Rattle.resil_replay.specs.Events.{parse_reply, parse_event, IsAuditBody, IsAuditBodyError, HistoriesRoundTrip};
 ghost use Rattle.resil_replay.specs.Versions.{VersionsUnique, VersionsExcludeErrors, VersionErrorsUnique};
 ghost use Rattle.resil_replay.specs.History.{history_header};
+ghost use Rattle.resil_replay.specs.declared.history.Version.{Version};
 
-use crate::id::{CALLER, NUMBER, parse_id};
-use crate::sizes::{SIZE, parse_sizes};
+use crate::id::parse_id;
+use crate::layout::Layout;
+use crate::sizes::parse_sizes;
 use csv::ByteRecord;
-use resil_heads::forms::{Body, Form};
-use resil_input::csv_rows::{self, BodyError};
+use resil_input::csv_rows::{BodyError, OpenBody, open_body};
 use resil_input::fields::{field_at, is_text};
 use resil_rule::{Event, Reply};
 use std::alloc::Global;
-
-// The fields of the header of version 1.
-const SHORT_HEADER: &[&str] = &["event", "caller", "number", "reply"];
-
-// The fields of the header of version 2.
-const LONG_HEADER: &[&str] = &["event", "caller", "number", "reply", "core", "max"];
-
-/// What the bodies may have.
-pub const BODY: Body = Body {
-    header: LONG_HEADER,
-    forms: &[Form::Word, CALLER, NUMBER, Form::Reply, SIZE, SIZE],
-    rows: &[
-        ("submit", &[0, 1, 2, 3]),
-        ("take", &[0, 1, 2]),
-        ("finish", &[0, 1, 2]),
-        ("idle", &[0]),
-        ("close", &[0]),
-        ("resize", &[0, 4, 5]),
-    ],
-    has_resizes: true,
-};
 
 // Reads the name of a reply.
 fn parse_reply(name: &[u8]) -> Option<Reply>
@@ -97,12 +77,17 @@ pub(crate) fn parse_event(fields: &ByteRecord) -> Option<Event>
     }
 }
 
-// Reads the events of a body under a header. Errors: as for `read_rows`.
-fn read_under(alloc: Global, header: &[&str], body: &[u8]) -> Result<Vec<Event>, BodyError>
-    ensures { let names = map (λ name. name.now) header.now in
-        MatchResult result (λ events. IsBody names parse_event body.now events.items) (IsBodyError names parse_event body.now) }
+/// Reads the events of an open body of a version without times, in order.
+///
+/// # Errors
+///
+/// The first that is met: `Memory` when out of memory; `BadRow` with the position of the first record that is no event.
+pub(crate) fn read_opened(alloc: Global, opened: OpenBody<'_>) -> Result<Vec<Event>, BodyError>
+    requires opened { (body : List ℕ) × IsOpened body opened }
+    requires version { (version : Version) × (header_of opened ≡ history_header version) }
+    ensures { (body : List ℕ) → IsOpened body opened.entry → MatchResult result (λ history. IsAuditBody body history.items) (IsAuditBodyError body) }
 {
-    csv_rows::read_rows(alloc, header, |fields| Ok(parse_event(fields)), body)
+    opened.rows(alloc, |fields| Ok(parse_event(fields)))
 }
 
 /// Reads the history in a body of `audit`, in the version that its header tells.
@@ -115,10 +100,11 @@ fn read_under(alloc: Global, header: &[&str], body: &[u8]) -> Result<Vec<Event>,
 pub fn read_rows(alloc: Global, body: &[u8]) -> Result<Vec<Event>, BodyError>
     ensures { MatchResult result (λ history. IsAuditBody body.now history.items) (IsAuditBodyError body.now) }
 {
-    match read_under(alloc, SHORT_HEADER, body) {
-        Ok(history) => Ok(history),
-        Err(BodyError::BadHeader) => read_under(alloc, LONG_HEADER, body),
-        Err(why) => Err(why),
+    let opened = open_body(alloc, body)?;
+    match Layout::of(&opened) {
+        Some(Layout::Untimed(_)) => read_opened(alloc, opened),
+        Some(Layout::Timed) => Err(BodyError::BadHeader),
+        None => Err(BodyError::BadHeader),
     }
 }
 

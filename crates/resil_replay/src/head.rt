@@ -11,10 +11,10 @@ ghost use Rattle.resil_replay.specs.Head.{requested_sizes_of, pool_head_of};
 ghost use Rattle.resil_heads.specs.Checks.{Gives};
 
 use resil_admission::Limits;
-use resil_heads::HeadError;
 use resil_heads::document::{check_keys, read_document};
 use resil_heads::forms::Key;
 use resil_heads::sizes::{CORE, MAX, QUEUE, parse_limits};
+use resil_heads::{HeadError, HeadFault};
 use std::alloc::Global;
 
 /// The keys of a pool's head.
@@ -28,7 +28,7 @@ pub const POOL_KEYS: &[Key] = &[CORE, MAX, QUEUE];
 /// The first in this order: `BadToml`; `UnknownKey`; `MissingKey`; `BadValue`; `Limits` where the
 /// pool refuses the sizes. `Memory` may come at any stage.
 #[tactic(auto, unfolding(resil_heads::specs::Sizes::parse_limits))]
-pub fn read_head(alloc: Global, bytes: &[u8]) -> Result<Limits, HeadError>
+pub fn read_head(alloc: Global, bytes: &[u8]) -> Result<Limits, HeadFault>
     ensures answer { Gives result (pool_head_of bytes.now) }
     ensures in_range { IfOk result AreLimits }
 

@@ -4,12 +4,13 @@
 //! version 1 is its first four columns. No two events that a version tells have the same record, so no
 //! two histories of such events have the same text, and a text that was written can be read back.
 
-ghost use Rattle.std.specs.Prelude.{◌≡◌, ◌++◌, ◌<◌, codes, length, map, take, IfOk, OnOk};
+ghost use Rattle.std.specs.Prelude.{◌≡◌, ◌≤◌, ◌++◌, ◌∷◌, [], codes, length, map, take, IfOk, OnOk, decimal};
 ghost use Rattle.resil_input.specs.CsvTable.{ArePlain, HasColumns, record_text, text_so_far};
-ghost use Rattle.resil_replay.specs.History.{HistoryTextInjective, columns_of, example_history, history_text, record_fields, reply_name, resized_history};
+ghost use Rattle.resil_replay.specs.History.{HistoryTextInjective, columns_of, event_fields, example_history, history_text, record_fields, resized_history};
 
 use itoa::Buffer;
-use resil_admission::{Event, Id, Reply};
+use resil_admission::Event;
+use resil_input::answer::reply_name;
 use resil_input::csv_table::CsvTable;
 use std::alloc::{AllocError, Global};
 
@@ -34,68 +35,86 @@ impl Version {
     }
 }
 
-/// The name of a reply in a text.
-pub(crate) fn reply_name(reply: Reply) -> &'static [u8]
-    ensures { result.now ≡ reply_name reply }
-{
-    match reply {
-        Reply::Core => b"core",
-        Reply::Queued => b"queued",
-        Reply::Extra => b"extra",
-        Reply::Full => b"full",
-        Reply::Closed => b"closed",
-    }
-}
+/// The names of all columns: those of the sizes are the fifth and the sixth, that of the times is the last.
+pub(crate) const COLUMNS: [&[u8]; 7] = [
+    b"event", b"caller", b"number", b"reply", b"core", b"max", b"at",
+];
 
-// Writes the record of an event, by its six fields. Errors: `AllocError` when out of memory.
-fn push_fields(table: &mut CsvTable, version: Version, fields: &[&[u8]]) -> Result<(), AllocError>
-    requires columns { HasColumns table.old (columns_of version) }
-    requires six { length fields.now ≡ 6 }
+// Writes a record of the first fields, as many as there are columns. Errors: `AllocError` when out of memory.
+fn push_fields(table: &mut CsvTable, columns: usize, fields: &[&[u8]]) -> Result<(), AllocError>
+    requires columns { HasColumns table.old columns }
+    requires few { columns ≤ length fields.now }
     requires plain { ArePlain (map (λ f. f.now) fields.now) }
-    ensures columns { OnOk result (HasColumns table.new (columns_of version)) }
-    ensures text { OnOk result (text_so_far table.new ≡ text_so_far table.old ++ record_text (take (columns_of version) (map (λ f. f.now) fields.now))) }
+    ensures columns { OnOk result (HasColumns table.new columns) }
+    ensures text { OnOk result (text_so_far table.new ≡ text_so_far table.old ++ record_text (take columns (map (λ f. f.now) fields.now))) }
 {
-    table.push(&fields[..version.columns()])
+    table.push(&fields[..columns])
 }
 
-// Writes the record of an event. Errors: `AllocError` when out of memory.
+/// Writes the record of an event and its time, in the first of the seven columns. Errors: `AllocError` when out of memory.
 #[tactic(auto, using(resil_input::proofs::PlainLaws::IsPlain_number, crate::proofs::HistoryLaws::IsPlain_reply_name))]
-fn push_event(table: &mut CsvTable, version: Version, event: Event) -> Result<(), AllocError>
-    requires { HasColumns table.old (columns_of version) }
-    ensures columns { OnOk result (HasColumns table.new (columns_of version)) }
-    ensures text { OnOk result (text_so_far table.new ≡ text_so_far table.old ++ record_text (record_fields version event)) }
+pub(crate) fn push_row(
+    table: &mut CsvTable,
+    columns: usize,
+    event: Event,
+    at: u64,
+) -> Result<(), AllocError>
+    requires columns { HasColumns table.old columns }
+    requires few { columns ≤ 7 }
+    ensures columns { OnOk result (HasColumns table.new columns) }
+    ensures text { OnOk result (text_so_far table.new ≡ text_so_far table.old ++ record_text (take columns (event_fields event ++ decimal at ∷ []))) }
 {
     let mut one = Buffer::new();
     let mut other = Buffer::new();
+    let mut time = Buffer::new();
+    let at = time.format(at).as_bytes();
     match event {
         Event::Submit { id, reply } => {
             let caller = one.format(id.caller).as_bytes();
             let number = other.format(id.number).as_bytes();
-            let reply = reply_name(reply);
+            let reply = reply_name(reply).as_bytes();
             push_fields(
                 table,
-                version,
-                &[b"submit", caller, number, reply, b"", b""],
+                columns,
+                &[b"submit", caller, number, reply, b"", b"", at],
             )
         }
         Event::Take(id) => {
             let caller = one.format(id.caller).as_bytes();
             let number = other.format(id.number).as_bytes();
-            push_fields(table, version, &[b"take", caller, number, b"", b"", b""])
+            push_fields(
+                table,
+                columns,
+                &[b"take", caller, number, b"", b"", b"", at],
+            )
         }
         Event::Finish(id) => {
             let caller = one.format(id.caller).as_bytes();
             let number = other.format(id.number).as_bytes();
-            push_fields(table, version, &[b"finish", caller, number, b"", b"", b""])
+            push_fields(
+                table,
+                columns,
+                &[b"finish", caller, number, b"", b"", b"", at],
+            )
         }
-        Event::IdleEnd => push_fields(table, version, &[b"idle", b"", b"", b"", b"", b""]),
-        Event::Close => push_fields(table, version, &[b"close", b"", b"", b"", b"", b""]),
+        Event::IdleEnd => push_fields(table, columns, &[b"idle", b"", b"", b"", b"", b"", at]),
+        Event::Close => push_fields(table, columns, &[b"close", b"", b"", b"", b"", b"", at]),
         Event::Resized { core, max } => {
             let core = one.format(core).as_bytes();
             let max = other.format(max).as_bytes();
-            push_fields(table, version, &[b"resize", b"", b"", b"", core, max])
+            push_fields(table, columns, &[b"resize", b"", b"", b"", core, max, at])
         }
     }
+}
+
+// Writes the record of an event in a version without times. Errors: `AllocError` when out of memory.
+#[tactic(auto, using(crate::proofs::HistoryLaws::first_fields))]
+fn push_event(table: &mut CsvTable, version: Version, event: Event) -> Result<(), AllocError>
+    requires { HasColumns table.old (columns_of version) }
+    ensures columns { OnOk result (HasColumns table.new (columns_of version)) }
+    ensures text { OnOk result (text_so_far table.new ≡ text_so_far table.old ++ record_text (record_fields version event)) }
+{
+    push_row(table, version.columns(), event, 0)
 }
 
 /// The text of a history in a version: the header `event,caller,number,reply`, to which version 2
@@ -112,8 +131,7 @@ pub fn history_text(
 ) -> Result<Vec<u8>, AllocError>
     ensures { IfOk result (λ text. text.items ≡ history_text version history.now) }
 {
-    let header: [&[u8]; 6] = [b"event", b"caller", b"number", b"reply", b"core", b"max"];
-    let mut table = CsvTable::new(Vec::new(alloc), &header[..version.columns()])?;
+    let mut table = CsvTable::new(Vec::new(alloc), &COLUMNS[..version.columns()])?;
     for event in history {
         push_event(&mut table, version, *event)?;
     }

@@ -10,11 +10,13 @@ pub mod events;
 pub mod head;
 pub mod history;
 mod id;
+mod layout;
 pub mod play;
 mod pool;
 pub mod replay;
 pub mod rows;
 pub mod sizes;
+pub mod subject;
 pub mod timed;
 mod worked_heads;
 

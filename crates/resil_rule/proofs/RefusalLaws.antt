@@ -1,23 +1,17 @@
 -- What the rule refuses, no history that its state stands for allows.
-use Rattle.std.proofs.Common.{inl, inr, ◌≡◌, ◌<◌, ◌-◌, ◌∷◌, [], ◌++◌, ◌∙◌, suc, true, false, List, Some, slice_get, length, drop, take, refl, sym, ap, subst, arith}
+use Rattle.std.proofs.Common.{inl, inr, ◌≡◌, ◌-◌, ◌∷◌, [], ◌++◌, ◌∙◌, true, List, Some, slice_get, length, drop, take, refl, sym, ap, arith}
 use Rattle.std.proofs.lemmas.Bool.{cases_Bool}
 use Rattle.std.proofs.lemmas.List.{take-append-drop}
 use Rattle.resil_rule.specs.Admission.{IsAllowed}
 use Rattle.resil_rule.specs.History.{is_among, times, started, taken, finished, unfinished, running}
 use Rattle.resil_rule.specs.Slots.{ids_out}
-use Rattle.resil_rule.specs.RuleView.{RuleView, ids_of, made_by, next_reply, is_acceptance, counted, with_submission, MayEndIdle}
-use Rattle.resil_rule.specs.RuleState.{IsStateOf, Follows, IsSubmitRefusal}
+use Rattle.resil_rule.specs.RuleView.{RuleView, ids_of, MayEndIdle}
+use Rattle.resil_rule.specs.RuleState.{IsStateOf}
 use Rattle.std.specs.Option.{option_map}
-use Rattle.std.specs.Result.{IfOk, IfErr}
 use Rattle.std.proofs.lemmas.Option.{slice_get-map}
-use Rattle.std.specs.declared.result.Result.{Result}
-use Rattle.std.specs.declared.result.Result.TheVariants.{Ok, Err}
-use Rattle.resil_rule.specs.declared.error.Refusal.{Refusal}
-use Rattle.resil_rule.specs.declared.error.Refusal.TheVariants.{NoSuchCaller, WrongNumber, Full, Closed}
 use Rattle.resil_rule.specs.declared.event.Id.{Id}
-use Rattle.resil_rule.specs.declared.event.Reply.{Reply}
 use Rattle.resil_rule.specs.declared.event.Event.{Event}
-use Rattle.resil_rule.specs.declared.event.Event.TheVariants.{Submit, Take, Finish, IdleEnd}
+use Rattle.resil_rule.specs.declared.event.Event.TheVariants.{Take, Finish, IdleEnd}
 use Rattle.resil_rule.proofs.TimesLaws.{times-append, times-left, among-times, is_positive}
 
 module _ {W : Type 0} (v : RuleView W) (h : List Event) (state : IsStateOf h v) where
@@ -58,36 +52,6 @@ module _ {W : Type 0} (v : RuleView W) (h : List Event) (state : IsStateOf h v) 
       let same : times id (ids_out v.out) ≡ times id (unfinished h (picked ++ taken h)) =
       grind (arith, state.runs id, split, later, all, left, cases_Bool (is_among id (finished h))) in
       among-times id (ids_out v.out) ∙ ap is_positive same ∙ sym (among-times id (unfinished h (picked ++ taken h)))
-
--- a submission that is next is answered by the rule: it is accepted, or refused as an event
-module _ {W : Type 0} (v after : RuleView W) (id : Id) (work : W) (known : id.caller < length v.made) (next : id.number ≡ suc (made_by v id.caller)) where
-  pub refused-by : (e : Refusal) → IsSubmitRefusal v id e after → (is_acceptance (next_reply v) ≡ false) × (after ≡ counted v id) × Follows v (Submit id (next_reply v)) after
-  refused-by NoSuchCaller is = absurd (omega (arith, known, is.0))
-  refused-by WrongNumber is = absurd (is.1 next)
-  refused-by Full is = (ap is_acceptance is.0, is.1, subst (λ (reply : Reply). Follows v (Submit id reply) after) (sym is.0) is.2)
-  refused-by Closed is = (ap is_acceptance is.0, is.1, subst (λ (reply : Reply). Follows v (Submit id reply) after) (sym is.0) is.2)
-
-  -- the submission is the event; where the rule accepts it, it has its worker or its place in the queue, and where it doesn't, it is counted alone
-  answered : (result : Result Reply (Refusal × W))
-      → IfOk result (λ reply. (reply ≡ next_reply v) × (is_acceptance reply ≡ true) × (after ≡ with_submission v id work reply))
-      → IfOk result (λ reply. Follows v (Submit id reply) after) → IfErr result (λ e. IsSubmitRefusal v id e.0 after)
-      → Follows v (Submit id (next_reply v)) after × (is_acceptance (next_reply v) ≡ true → after ≡ with_submission v id work (next_reply v))
-      × (is_acceptance (next_reply v) ≡ false → after ≡ counted v id)
-  answered (Ok reply) a f r = rw (← a.0) (f, (λ _. a.2), (λ bars. absurd (cc (bars, a.1))))
-  answered (Err e) a f r = let is = refused-by e.0 r in (is.2, (λ accepts. absurd (cc (accepts, is.0))), (λ _. is.1))
-
-  module _ (result : Result Reply (Refusal × W))
-      (accepted : IfOk result (λ reply. (reply ≡ next_reply v) × (is_acceptance reply ≡ true) × (after ≡ with_submission v id work reply)))
-      (follows : IfOk result (λ reply. Follows v (Submit id reply) after))
-      (refused : IfErr result (λ e. IsSubmitRefusal v id e.0 after)) where
-    pub submission-follows : Follows v (Submit id (next_reply v)) after
-    submission-follows = (answered result accepted follows refused).0
-
-    pub submission-accepted : is_acceptance (next_reply v) ≡ true → after ≡ with_submission v id work (next_reply v)
-    submission-accepted = (answered result accepted follows refused).1
-
-    pub submission-refused : is_acceptance (next_reply v) ≡ false → after ≡ counted v id
-    submission-refused = (answered result accepted follows refused).2
 
 -- what a refusal of an event rests on
 pub ruleset barred = (take-only, out-only, idle-only)

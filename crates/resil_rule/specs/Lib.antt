@@ -8,4 +8,5 @@ pub mod RuleInvariant
 pub mod RuleState
 pub mod RuleView
 pub mod Slots
+pub mod Timed
 pub mod Verdict

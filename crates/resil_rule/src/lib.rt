@@ -3,12 +3,13 @@
 //! `Event` and `Limits` are the words, `specs/History.antt` says what a history of events means, and
 //! `specs/Admission.antt` which event may come next. `Rule` keeps what is needed to decide that, and no
 //! history: its memory is that of its opening, whatever comes. `audit` judges a history by one pass of a
-//! rule over no work.
+//! rule over no work, and `answer_to` says why an event isn't carried out. `Timed` is an event with its time.
 //!
 //! The rule is that of the class documentation of `java.util.concurrent.ThreadPoolExecutor`; `Rule::next_reply`
 //! tells it.
 #![tactic(auto)]
 
+mod answer;
 mod error;
 mod event;
 mod laws;
@@ -16,8 +17,10 @@ mod limits;
 mod record;
 mod rule;
 mod slots;
+mod timed;
 mod verdict;
 
+pub use answer::{Answer, answer_to, answer_to_last, rule_at_last};
 pub use error::{AdmitError, Refusal};
 pub use event::{Event, Id, Reply};
 pub use laws::{jobs_conserved, running_within_workers, worked_histories, workers_within_opening};
@@ -25,4 +28,5 @@ pub use limits::Limits;
 pub use record::{AllEvents, LastEvents, NoRecord, Record};
 pub use rule::{Origin, Picked, Rule};
 pub use slots::Slot;
+pub use timed::{Timed, events_in, first_back, times_in};
 pub use verdict::{Verdict, audit, verdicts_are_one};

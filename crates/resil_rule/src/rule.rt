@@ -8,7 +8,7 @@
 //! `new` takes all room, and `reserve_caller` more of it for callers. No other call allocates, or looks
 //! through what came before. `pick` looks through the places of jobs, `Limits::MAX_WORKERS` at most.
 
-ghost use Rattle.std.specs.Prelude.{◌≡◌, ◌↔◌, ◌≤◌, ◌<◌, ◌-◌, ◌+◌, ℕ, None as nothing, Some, [], max, suc, true, false, length, option_map, slice_get, slice_index_or, IsTrue, IsOk, IfOk, IfErr, IfSome, IfNone, OnOk, OnErr};
+ghost use Rattle.std.specs.Prelude.{◌≡◌, ◌↔◌, ◌≤◌, ◌<◌, ◌-◌, ◌+◌, ℕ, None as nothing, Some, [], max, suc, true, false, if◌then◌else◌, length, option_map, slice_get, slice_index_or, IsTrue, IsOk, IfOk, IfErr, IfSome, IfNone, OnOk, OnErr};
 ghost use Rattle.std.specs.Bool.{OnTrue, OnFalse};
 ghost use Rattle.resil_rule.specs.History.{is_among};
 ghost use Rattle.resil_rule.specs.Slots.{ids_out};
@@ -196,19 +196,41 @@ impl<W: Drop> Rule<W> {
             return Err((Refusal::WrongNumber, work));
         }
         let reply = self.next_reply();
+        match self.submit_with_reply(id, work, reply) {
+            None => Ok(reply),
+            Some(work) if reply == Reply::Closed => Err((Refusal::Closed, work)),
+            Some(work) => Err((Refusal::Full, work)),
+        }
+    }
+
+    /// Submits work under its caller's next number with the reply that `next_reply` gave, for a caller that must know it
+    /// before anything changes: to take memory for what is accepted, or to compare it. Returns the work if it is refused.
+    ///
+    /// ```
+    /// let reply = rule.next_reply();
+    /// record.reserve(rule.owed() + 3)?;
+    /// let refused = rule.submit_with_reply(id, work, reply);
+    /// ```
+    pub fn submit_with_reply(&mut self, id: Id, work: W, reply: Reply) -> Option<W>
+        requires known { id.caller < length self.old.made }
+        requires next { id.number ≡ suc (made_by self.old id.caller) }
+        requires reply { reply ≡ next_reply self.old }
+        ensures submitted { self.new ≡ with_submission self.old id work reply }
+        ensures follows { Follows self.old (Event.Submit id reply) self.new }
+        ensures refused { result ≡ (if is_acceptance reply then nothing else Some work) }
+    {
         self.made[id.caller as usize] = id.number;
         match reply {
             Reply::Core | Reply::Extra => {
                 self.workers += 1;
                 self.unpicked.try_push_back((id, work)).unwrap();
-                Ok(reply)
+                None
             }
             Reply::Queued => {
                 self.waiting.try_push_back((id, work)).unwrap();
-                Ok(reply)
+                None
             }
-            Reply::Full => Err((Refusal::Full, work)),
-            Reply::Closed => Err((Refusal::Closed, work)),
+            Reply::Full | Reply::Closed => Some(work),
         }
     }
 

@@ -125,7 +125,7 @@ fn submit_and_pick(rule: &mut Rule<()>, id: Id, reply: Reply)
     ensures picked { rule.new.unpicked ≡ [] }
     ensures limits { rule.new.limits ≡ rule.old.limits }
 {
-    let _answer = rule.submit(id, ());
+    rule.submit_with_reply(id, (), reply);
     if rule.unpicked() > 0 {
         rule.pick();
     }

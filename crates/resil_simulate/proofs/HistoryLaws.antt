@@ -1,27 +1,10 @@
 -- The submissions of a history: the times of their starts and finishes, and the load that they are.
-use Rattle.std.proofs.Common.{◌≡◌, ◌≤◌, ◌<◌, ◌+◌, ◌^◌, ◌==◌, ◌∷◌, [], ◌++◌, ◌∙◌, ℕ, zero, suc, Bool, true, false, cond, List, Option, Some, None, length, slice_get, slice_index, take, option_map, refl, sym, ap, subst, arith}
-use Rattle.std.specs.BTreeMap.{BTreeMap, get}
+use Rattle.resil_simulate.proofs.Words.{◌≡◌, ◌≤◌, ◌<◌, ◌+◌, ◌^◌, ◌==◌, ◌∷◌, [], ◌++◌, ◌∙◌, ℕ, zero, suc, Bool, true, false, cond, List, Option, Some, None, length, slice_get, slice_index, take, option_map, refl, sym, ap, subst, arith, nat_cmp, BTreeMap, get, option_map_or, option_or, common_steps, AreAscending, events_in, times_in, Timed, Sizes, AreAllowedAfter, IsAllowed, IsLegal, is_same_id, is_submit_of, next_number, submissions, Id, Reply, Event, no_event, of_caller, times_of, IsLoad, Arrival, AreTimesOf, arrival_by, arrivals_by, is_of, job_at, key, run_of, submissions_in, submitted_at, submitted_id, time_of, AreInTime}
 use Rattle.std.specs.List.{enumerate_from, filter_map, find}
-use Rattle.std.specs.Option.{option_map_or, option_or}
-use Rattle.std.specs.Ordering.{nat_cmp}
-use Rattle.std.proofs.lemmas.Grind.{common_steps}
 use Rattle.std.proofs.lemmas.List.Folds.{find-append}
-use Rattle.resil_replay.specs.Timed.{AreAscending, events_in, times_in}
-use Rattle.resil_replay.specs.declared.timed.Timed.{Timed}
-use Rattle.resil_rule.specs.Limits.{Sizes}
-use Rattle.resil_rule.specs.Admission.{AreAllowedAfter, IsAllowed, IsLegal}
-use Rattle.resil_rule.specs.History.{is_same_id, is_submit_of, next_number, submissions}
-use Rattle.resil_rule.specs.declared.event.Id.{Id}
-use Rattle.resil_rule.specs.declared.event.Reply.{Reply}
-use Rattle.resil_rule.specs.declared.event.Event.{Event}
 use Rattle.resil_rule.specs.declared.event.Event.TheVariants as event
 use Rattle.resil_rule.proofs.EventLaws.{submissions-more}
-use Rattle.resil_stats.proofs.LegalLaws.{no_event}
-use Rattle.resil_virtual.specs.Load.{of_caller, times_of, IsLoad}
-use Rattle.resil_virtual.specs.declared.arrival.Arrival.{Arrival}
 use Rattle.resil_virtual.proofs.HistoryLaws.{ascending-more}
-use Rattle.resil_simulate.specs.History.{AreTimesOf, arrival_by, arrivals_by, is_of, job_at, key, run_of, submissions_in, submitted_at, submitted_id, time_of}
-use Rattle.resil_simulate.specs.Load.{AreInTime}
 use Rattle.resil_simulate.specs.declared.history.Moment.{Moment}
 use Rattle.resil_simulate.proofs.LoadLaws.{load}
 

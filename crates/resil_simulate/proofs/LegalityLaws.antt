@@ -1,18 +1,9 @@
 -- A history that is legal in a pool is legal in one of the least sizes that it asks for.
-use Rattle.std.proofs.Common.{◌≡◌, ◌≤◌, ◌<◌, ◌∷◌, [], ◌++◌, ◌∙◌, inl, inr, ℕ, Bool, true, false, List, if◌then◌else◌, filter_map, length, max, nat_lt, refl, sym, arith, append_assoc, append-nil}
-use Rattle.std.proofs.lemmas.Bool.{cases_Bool}
-use Rattle.std.proofs.lemmas.Grind.{common_steps}
-use Rattle.resil_rule.specs.Limits.{AreLimits, IsSizeRefusal, Sizes}
+use Rattle.resil_simulate.proofs.Words.{◌≡◌, ◌≤◌, ◌<◌, ◌∷◌, [], ◌++◌, ◌∙◌, inl, inr, ℕ, Bool, true, false, List, if◌then◌else◌, filter_map, length, max, nat_lt, refl, sym, arith, append_assoc, append-nil, cases_Bool, common_steps, AreLimits, IsSizeRefusal, Sizes, AreAllowedAfter, IsAllowed, reply_after, core_size, is_closed, last_size, max_size, new_core, new_max, waiting, workers, Reply, Event, Submit, Take, Finish, IdleEnd, Close, Resized, AreEnough, IsAsked, IsLegalSomewhere, asked_at, one_more}
 use Rattle.resil_rule.specs.declared.error.AdmitError.{AdmitError}
 use Rattle.resil_rule.specs.declared.error.AdmitError.TheVariants.{CoreOutOfRange, MaxOutOfRange, QueueOutOfRange}
-use Rattle.resil_rule.specs.Admission.{AreAllowedAfter, IsAllowed, reply_after}
-use Rattle.resil_rule.specs.History.{core_size, is_closed, last_size, max_size, new_core, new_max, waiting, workers}
-use Rattle.resil_rule.specs.declared.event.Reply.{Reply}
 use Rattle.resil_rule.specs.declared.event.Reply.TheVariants.{Core, Queued, Extra, Full, Closed}
-use Rattle.resil_rule.specs.declared.event.Event.{Event}
-use Rattle.resil_rule.specs.declared.event.Event.TheVariants.{Submit, Take, Finish, IdleEnd, Close, Resized}
 use Rattle.resil_simulate.specs.declared.legality.Asked.{Asked}
-use Rattle.resil_simulate.specs.Legality.{AreEnough, IsAsked, IsLegalSomewhere, asked_at, one_more}
 
 -- ---- Sizes after resizes.
 

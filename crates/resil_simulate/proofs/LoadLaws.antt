@@ -1,16 +1,6 @@
 -- The jobs of rows are a load, where times ascend and each job is in time.
-use Rattle.std.proofs.Common.{◌≡◌, ◌<◌, ◌+◌, ◌∷◌, [], ◌++◌, ◌∙◌, ℕ, zero, suc, List, Some, get_or, length, map, slice_get, slice_index, take, refl, ap, sym, add-one, arith}
+use Rattle.resil_simulate.proofs.Words.{◌≡◌, ◌<◌, ◌+◌, ◌∷◌, [], ◌++◌, ◌∙◌, ℕ, zero, suc, List, Some, get_or, length, map, slice_get, slice_index, take, refl, ap, sym, add-one, arith, common_steps, map_push, sum-map, sum_by_more, get_or_from_slice_get, slice_get_within, AreAscending, placed-push, IsLoad, of_caller, runs_of, times_of, Arrival, Row, AreInTime, arrival_at, arrivals_of, end_of}
 use Rattle.std.specs.List.{enumerate_from, sum}
-use Rattle.std.proofs.lemmas.Grind.{common_steps}
-use Rattle.std.proofs.lemmas.List.{map_push}
-use Rattle.std.proofs.lemmas.List.Sums.{sum-map, sum_by_more}
-use Rattle.std.proofs.lemmas.Option.{get_or_from_slice_get, slice_get_within}
-use Rattle.resil_replay.specs.Timed.{AreAscending}
-use Rattle.resil_stats.proofs.PlaceLaws.{placed-push}
-use Rattle.resil_virtual.specs.Load.{IsLoad, of_caller, runs_of, times_of}
-use Rattle.resil_virtual.specs.declared.arrival.Arrival.{Arrival}
-use Rattle.resil_simulate.specs.declared.rows.Row.{Row}
-use Rattle.resil_simulate.specs.Load.{AreInTime, arrival_at, arrivals_of, end_of}
 
 -- a job, for what is never read
 abbrev pub no_job : Arrival

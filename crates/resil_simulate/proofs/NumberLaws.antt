@@ -1,23 +1,9 @@
 -- Numbers over the time of a history, event by event, and how large they get.
-use Rattle.std.proofs.Common.{◌≡◌, ◌≤◌, ◌<◌, ◌+◌, ◌-◌, ◌*◌, ◌^◌, [], ℕ, zero, suc, Bool, false, cond, inl, inr, Fits, w64, List, get_or, length, slice_get, slice_index, take, refl, sym, add-one, arith}
-use Rattle.std.specs.Option.{option_map_or}
-use Rattle.std.proofs.lemmas.Bool.{cases_Bool}
-use Rattle.std.proofs.lemmas.Option.{slice_get-get_or}
-use Rattle.std.proofs.Math.Nat.{mul-le-mul_right}
-use Rattle.resil_replay.specs.Timed.{AreAscending}
-use Rattle.resil_rule.specs.Admission.{IsLegal}
-use Rattle.resil_rule.specs.History.{workers}
-use Rattle.resil_rule.specs.Limits.{Sizes}
-use Rattle.resil_rule.specs.declared.event.Id.{Id}
-use Rattle.resil_rule.specs.declared.event.Event.{Event}
-use Rattle.resil_rule.specs.declared.event.Event.TheVariants.{Finish}
+use Rattle.resil_simulate.proofs.Words.{◌≡◌, ◌≤◌, ◌<◌, ◌+◌, ◌-◌, ◌*◌, ◌^◌, [], ℕ, zero, suc, Bool, false, cond, inl, inr, Fits, w64, List, get_or, length, slice_get, slice_index, take, refl, sym, add-one, arith, mul-le-mul_right, option_map_or, cases_Bool, slice_get-get_or, AreAscending, IsLegal, workers, Sizes, Id, Event, Finish, AreCountsOf, IsLoadAfter, allowed-take, HasTimes, area, is_finish, running_count, to_finish}
 use Rattle.resil_rule.proofs.RunningLaws.{running-within_workers}
 use Rattle.resil_rule.proofs.WorkerLaws.{workers-within_opening}
-use Rattle.resil_stats.specs.Stats.{AreCountsOf, IsLoadAfter}
 use Rattle.resil_stats.specs.declared.stats.Counts.{Counts}
 use Rattle.resil_stats.specs.declared.stats.Load.{Load}
-use Rattle.resil_stats.proofs.LegalLaws.{allowed-take}
-use Rattle.resil_simulate.specs.Numbers.{HasTimes, area, is_finish, running_count, to_finish}
 
 -- ---- A number over time.
 

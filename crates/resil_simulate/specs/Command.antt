@@ -1,26 +1,23 @@
 -- What the text of `simulate` is for an input, and why it has none.
-use Rattle.std.specs.Prelude.{ℕ, ◌≡◌, ◌≢◌, ◌⊎◌, ◌∷◌, [], All, List, length, map, ⊤}
-use Rattle.resil_heads.specs.CommandError.{IsError, from_body_error}
-use Rattle.resil_heads.specs.Load.{LoadPlan, load_head_of}
+use Rattle.std.specs.Prelude.{ℕ, ◌≡◌, ◌≢◌, ◌⊎◌, ◌∷◌, [], All, List, length, map}
 use Rattle.resil_heads.specs.Parts.{IsPartRefusal, SplitsInto}
-use Rattle.resil_heads.specs.declared.command_error.CommandError.TheVariants as command_error
-use Rattle.resil_input.specs.CsvRows.{IsBodyError}
-use Rattle.resil_input.specs.declared.csv_rows.BodyError.{BodyError}
+use Rattle.resil_heads.specs.declared.refusal.Refusal.{Refusal}
+use Rattle.resil_heads.specs.declared.refusal.Refusal.TheVariants as refusal
 use Rattle.resil_input.specs.declared.csv_rows.BodyError.TheVariants as body_error
-use Rattle.resil_replay.specs.Timed.{IsTimedBody, events_in, parse_timed, timed_header, timed_text, times_in}
-use Rattle.resil_replay.specs.declared.timed.Timed.{Timed}
+use Rattle.resil_rule.specs.Timed.{events_in, times_in}
+use Rattle.resil_replay.specs.Timed.{IsTimedBody, timed_text}
+use Rattle.resil_rule.specs.declared.timed.Timed.{Timed}
 use Rattle.resil_rule.specs.Limits.{Sizes}
 use Rattle.resil_virtual.specs.Load.{IsLoad}
 use Rattle.resil_virtual.specs.Simulated.{IsSimulated}
 use Rattle.resil_virtual.specs.declared.arrival.Arrival.{Arrival}
-use Rattle.resil_simulate.specs.Load.{IsHistoryLoadError, IsLoadError, IsUsable, arrivals_of, jobs_in}
+use Rattle.resil_simulate.specs.Head.{LoadPlan, load_head_of}
+use Rattle.resil_simulate.specs.Load.{IsHistoryLoadRefusal, IsLoadRefusal, IsUsable, arrivals_of, jobs_in}
 use Rattle.resil_simulate.specs.Numbers.{AreNumbersOf}
-use Rattle.resil_simulate.specs.Rows.{IsLoadBody, IsLoadBodyError}
+use Rattle.resil_simulate.specs.Rows.{IsBodyRefused, IsLoadBody}
 use Rattle.resil_simulate.specs.Table.{pools_text}
-use Rattle.resil_simulate.specs.declared.command.SimulateError.{SimulateError}
-use Rattle.resil_simulate.specs.declared.command.SimulateError.TheVariants as error
-use Rattle.resil_simulate.specs.declared.load.LoadError.{LoadError}
-use Rattle.resil_simulate.specs.declared.load.LoadError.TheVariants as load_error
+use Rattle.resil_simulate.specs.declared.command.LoadView.{LoadView}
+use Rattle.resil_simulate.specs.declared.command.LoadView.TheVariants as load_view
 use Rattle.resil_simulate.specs.declared.numbers.Numbers.{Numbers}
 use Rattle.resil_simulate.specs.declared.rows.Row.{Row}
 
@@ -46,27 +43,22 @@ abbrev pub IsHistoryText : List ℕ → List ℕ → Type 0
 IsHistoryText input text = (plan : LoadPlan) × (sizes : Sizes) × (body : List ℕ) × (arrivals : List Arrival) × (history : List Timed)
     × SplitsInto load_head_of input plan body × (plan.pools ≡ sizes ∷ []) × AreArrivals body plan arrivals × IsSimulated sizes plan.idle_for arrivals history × (text ≡ timed_text history)
 
--- the error of a text for that of its jobs
-abbrev pub from_load_error : LoadError → SimulateError
-from_load_error load_error.Memory = error.Command command_error.Memory
-from_load_error (load_error.Row position why) = error.Row position why
-
--- why a body has neither rows nor a history: memory ran out; its first record is the header of neither; or a record under one is no row of it
-abbrev pub IsBodyRefused : List ℕ → BodyError → Type 0
-IsBodyRefused body body_error.Memory = ⊤
-IsBodyRefused body body_error.BadHeader = IsLoadBodyError body body_error.BadHeader × IsBodyError timed_header parse_timed body body_error.BadHeader
-IsBodyRefused body (body_error.BadRow position) = IsLoadBodyError body (body_error.BadRow position) ⊎ IsBodyError timed_header parse_timed body (body_error.BadRow position)
+-- which text is written of a load
+abbrev pub text_of : LoadView → List ℕ → List ℕ → Type 0
+text_of load_view.Numbers = IsTableText
+text_of load_view.History = IsHistoryText
 
 -- why a body has no jobs: it is refused; or its rows, or its history, can't be carried out
-abbrev pub IsArrivalsError : List ℕ → LoadPlan → SimulateError → Type 0
-IsArrivalsError body plan (error.Command command) = (why : BodyError) × IsBodyRefused body why × (command ≡ from_body_error why)
-IsArrivalsError body plan error.ManyPools = ⊥
-IsArrivalsError body plan (error.Row position why) =
-    ((rows : List Row) × IsLoadBody body rows × IsLoadError plan.idle_for (arrivals_of rows) (load_error.Row position why))
-    ⊎ ((history : List Timed) × IsTimedBody body history × IsHistoryLoadError plan.idle_for plan.takes history (load_error.Row position why))
+abbrev pub IsArrivalsRefusal : List ℕ → LoadPlan → Refusal → Type 0
+IsArrivalsRefusal body plan refusal.BadHeader = IsBodyRefused body body_error.BadHeader
+IsArrivalsRefusal body plan (refusal.BadRow position) = IsBodyRefused body (body_error.BadRow position)
+IsArrivalsRefusal body plan (refusal.Load position why) =
+    ((rows : List Row) × IsLoadBody body rows × IsLoadRefusal plan.idle_for (arrivals_of rows) (refusal.Load position why))
+    ⊎ ((history : List Timed) × IsTimedBody body history × IsHistoryLoadRefusal plan.idle_for plan.takes history (refusal.Load position why))
+IsArrivalsRefusal body plan why = ⊥
 
--- an error of a text: of the parts of the input, of a head with several pools, or of a row
-abbrev pub IsSimulateError : List ℕ → SimulateError → Type 0
-IsSimulateError input (error.Command command) = IsError (IsPartRefusal load_head_of IsBodyRefused input) command
-IsSimulateError input error.ManyPools = (plan : LoadPlan) × (body : List ℕ) × SplitsInto load_head_of input plan body × (length plan.pools ≢ 1)
-IsSimulateError input (error.Row position why) = (plan : LoadPlan) × (body : List ℕ) × SplitsInto load_head_of input plan body × IsArrivalsError body plan (error.Row position why)
+-- why there is no text: parts of the input, a head with several pools, or a row
+abbrev pub IsSimulateRefusal : List ℕ → Refusal → Type 0
+IsSimulateRefusal input refusal.ManyPools = (plan : LoadPlan) × (body : List ℕ) × SplitsInto load_head_of input plan body × (length plan.pools ≢ 1)
+IsSimulateRefusal input (refusal.Load position why) = (plan : LoadPlan) × (body : List ℕ) × SplitsInto load_head_of input plan body × IsArrivalsRefusal body plan (refusal.Load position why)
+IsSimulateRefusal input why = IsPartRefusal load_head_of IsBodyRefused input why

@@ -1,4 +1,5 @@
 pub mod Command
+pub mod Head
 pub mod History
 pub mod Legality
 pub mod Load

@@ -1,18 +1,17 @@
 -- The jobs of a load, by the rows of its body or by a history, and why they are none.
-use Rattle.std.specs.Prelude.{ℕ, suc, ◌≡◌, ◌≤◌, ◌<◌, ◌+◌, ◌-◌, ◌^◌, List, Option, Some, None, codes, length, map, slice_get, slice_index, sum, take, unwrap_or, ⊤}
+use Rattle.std.specs.Prelude.{ℕ, suc, ◌≡◌, ◌≤◌, ◌<◌, ◌+◌, ◌-◌, ◌^◌, List, Option, Some, None, length, map, slice_get, slice_index, sum, take, unwrap_or}
 use Rattle.std.specs.List.{enumerate_from}
-use Rattle.resil_replay.specs.Timed.{AreAscending, GoesBackAt, events_in, times_in}
-use Rattle.resil_replay.specs.declared.timed.Timed.{Timed}
+use Rattle.resil_rule.specs.Timed.{AreAscending, GoesBackAt, events_in, times_in}
+use Rattle.resil_rule.specs.declared.timed.Timed.{Timed}
 use Rattle.resil_virtual.specs.Load.{runs_of, times_of}
 use Rattle.resil_virtual.specs.declared.arrival.Arrival.{Arrival}
 use Rattle.resil_simulate.specs.History.{arrivals_by, first_without, submissions_in}
 use Rattle.resil_simulate.specs.Legality.{IsIllegalAt, IsLegalSomewhere}
 use Rattle.resil_simulate.specs.declared.history.Submitted.{Submitted}
 use Rattle.resil_simulate.specs.declared.rows.Row.{Row}
-use Rattle.resil_simulate.specs.declared.load.LoadError.{LoadError}
-use Rattle.resil_simulate.specs.declared.load.LoadError.TheVariants as error
-use Rattle.resil_simulate.specs.declared.load.LoadRefusal.{LoadRefusal}
-use Rattle.resil_simulate.specs.declared.load.LoadRefusal.TheVariants.{NoTakes, Illegal, TimeGoesBack, TimeTooLate}
+use Rattle.resil_heads.specs.declared.refusal.LoadRefusal.TheVariants.{NoTakes, Illegal, TimeGoesBack, TimeTooLate}
+use Rattle.resil_heads.specs.declared.refusal.Refusal.{Refusal}
+use Rattle.resil_heads.specs.declared.refusal.Refusal.TheVariants as refusal
 
 -- the job of a row at a place, from 1: the submission of caller 1 that has this number
 abbrev pub arrival_at : ℕ × Row → Arrival
@@ -35,19 +34,11 @@ pub record IsTooLateAt (idle_for : ℕ) (arrivals : List Arrival) (position : �
   pub late : 2 ^ 64 ≤ end_of idle_for arrivals (position - 1)
   pub first : (k : ℕ) → k + 1 < position → end_of idle_for arrivals k < 2 ^ 64
 
--- the printed word for why a row is refused
-abbrev pub load_name : LoadRefusal → List ℕ
-load_name NoTakes = codes "NoTakes"
-load_name Illegal = codes "Illegal"
-load_name TimeGoesBack = codes "TimeGoesBack"
-load_name TimeTooLate = codes "TimeTooLate"
-
--- Why the jobs of rows are no load: memory ran out; a time is below the one before; or none is, and a job comes too late.
-abbrev pub IsLoadError : ℕ → List Arrival → LoadError → Type 0
-IsLoadError idle_for arrivals error.Memory = ⊤
-IsLoadError idle_for arrivals (error.Row position TimeGoesBack) = GoesBackAt (times_of arrivals) position
-IsLoadError idle_for arrivals (error.Row position TimeTooLate) = AreAscending (times_of arrivals) × IsTooLateAt idle_for arrivals position
-IsLoadError idle_for arrivals (error.Row position _) = ⊥
+-- why the jobs of rows are no load: a time is below the one before; or none is, and a job comes too late
+abbrev pub IsLoadRefusal : ℕ → List Arrival → Refusal → Type 0
+IsLoadRefusal idle_for arrivals (refusal.Load position TimeGoesBack) = GoesBackAt (times_of arrivals) position
+IsLoadRefusal idle_for arrivals (refusal.Load position TimeTooLate) = AreAscending (times_of arrivals) × IsTooLateAt idle_for arrivals position
+IsLoadRefusal idle_for arrivals why = ⊥
 
 -- ---- Of a history.
 
@@ -67,17 +58,16 @@ pub record IsUsable (takes : Option ℕ) (history : List Timed) : Type 0 where
   pub ascending : AreAscending (times_in history)
 
 -- why a history can't be carried out: the first of the three that doesn't hold, at its first row
-abbrev pub IsHistoryError : Option ℕ → List Timed → LoadError → Type 0
-IsHistoryError takes history error.Memory = ⊤
-IsHistoryError takes history (error.Row position NoTakes) = lacking takes (submissions_in history) ≡ Some position
-IsHistoryError takes history (error.Row position Illegal) = (lacking takes (submissions_in history) ≡ None) × IsIllegalAt (events_in history) position
-IsHistoryError takes history (error.Row position TimeGoesBack) =
+abbrev pub IsHistoryRefusal : Option ℕ → List Timed → Refusal → Type 0
+IsHistoryRefusal takes history (refusal.Load position NoTakes) = lacking takes (submissions_in history) ≡ Some position
+IsHistoryRefusal takes history (refusal.Load position Illegal) = (lacking takes (submissions_in history) ≡ None) × IsIllegalAt (events_in history) position
+IsHistoryRefusal takes history (refusal.Load position TimeGoesBack) =
     (lacking takes (submissions_in history) ≡ None) × IsLegalSomewhere (events_in history) × GoesBackAt (times_in history) position
-IsHistoryError takes history (error.Row position TimeTooLate) = ⊥
+IsHistoryRefusal takes history why = ⊥
 
 -- why its jobs are no load: it can't be carried out; or it can, and a job comes too late, whose submission stands at the position
-abbrev pub IsHistoryLoadError : ℕ → Option ℕ → List Timed → LoadError → Type 0
-IsHistoryLoadError idle_for takes history (error.Row position TimeTooLate) =
+abbrev pub IsHistoryLoadRefusal : ℕ → Option ℕ → List Timed → Refusal → Type 0
+IsHistoryLoadRefusal idle_for takes history (refusal.Load position TimeTooLate) =
     IsUsable takes history × (job : ℕ) × IsTooLateAt idle_for (jobs_in takes history) job
     × (slice_get (map (λ submission. submission.place) (submissions_in history)) (job - 1) ≡ Some position)
-IsHistoryLoadError idle_for takes history why = IsHistoryError takes history why
+IsHistoryLoadRefusal idle_for takes history why = IsHistoryRefusal takes history why

@@ -1,7 +1,7 @@
 -- The numbers of the history of a pool that isn't closed, with the times of its events.
 use Rattle.std.specs.Prelude.{ℕ, zero, suc, ◌≡◌, ◌+◌, ◌-◌, ◌*◌, ◌/◌, ◌==◌, Bool, true, false, List, Option, Some, None, if◌then◌else◌, filter, length, slice_get, slice_index, take}
 use Rattle.std.specs.Option.{option_map_or}
-use Rattle.resil_replay.specs.Timed.{AreAscending}
+use Rattle.resil_rule.specs.Timed.{AreAscending}
 use Rattle.resil_rule.specs.Admission.{IsLegal}
 use Rattle.resil_rule.specs.Limits.{AreLimits, Sizes}
 use Rattle.resil_rule.specs.History.{running, waiting, workers}

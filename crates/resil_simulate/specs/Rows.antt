@@ -1,9 +1,13 @@
--- The body of a load: when each job comes, and how long it runs.
-use Rattle.std.specs.Prelude.{ℕ, ◌^◌, ◌∷◌, [], List, Option, codes, get_or, option_and_then, option_map}
+-- The bodies of `simulate`: of a load, which says when each job comes and how long it runs, or of a history with times.
+use Rattle.std.specs.Prelude.{ℕ, ◌⊎◌, ◌^◌, ◌∷◌, [], List, Option, codes, get_or, option_and_then, option_map, ⊤}
 use Rattle.resil_input.specs.CsvRows.{IsBody, IsBodyError}
 use Rattle.resil_input.specs.Number.{parse_from_zero}
 use Rattle.resil_input.specs.declared.csv_rows.BodyError.{BodyError}
+use Rattle.resil_input.specs.declared.csv_rows.BodyError.TheVariants as error
+use Rattle.resil_replay.specs.Timed.{IsTimedBody, parse_timed, timed_header}
 use Rattle.resil_simulate.specs.declared.rows.Row.{Row}
+use Rattle.resil_simulate.specs.declared.rows.Rows.{Rows}
+use Rattle.resil_simulate.specs.declared.rows.Rows.TheVariants.{Load, History}
 
 -- the fields of the header
 abbrev pub load_header : List (List ℕ)
@@ -23,3 +27,14 @@ IsLoadBody body rows = IsBody load_header parse_row body rows
 
 abbrev pub IsLoadBodyError : List ℕ → BodyError → Type 0
 IsLoadBodyError body why = IsBodyError load_header parse_row body why
+
+-- a body of these rows
+abbrev pub AreRows : List ℕ → Rows → Type 0
+AreRows body (Load rows) = IsLoadBody body rows.items
+AreRows body (History history) = IsTimedBody body history.items
+
+-- why a body has neither rows nor a history: memory ran out; its first record is the header of neither; or a record under one is no row of it
+abbrev pub IsBodyRefused : List ℕ → BodyError → Type 0
+IsBodyRefused body error.Memory = ⊤
+IsBodyRefused body error.BadHeader = IsLoadBodyError body error.BadHeader × IsBodyError timed_header parse_timed body error.BadHeader
+IsBodyRefused body (error.BadRow position) = IsLoadBodyError body (error.BadRow position) ⊎ IsBodyError timed_header parse_timed body (error.BadRow position)

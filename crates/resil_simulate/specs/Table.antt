@@ -1,6 +1,5 @@
 -- The text of the numbers of pools: a record for each, under a header.
-use Rattle.std.specs.Prelude.{ℕ, ◌∷◌, [], List, codes, map}
-use Rattle.std.specs.Fmt.{decimal}
+use Rattle.std.specs.Prelude.{ℕ, ◌∷◌, [], List, codes, map, decimal}
 use Rattle.resil_input.specs.CsvTable.{table_text}
 use Rattle.resil_rule.specs.Limits.{Sizes}
 use Rattle.resil_stats.specs.Text.{span_word}

@@ -2,87 +2,35 @@
 
 ghost use Rattle.std.specs.Prelude.{◌≡◌, ◌≢◌, ◌∷◌, [], All, IfNone, IfOk, IfSome, MatchResult, length, map};
 ghost use Rattle.resil_heads.specs.CommandError.{IsError};
-ghost use Rattle.resil_heads.specs.Load.{load_head_of, plan_of};
-ghost use Rattle.resil_heads.specs.Parts.{IsPartRefusal, SplitsInto};
+ghost use Rattle.resil_heads.specs.Parts.{SplitsInto};
 ghost use Rattle.resil_virtual.specs.Load.{IsLoad};
-ghost use Rattle.resil_simulate.specs.Command.{AreArrivals, IsArrivalsError, IsBodyRefused, IsHistoryText, IsPoolRun, IsSimulateError, IsTableText};
+ghost use Rattle.resil_simulate.specs.Command.{AreArrivals, IsArrivalsRefusal, IsHistoryText, IsPoolRun, IsSimulateRefusal, IsTableText, text_of};
+ghost use Rattle.resil_simulate.specs.Head.{load_head_of, plan_of};
 
-use crate::load::{LoadError, LoadRefusal, load_of, load_of_history};
+use crate::head::{LoadHead, read_load_head};
+use crate::load::{load_of, load_of_history};
 use crate::numbers::{Numbers, numbers_of};
-use crate::rows::read_rows;
+use crate::rows::{Rows, read_rows};
 use crate::table::table_text;
-use resil_heads::load::{LoadHead, read_load_head};
 use resil_heads::{CommandError, Refusal};
-use resil_input::csv_rows::BodyError;
 use resil_input::framing::split_input;
-use resil_replay::timed::{self, events_in, timed_text, times_in};
-use resil_rule::Limits;
+use resil_replay::timed::timed_text;
+use resil_rule::{Limits, events_in, times_in};
 use resil_virtual::{Arrival, simulate};
 use std::alloc::{AllocError, Global};
 
-/// Why there is no text.
-#[derive(Clone, Copy, Debug)]
-pub enum SimulateError {
-    /// Memory ran out, or a part of the input is refused.
-    Command(CommandError),
-    /// A history is asked for, and the head has more than one pool.
-    ManyPools,
-    /// The row at this position, from 1, can't be carried out.
-    Row(usize, LoadRefusal),
-}
-
-impl From<CommandError> for SimulateError {
-    ghost use Rattle.std.specs.Prelude.{◌≡◌};
-    ghost use Rattle.resil_simulate.specs.declared.command.SimulateError.TheVariants.{Command};
-
-    ghost from_gives = { λ why error. error ≡ Command why };
-
-    fn from(why: CommandError) -> SimulateError {
-        SimulateError::Command(why)
-    }
-}
-
-impl From<AllocError> for SimulateError {
-    ghost use Rattle.std.specs.Prelude.{◌≡◌};
-    ghost use Rattle.resil_heads.specs.declared.command_error.CommandError.TheVariants.{Memory};
-    ghost use Rattle.resil_simulate.specs.declared.command.SimulateError.TheVariants.{Command};
-
-    ghost from_gives = { λ _ error. error ≡ Command Memory };
-
-    fn from(_refused: AllocError) -> SimulateError {
-        SimulateError::Command(CommandError::Memory)
-    }
-}
-
-impl From<LoadError> for SimulateError {
-    ghost use Rattle.std.specs.Prelude.{◌≡◌};
-    ghost use Rattle.resil_simulate.specs.Command.{from_load_error};
-
-    ghost from_gives = { λ why error. error ≡ from_load_error why };
-
-    fn from(why: LoadError) -> SimulateError {
-        match why {
-            LoadError::Memory => SimulateError::Command(CommandError::Memory),
-            LoadError::Row(position, why) => SimulateError::Row(position, why),
-        }
-    }
-}
-
-impl From<BodyError> for SimulateError {
-    ghost use Rattle.std.specs.Prelude.{◌≡◌};
-    ghost use Rattle.resil_heads.specs.CommandError.{from_body_error};
-    ghost use Rattle.resil_simulate.specs.declared.command.SimulateError.TheVariants.{Command};
-
-    ghost from_gives = { λ why error. error ≡ Command (from_body_error why) };
-
-    fn from(why: BodyError) -> SimulateError {
-        SimulateError::Command(CommandError::from(why))
-    }
+/// What is written of a load.
+#[derive(Clone, Copy, Debug, PartialEq, Eq)]
+pub enum LoadView {
+    /// `simulate`: the numbers of each pool.
+    Numbers,
+    /// `simulate --history`: the history in one pool.
+    History,
 }
 
 // What the head of an input says, and its body. Errors, in this order: `Refused` as `NoBody`; as `Head`. `Memory` may come at any step.
 fn read_parts(alloc: Global, input: &[u8]) -> Result<(LoadHead, &[u8]), CommandError>
-    ensures { MatchResult result (λ read. SplitsInto load_head_of input.now (plan_of read.0) read.1.now) (IsError (IsPartRefusal load_head_of IsBodyRefused input.now)) }
+    ensures { MatchResult result (λ read. SplitsInto load_head_of input.now (plan_of read.0) read.1.now) (IsError (IsSimulateRefusal input.now)) }
 {
     let (head, body) = split_input(input).ok_or(Refusal::NoBody)?;
     let head = read_load_head(alloc, head)?;
@@ -91,17 +39,15 @@ fn read_parts(alloc: Global, input: &[u8]) -> Result<(LoadHead, &[u8]), CommandE
 
 // The jobs of a body: those of its rows, or of a history. Errors, in this order: `BadHeader` or `BadRow`; those of `load_of`, or of
 // `load_of_history`. `Memory` may come at any step.
-fn read_arrivals(alloc: Global, body: &[u8], head: &LoadHead) -> Result<Vec<Arrival>, SimulateError>
-    ensures { MatchResult result (λ arrivals. AreArrivals body.now (plan_of head.now) arrivals.items) (IsArrivalsError body.now (plan_of head.now)) }
+fn read_arrivals(alloc: Global, body: &[u8], head: &LoadHead) -> Result<Vec<Arrival>, CommandError>
+    ensures { MatchResult result (λ arrivals. AreArrivals body.now (plan_of head.now) arrivals.items) (IsError (IsArrivalsRefusal body.now (plan_of head.now))) }
 {
-    match read_rows(alloc, body) {
-        Ok(rows) => Ok(load_of(alloc, &rows, head.idle_for)?),
-        Err(BodyError::BadHeader) => {
-            let history = timed::read_rows(alloc, body)?;
+    match read_rows(alloc, body)? {
+        Rows::Load(rows) => Ok(load_of(alloc, &rows, head.idle_for)?),
+        Rows::History(history) => {
             let load = load_of_history(alloc, &history, head.idle_for, head.takes)?;
             Ok(load)
         }
-        Err(why) => Err(SimulateError::from(why)),
     }
 }
 
@@ -118,7 +64,7 @@ fn run_pool(
     let history = simulate(alloc, limits, idle_for, arrivals)?;
     let events = events_in(alloc, &history)?;
     let times = times_in(alloc, &history)?;
-    numbers_of(alloc, limits, &events, &times)
+    numbers_of(alloc, &events, &times)
 }
 
 // What it comes to in each of some pools, in order. Errors: `AllocError` when out of memory.
@@ -155,10 +101,10 @@ fn only_pool(pools: &[Limits]) -> Option<Limits>
 ///
 /// # Errors
 ///
-/// In this order: `Command` of a refusal: as `NoBody`; as `Head`; as `BadHeader` or `BadRow`. `Row` as `NoTakes`; `Illegal`;
-/// `TimeGoesBack`; `TimeTooLate`. `Command` of `Memory` may come at any step.
-pub fn numbers_text(alloc: Global, input: &[u8]) -> Result<Vec<u8>, SimulateError>
-    ensures { MatchResult result (λ text. IsTableText input.now text.items) (IsSimulateError input.now) }
+/// In this order: `Refused` as `NoBody`; as `Head`; as `BadHeader` or `BadRow`; as `Load` for `NoTakes`; `Illegal`; `TimeGoesBack`;
+/// `TimeTooLate`. `Memory` may come at any step.
+pub fn numbers_text(alloc: Global, input: &[u8]) -> Result<Vec<u8>, CommandError>
+    ensures { MatchResult result (λ text. IsTableText input.now text.items) (IsError (IsSimulateRefusal input.now)) }
 {
     let (head, body) = read_parts(alloc, input)?;
     let arrivals = match read_arrivals(alloc, body, &head) {
@@ -174,12 +120,12 @@ pub fn numbers_text(alloc: Global, input: &[u8]) -> Result<Vec<u8>, SimulateErro
 /// # Errors
 ///
 /// Those of `numbers_text`, with `ManyPools` behind those of the head.
-pub fn history_text(alloc: Global, input: &[u8]) -> Result<Vec<u8>, SimulateError>
-    ensures { MatchResult result (λ text. IsHistoryText input.now text.items) (IsSimulateError input.now) }
+pub fn history_text(alloc: Global, input: &[u8]) -> Result<Vec<u8>, CommandError>
+    ensures { MatchResult result (λ text. IsHistoryText input.now text.items) (IsError (IsSimulateRefusal input.now)) }
 {
     let (head, body) = read_parts(alloc, input)?;
     let Some(limits) = only_pool(&head.pools) else {
-        return Err(SimulateError::ManyPools);
+        return Err(CommandError::Refused(Refusal::ManyPools));
     };
     let arrivals = match read_arrivals(alloc, body, &head) {
         Ok(arrivals) => arrivals,
@@ -187,4 +133,18 @@ pub fn history_text(alloc: Global, input: &[u8]) -> Result<Vec<u8>, SimulateErro
     };
     let history = simulate(alloc, limits, head.idle_for, &arrivals)?;
     Ok(timed_text(alloc, &history)?)
+}
+
+/// The text of what is asked for of an input.
+///
+/// # Errors
+///
+/// Those of `numbers_text` or of `history_text`.
+pub fn text(alloc: Global, shown: LoadView, input: &[u8]) -> Result<Vec<u8>, CommandError>
+    ensures { MatchResult result (λ text. text_of shown input.now text.items) (IsError (IsSimulateRefusal input.now)) }
+{
+    match shown {
+        LoadView::Numbers => numbers_text(alloc, input),
+        LoadView::History => history_text(alloc, input),
+    }
 }

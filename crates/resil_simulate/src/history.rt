@@ -6,12 +6,11 @@ ghost use Rattle.std.specs.Prelude.{◌≡◌, ◌<◌, ◌^◌, ℕ, List, Some
 ghost use Rattle.std.specs.BTreeMap.{IsOrdered, get};
 ghost use Rattle.std.specs.Option.{option_or};
 ghost use Rattle.std.specs.Ordering.{nat_cmp};
-ghost use Rattle.resil_replay.specs.declared.timed.Timed.{Timed};
+ghost use Rattle.resil_rule.specs.declared.timed.Timed.{Timed};
 ghost use Rattle.resil_simulate.specs.History.{AreTimesOf, arrivals_by, first_without, job_at, key, run_of, submissions_in};
 ghost use Rattle.resil_simulate.specs.declared.history.Moment.TheVariants as moment;
 
-use resil_replay::timed::Timed;
-use resil_rule::{Event, Id, Reply};
+use resil_rule::{Event, Id, Reply, Timed};
 use resil_virtual::Arrival;
 use std::alloc::{AllocError, Global};
 use std::collections::BTreeMap;

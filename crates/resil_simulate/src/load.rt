@@ -2,63 +2,24 @@
 //! time.
 
 ghost use Rattle.std.specs.Prelude.{◌≡◌, IfErr, IfOk, MatchOption, MatchResult};
+ghost use Rattle.resil_heads.specs.CommandError.{IsError};
 ghost use Rattle.resil_virtual.specs.Load.{IsLoad, times_of};
 ghost use Rattle.resil_simulate.specs.History.{submissions_in};
-ghost use Rattle.resil_simulate.specs.Load.{AreInTime, IsHistoryError, IsHistoryLoadError, IsLoadError, IsTooLateAt, IsUsable, arrivals_of, jobs_in, lacking, load_name};
+ghost use Rattle.resil_simulate.specs.Load.{AreInTime, IsHistoryLoadRefusal, IsHistoryRefusal, IsLoadRefusal, IsTooLateAt, IsUsable, arrivals_of, jobs_in, lacking};
 
 use crate::history::{Submitted, arrivals_by, first_without, submissions_in};
 use crate::legality::first_illegal;
 use crate::rows::Row;
-use resil_replay::timed::{Timed, events_in, first_back, times_in};
-use resil_rule::Id;
+use resil_heads::{CommandError, LoadRefusal, Refusal};
+use resil_rule::{Id, Timed, events_in, first_back, times_in};
 use resil_virtual::Arrival;
 use std::alloc::{AllocError, Global};
 
-/// Why the row at a position, from 1, can't be carried out.
-#[derive(Clone, Copy, Debug)]
-pub enum LoadRefusal {
-    /// The job of this submission has no finish in the history, and nothing else says how long it takes.
-    NoTakes,
-    /// No pool has the history up to this event.
-    Illegal,
-    /// Its time is below that of the row before it.
-    TimeGoesBack,
-    /// Its time, all runs up to it and the time after which an idle worker may end pass 2^64 - 1.
-    TimeTooLate,
-}
-
-impl LoadRefusal {
-    /// The word that is printed for it: the variant's name.
-    pub fn name(self) -> &'static str
-        ensures { result.now ≡ load_name self }
-    {
-        match self {
-            LoadRefusal::NoTakes => "NoTakes",
-            LoadRefusal::Illegal => "Illegal",
-            LoadRefusal::TimeGoesBack => "TimeGoesBack",
-            LoadRefusal::TimeTooLate => "TimeTooLate",
-        }
-    }
-}
-
-/// Why jobs can't be carried out.
-#[derive(Clone, Copy, Debug)]
-pub enum LoadError {
-    /// Memory ran out.
-    Memory,
-    /// The row at this position, from 1, is refused.
-    Row(usize, LoadRefusal),
-}
-
-impl From<AllocError> for LoadError {
-    ghost use Rattle.std.specs.Prelude.{◌≡◌};
-    ghost use Rattle.resil_simulate.specs.declared.load.LoadError.TheVariants.{Memory};
-
-    ghost from_gives = { λ _ error. error ≡ Memory };
-
-    fn from(_refused: AllocError) -> LoadError {
-        LoadError::Memory
-    }
+// The refusal of the row at a position, from 1.
+fn refused(position: usize, why: LoadRefusal) -> CommandError
+    ensures { result ≡ CommandError.Refused (Refusal.Load position why) }
+{
+    CommandError::Refused(Refusal::Load(position, why))
 }
 
 // The jobs of rows, in order. Errors: `AllocError` when out of memory.
@@ -106,18 +67,18 @@ fn first_late(arrivals: &[Arrival], idle_for: u64) -> Option<usize>
 /// # Errors
 ///
 /// In this order, each for the first such row: `TimeGoesBack`; `TimeTooLate`. `Memory` may come at any step.
-pub fn load_of(alloc: Global, rows: &[Row], idle_for: u64) -> Result<Vec<Arrival>, LoadError>
+pub fn load_of(alloc: Global, rows: &[Row], idle_for: u64) -> Result<Vec<Arrival>, CommandError>
     ensures arrivals { IfOk result (λ arrivals. arrivals.items ≡ arrivals_of rows.now) }
     ensures load { IfOk result (λ arrivals. IsLoad idle_for arrivals.items) }
-    ensures refused { IfErr result (IsLoadError idle_for (arrivals_of rows.now)) }
+    ensures refused { IfErr result (IsError (IsLoadRefusal idle_for (arrivals_of rows.now))) }
 {
     let arrivals = arrivals_of(alloc, rows)?;
     let times = times_of(alloc, &arrivals)?;
     if let Some(position) = first_back(&times) {
-        return Err(LoadError::Row(position, LoadRefusal::TimeGoesBack));
+        return Err(refused(position, LoadRefusal::TimeGoesBack));
     }
     match first_late(&arrivals, idle_for) {
-        Some(position) => Err(LoadError::Row(position, LoadRefusal::TimeTooLate)),
+        Some(position) => Err(refused(position, LoadRefusal::TimeTooLate)),
         None => Ok(arrivals),
     }
 }
@@ -138,20 +99,20 @@ fn check_history(
     history: &[Timed],
     takes: Option<u32>,
     jobs: &[Submitted],
-) -> Result<(), LoadError>
+) -> Result<(), CommandError>
     requires { jobs.now ≡ submissions_in history.now }
-    ensures { MatchResult result (λ _. IsUsable takes history.now) (IsHistoryError takes history.now) }
+    ensures { MatchResult result (λ _. IsUsable takes history.now) (IsError (IsHistoryRefusal takes history.now)) }
 {
     if let Some(place) = lacking(takes, jobs) {
-        return Err(LoadError::Row(place, LoadRefusal::NoTakes));
+        return Err(refused(place, LoadRefusal::NoTakes));
     }
     let events = events_in(alloc, history)?;
     if let Some(position) = first_illegal(alloc, &events)? {
-        return Err(LoadError::Row(position, LoadRefusal::Illegal));
+        return Err(refused(position, LoadRefusal::Illegal));
     }
     let times = times_in(alloc, history)?;
     match first_back(&times) {
-        Some(position) => Err(LoadError::Row(position, LoadRefusal::TimeGoesBack)),
+        Some(position) => Err(refused(position, LoadRefusal::TimeGoesBack)),
         None => Ok(()),
     }
 }
@@ -167,18 +128,18 @@ pub fn load_of_history(
     history: &[Timed],
     idle_for: u64,
     takes: Option<u32>,
-) -> Result<Vec<Arrival>, LoadError>
+) -> Result<Vec<Arrival>, CommandError>
     ensures arrivals { IfOk result (λ arrivals. arrivals.items ≡ jobs_in takes history.now) }
     ensures usable { IfOk result (λ _. IsUsable takes history.now) }
     ensures load { IfOk result (λ arrivals. IsLoad idle_for arrivals.items) }
-    ensures refused { IfErr result (IsHistoryLoadError idle_for takes history.now) }
+    ensures refused { IfErr result (IsError (IsHistoryLoadRefusal idle_for takes history.now)) }
 {
     let jobs = submissions_in(alloc, history)?;
     check_history(alloc, history, takes, &jobs)?;
     let takes = u64::from(takes.unwrap_or(0));
     let arrivals = arrivals_by(alloc, takes, &jobs)?;
     match first_late(&arrivals, idle_for) {
-        Some(position) => Err(LoadError::Row(jobs[position - 1].place, LoadRefusal::TimeTooLate)),
+        Some(position) => Err(refused(jobs[position - 1].place, LoadRefusal::TimeTooLate)),
         None => Ok(arrivals),
     }
 }

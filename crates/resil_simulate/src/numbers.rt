@@ -5,11 +5,12 @@
 
 ghost use Rattle.std.specs.Prelude.{◌≡◌, length, IfOk};
 ghost use Rattle.resil_rule.specs.Admission.{IsLegal};
-ghost use Rattle.resil_replay.specs.Timed.{AreAscending};
+ghost use Rattle.resil_rule.specs.Limits.{AreLimits, Sizes};
+ghost use Rattle.resil_rule.specs.Timed.{AreAscending};
 ghost use Rattle.resil_simulate.specs.Numbers.{AreNumbersOf, HasTimes, busy, run_time, worker_time};
 
-use resil_rule::{Event, Limits, Verdict};
-use resil_stats::{Counts, Ranks, count, spans_of};
+use resil_rule::{Event, Verdict};
+use resil_stats::{Counts, Ranks, count_legal, spans_of};
 use std::alloc::{AllocError, Global};
 
 /// The numbers of the history of a pool that isn't closed.
@@ -72,24 +73,19 @@ fn busy_of(events: &[Event], times: &[u64]) -> Option<u64>
     }
 }
 
-/// The numbers of a legal history of a pool with these limits, by the times of its events, in microseconds.
+/// The numbers of a legal history of a pool, by the times of its events, in microseconds.
 ///
 /// # Errors
 ///
 /// `AllocError` when out of memory.
-pub fn numbers_of(
-    alloc: Global,
-    limits: Limits,
-    events: &[Event],
-    times: &[u64],
-) -> Result<Numbers, AllocError>
-    requires legal { IsLegal limits events.now }
+pub fn numbers_of(alloc: Global, events: &[Event], times: &[u64]) -> Result<Numbers, AllocError>
+    requires legal { (limits : Sizes) × AreLimits limits × IsLegal limits events.now }
     requires times { length times.now ≡ length events.now }
     requires ascending { AreAscending times.now }
     ensures { IfOk result (AreNumbersOf events.now times.now) }
 {
     let spans = spans_of(alloc, events, times, Verdict::Legal)?;
-    let stats = count(alloc, &limits, events)?;
+    let stats = count_legal(alloc, Verdict::Legal, events)?;
     Ok(Numbers {
         submitted: stats.counts.submissions,
         refused: stats.counts.full,

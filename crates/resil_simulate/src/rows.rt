@@ -1,15 +1,26 @@
-//! The bodies of `simulate`: the jobs of a load. All rows are read before anything else is said of them.
+//! The bodies of `simulate`: the jobs of a load, or a history with times. A body is opened once, and its header says which. All rows are
+//! read before anything else is said of them.
 
 ghost use Rattle.std.specs.Prelude.{◌≡◌, MatchResult};
 ghost use Rattle.csv.specs.Records.{fields_of};
-ghost use Rattle.resil_simulate.specs.Rows.{IsLoadBody, IsLoadBodyError, parse_row};
+ghost use Rattle.resil_simulate.specs.Rows.{AreRows, IsBodyRefused, parse_row};
 
 use csv::ByteRecord;
-use resil_heads::load::LOAD_BODY;
-use resil_input::csv_rows::{self, BodyError};
+use resil_heads::forms::{Body, Form};
+use resil_input::csv_rows::{BodyError, open_body};
 use resil_input::fields::field_at;
 use resil_input::number::parse_from_zero;
+use resil_replay::timed;
+use resil_rule::Timed;
 use std::alloc::Global;
+
+/// What the bodies of jobs may have.
+pub const LOAD_BODY: Body = Body {
+    header: &["at", "takes"],
+    forms: &[Form::Number(0, u64::MAX), Form::Number(0, 4_294_967_295)],
+    rows: &[],
+    has_resizes: false,
+};
 
 /// A job of a load, in microseconds.
 #[derive(Clone, Copy)]
@@ -18,6 +29,15 @@ pub struct Row {
     pub at: u64,
     /// How long it runs.
     pub takes: u32,
+}
+
+/// The rows of a body, in order.
+#[derive(Drop)]
+pub enum Rows {
+    /// Those of a load.
+    Load(Vec<Row>),
+    /// The events of a history, with their times.
+    History(Vec<Timed>),
 }
 
 // Reads a job from the fields of a record.
@@ -29,19 +49,20 @@ fn parse_row(fields: &ByteRecord) -> Option<Row>
     Some(Row { at, takes })
 }
 
-/// Reads the jobs of a body of `simulate`, in order.
+/// Reads the rows of a body of `simulate`.
 ///
 /// # Errors
 ///
-/// The first that is met: `Memory` when out of memory; `BadHeader` where the first record is missing or isn't the header; `BadRow`
-/// with the position of the first record that is no job.
-pub fn read_rows(alloc: Global, body: &[u8]) -> Result<Vec<Row>, BodyError>
-    ensures { MatchResult result (λ rows. IsLoadBody body.now rows.items) (IsLoadBodyError body.now) }
+/// The first that is met: `Memory` when out of memory; `BadHeader` if the first record is missing, or is the header of neither; `BadRow`
+/// with the position of the first record that is no row under its header.
+pub fn read_rows(alloc: Global, body: &[u8]) -> Result<Rows, BodyError>
+    ensures { MatchResult result (AreRows body.now) (IsBodyRefused body.now) }
 {
-    csv_rows::read_rows(
-        alloc,
-        LOAD_BODY.header,
-        |fields| Ok(parse_row(fields)),
-        body,
-    )
+    let opened = open_body(alloc, body)?;
+    if opened.has_header(LOAD_BODY.header) {
+        let rows = opened.rows(alloc, |fields| Ok(parse_row(fields)))?;
+        return Ok(Rows::Load(rows));
+    }
+    let history = timed::read_opened(alloc, opened)?;
+    Ok(Rows::History(history))
 }

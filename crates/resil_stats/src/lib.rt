@@ -31,6 +31,6 @@ pub use marks::{Mark, Sign};
 pub use picture::{Illegal, Picture, picture_of};
 pub use results::Outcomes;
 pub use spans::{Ranks, Spans, spans_of};
-pub use stats::{CallerStats, Counts, Load, Stats, count};
+pub use stats::{CallerStats, Counts, Load, Stats, count, count_legal};
 pub use svg::svg_text;
 pub use text::stats_text;

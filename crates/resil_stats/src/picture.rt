@@ -13,8 +13,7 @@ use crate::columns::{Column, MOST_DRAWN, Running, areas_of, columns_of};
 use crate::depth::{Level, levels_of};
 use crate::marks::{Mark, marks_of};
 use crate::stats::{Stats, count, legal_part};
-use resil_heads::answer::{Answer, answer_to_last};
-use resil_rule::{Event, Limits, Verdict};
+use resil_rule::{Answer, Event, Limits, Verdict, answer_to_last};
 use std::alloc::{AllocError, Global};
 
 /// The first illegal event of a history.

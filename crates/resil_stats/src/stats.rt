@@ -193,8 +193,12 @@ pub(crate) fn legal_part(history: &[Event], verdict: Verdict) -> &[Event]
     }
 }
 
-// The numbers of legal events. Errors: `AllocError` when out of memory.
-fn count_legal(alloc: Global, verdict: Verdict, events: &[Event]) -> Result<Stats, AllocError>
+/// The numbers of events that are legal already, as those before the first illegal one, and what the audit says of their history.
+///
+/// # Errors
+///
+/// `AllocError` when out of memory.
+pub fn count_legal(alloc: Global, verdict: Verdict, events: &[Event]) -> Result<Stats, AllocError>
     requires { (limits : Sizes) × IsLegal limits events.now }
     ensures counts { IfOk result (λ stats. AreCountsOf events.now stats.counts) }
     ensures most { IfOk result (λ stats. AreMost events.now stats.most) }

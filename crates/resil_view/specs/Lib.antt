@@ -1,3 +1,3 @@
 pub mod Command
-pub mod Output
-pub mod Simulate
+pub mod Judge
+pub mod Read

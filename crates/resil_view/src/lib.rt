@@ -1,13 +1,13 @@
-//! `judge`, `stats`, `timeline` and `simulate` over bytes: what is written for an input.
+//! `judge`, `stats` and `timeline` over bytes: what is written for an input.
 //!
-//! `command` reads a history and makes the text of a view of it, `output` makes an output of that, of a refusal's line too, and `simulate`
-//! does both for a load. Who calls has read the input, and writes the output.
+//! `command` makes the text of a view: `judge` has the verdict on a history of any version, and `read` is what all views read. `subject` is
+//! what is said of a refusal. The caller has read the input, and writes the output.
 #![tactic(auto)]
 
 mod command;
-mod output;
-mod simulate;
+mod judge;
+mod read;
+mod subject;
 
-pub use command::View;
-pub use output::view_output;
-pub use simulate::{LoadView, simulate_output};
+pub use command::{View, view_text};
+pub use judge::judges_as_audit;

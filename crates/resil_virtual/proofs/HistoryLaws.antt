@@ -15,8 +15,8 @@ use Rattle.resil_rule.specs.declared.event.Id.{Id}
 use Rattle.resil_rule.specs.declared.event.Event.{Event}
 use Rattle.resil_rule.specs.declared.event.Event.TheVariants.{Submit, Take, Finish, IdleEnd, Close, Resized}
 use Rattle.resil_virtual.specs.Load.{of_caller}
-use Rattle.resil_replay.specs.Timed.{AreAscending, events_in, times_in}
-use Rattle.resil_replay.specs.declared.timed.Timed.{Timed}
+use Rattle.resil_rule.specs.Timed.{AreAscending, events_in, times_in}
+use Rattle.resil_rule.specs.declared.timed.Timed.{Timed}
 use Rattle.resil_virtual.specs.declared.arrival.Arrival.{Arrival}
 use Rattle.resil_virtual.specs.declared.due.Running.{Running}
 use Rattle.resil_virtual.specs.Simulated.{AreNext, FellIdle, IsNext, begins, has_begun, last_at, submissions_at, submissions_of, submitted_at}

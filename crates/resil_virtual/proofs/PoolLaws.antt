@@ -2,10 +2,6 @@
 use Rattle.std.proofs.Common.{inl, inr, ◌⊎◌, ◌≡◌, ◌≤◌, ◌<◌, ◌+◌, ◌*◌, ◌^◌, ◌==◌, ◌&&◌, ◌∷◌, [], ◌++◌, ◌∙◌, ℕ, zero, suc, Bool, true, false, not, All, List, Option, Some, None, drop, filter, get_or, is_some, length, map, option_map, replicate, slice_get, slice_set, sum, take, refl, sym, ap, subst, arith, length-append, length-set}
 use Rattle.std.specs.List.{remove}
 use Rattle.std.specs.Option.{IfSome}
-use Rattle.std.specs.Result.{IfErr, IfOk}
-use Rattle.std.specs.declared.result.Result.{Result}
-use Rattle.resil_rule.specs.declared.error.Refusal.{Refusal}
-use Rattle.resil_rule.proofs.RefusalLaws.{submission-accepted, submission-follows, submission-refused}
 use Rattle.std.proofs.lemmas.Grind.{common_steps}
 use Rattle.std.proofs.lemmas.List.{map-append, map-set, nil_from_length, take_all, take_more}
 use Rattle.std.proofs.lemmas.List.Edits.{length-remove}
@@ -15,8 +11,8 @@ use Rattle.std.proofs.lemmas.Option.{get_or_from_slice_get, slice_get-map, slice
 use Rattle.resil_rule.specs.Limits.{AreLimits, Sizes}
 use Rattle.resil_rule.specs.History.{is_same_id, running as running_in, workers}
 use Rattle.resil_rule.specs.Slots.{ids_out}
-use Rattle.resil_rule.specs.RuleView.{RuleView, busy, counted, is_acceptance, made_by, next_reply, opened, MayEndIdle, with_finish, with_idle_end, with_pick, with_start, with_submission, with_take}
-use Rattle.resil_rule.specs.RuleState.{Follows, IsStateOf, IsSubmitRefusal, StaysAt}
+use Rattle.resil_rule.specs.RuleView.{RuleView, busy, made_by, next_reply, opened, MayEndIdle, with_finish, with_idle_end, with_pick, with_start, with_submission, with_take}
+use Rattle.resil_rule.specs.RuleState.{Follows, IsStateOf, StaysAt}
 use Rattle.resil_rule.specs.declared.event.Id.{Id}
 use Rattle.resil_rule.specs.declared.event.Reply.{Reply}
 use Rattle.resil_rule.specs.declared.event.Reply.TheVariants.{Core, Queued, Extra, Full, Closed}
@@ -26,8 +22,8 @@ use Rattle.resil_rule.proofs.EventLaws.{front-is}
 use Rattle.resil_rule.proofs.IdLaws.{same_id-self}
 use Rattle.resil_rule.proofs.SlotLaws.{clear-length, none-out, put-length}
 use Rattle.resil_virtual.specs.Load.{IsLoad, runs_of}
-use Rattle.resil_replay.specs.Timed.{AreAscending, events_in}
-use Rattle.resil_replay.specs.declared.timed.Timed.{Timed}
+use Rattle.resil_rule.specs.Timed.{AreAscending, events_in}
+use Rattle.resil_rule.specs.declared.timed.Timed.{Timed}
 use Rattle.resil_virtual.specs.declared.arrival.Arrival.{Arrival}
 use Rattle.resil_virtual.specs.declared.due.Running.{Running}
 use Rattle.resil_virtual.specs.Simulated.{FellIdle, IsSimulated, begins, has_begun, last_at, runs_for, submissions_of}
@@ -67,22 +63,6 @@ after-it at xs i x y here then ascending =
     let within = slice_get_within (map at xs) (i + 1) (at y) (slice_get-map at xs (i + 1) ∙ ap (option_map at) then) in
     let le = ascending i within in
     omega (arith, this, other, le)
-
--- a submission that is next leaves the rule as its answer says
-refused-is : (v : RuleView ℕ) (id : Id) (work : ℕ) (reply : Reply) → is_acceptance reply ≡ false → counted v id ≡ with_submission v id work reply
-refused-is v id work Core bars = absurd (cc bars)
-refused-is v id work Queued bars = absurd (cc bars)
-refused-is v id work Extra bars = absurd (cc bars)
-refused-is v id work Full bars = refl
-refused-is v id work Closed bars = refl
-
-pub submission-is : (v after : RuleView ℕ) (id : Id) (work : ℕ) → (is_acceptance (next_reply v) ≡ true → after ≡ with_submission v id work (next_reply v)) → (is_acceptance (next_reply v) ≡ false → after ≡ counted v id)
-    → after ≡ with_submission v id work (next_reply v)
-submission-is v after id work accepted refused = go (is_acceptance (next_reply v)) refl
-  where
-    go : (b : Bool) → is_acceptance (next_reply v) ≡ b → after ≡ with_submission v id work (next_reply v)
-    go true is = accepted is
-    go false is = refused is ∙ refused-is v id work (next_reply v) is
 
 -- the ids of the jobs that run
 abbrev ids_at : List (Option Running) → List (Option Id)
@@ -612,33 +592,26 @@ module _ (idle_for : ℕ) (arrivals : List Arrival) (next : ℕ) (v : RuleView �
 
 module _ (idle_for : ℕ) (arrivals : List Arrival) (next : ℕ) (v : RuleView ℕ) (running : List (Option Running)) (idle : List (Option ℕ)) (h : List Timed) (was : AreParts idle_for arrivals next v running idle h)
     (a : Arrival) (there : slice_get arrivals next ≡ Some a) (quiet : IsQuiet v) (reached : IsReached a.at running idle (Some a))
-    (ready : RuleView ℕ) (same : ready ≡ record v { made = ready.made }) (stays : StaysAt v ready) (known : a.id.caller < length ready.made)
-    (after : RuleView ℕ) (result : Result Reply (Refusal × ℕ))
-    (accepted : IfOk result (λ reply. (reply ≡ next_reply ready) × (is_acceptance reply ≡ true) × (after ≡ with_submission ready a.id a.takes reply)))
-    (follows : IfOk result (λ reply. Follows ready (Submit a.id reply) after))
-    (refused : IfErr result (λ e. IsSubmitRefusal ready a.id e.0 after)) where
+    (ready : RuleView ℕ) (same : ready ≡ record v { made = ready.made }) (stays : StaysAt v ready) where
   ready-parts : AreParts idle_for arrivals next ready running idle h
   ready-parts = reserved-parts idle_for arrivals next v running idle h was ready same stays
 
   ready-quiet : IsQuiet ready
   ready-quiet = subst IsQuiet (sym same) (record { own = quiet.own; queued = quiet.queued })
 
-  number : a.id.number ≡ suc (made_by ready a.id.caller)
-  number = number-next idle_for arrivals next ready running idle h ready-parts a there
+  -- the job has its caller's next number
+  pub answered-number : a.id.number ≡ suc (made_by ready a.id.caller)
+  answered-number = number-next idle_for arrivals next ready running idle h ready-parts a there
 
-  answer-is : after ≡ with_submission ready a.id a.takes (next_reply ready)
-  answer-is = submission-is ready after a.id a.takes (submission-accepted ready after a.id a.takes known number result accepted follows refused) (submission-refused ready after a.id a.takes known number result accepted follows refused)
+  module _ (reply : Reply) (is : reply ≡ next_reply ready) (follows : Follows ready (Submit a.id reply) (with_submission ready a.id a.takes reply)) where
+    pub answered-parts : AreParts idle_for arrivals (next + 1) (with_submission ready a.id a.takes reply) running idle (h ++ record { event = Submit a.id reply; at = a.at } ∷ [])
+    answered-parts = submitted-parts idle_for arrivals next ready running idle h ready-parts a there ready-quiet reached reply is follows
 
-  pub answered-parts : AreParts idle_for arrivals (next + 1) after running idle (h ++ record { event = Submit a.id (next_reply ready); at = a.at } ∷ [])
-  answered-parts =
-      rw answer-is (submitted-parts idle_for arrivals next ready running idle h ready-parts a there ready-quiet reached (next_reply ready) refl
-      (rw answer-is at (submission-follows ready after a.id a.takes known number result accepted follows refused)))
-
-  pub answered-left : left arrivals (next + 1) after idle < left arrivals next v idle
-  answered-left =
-      let less = submitted-left idle_for arrivals next ready running idle h ready-parts a there (next_reply ready) in
-      let before : left arrivals next ready idle ≡ left arrivals next v idle = rw same refl in
-      rw answer-is (omega (arith, less, before))
+    pub answered-left : left arrivals (next + 1) (with_submission ready a.id a.takes reply) idle < left arrivals next v idle
+    answered-left =
+        let less = submitted-left idle_for arrivals next ready running idle h ready-parts a there reply in
+        let before : left arrivals next ready idle ≡ left arrivals next v idle = rw same refl in
+        omega (arith, less, before)
 
 -- ---- The opening.
 

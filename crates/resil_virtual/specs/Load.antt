@@ -1,6 +1,6 @@
 -- The jobs of a load, which can be carried out.
 use Rattle.std.specs.Prelude.{ℕ, ◌≡◌, ◌<◌, ◌+◌, ◌^◌, ◌==◌, suc, List, Some, filter, length, map, slice_get, sum, take}
-use Rattle.resil_replay.specs.Timed.{AreAscending}
+use Rattle.resil_rule.specs.Timed.{AreAscending}
 use Rattle.resil_virtual.specs.declared.arrival.Arrival.{Arrival}
 
 -- when jobs come, and how long they run

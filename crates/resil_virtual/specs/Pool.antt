@@ -3,8 +3,8 @@ use Rattle.std.specs.Prelude.{ℕ, ◌≡◌, ◌≤◌, ◌<◌, ◌+◌, ◌-�
 use Rattle.resil_rule.specs.Limits.{AreLimits, Sizes}
 use Rattle.resil_rule.specs.RuleView.{RuleView, busy, MayEndIdle}
 use Rattle.resil_rule.specs.RuleState.{IsStateOf}
-use Rattle.resil_replay.specs.Timed.{events_in}
-use Rattle.resil_replay.specs.declared.timed.Timed.{Timed}
+use Rattle.resil_rule.specs.Timed.{events_in}
+use Rattle.resil_rule.specs.declared.timed.Timed.{Timed}
 use Rattle.resil_virtual.specs.Load.{IsLoad, runs_of}
 use Rattle.resil_virtual.specs.Simulated.{AreNext, FellIdle, has_begun, last_at, runs_for, submissions_at, submissions_of}
 use Rattle.resil_virtual.specs.declared.arrival.Arrival.{Arrival}

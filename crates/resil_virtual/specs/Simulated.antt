@@ -8,8 +8,8 @@ use Rattle.resil_rule.specs.History.{is_same_id, last_size, running, started_id,
 use Rattle.resil_rule.specs.declared.event.Id.{Id}
 use Rattle.resil_rule.specs.declared.event.Event.{Event}
 use Rattle.resil_rule.specs.declared.event.Event.TheVariants.{Submit, Take, Finish, IdleEnd, Close, Resized}
-use Rattle.resil_replay.specs.Timed.{AreAscending, events_in, times_in}
-use Rattle.resil_replay.specs.declared.timed.Timed.{Timed}
+use Rattle.resil_rule.specs.Timed.{AreAscending, events_in, times_in}
+use Rattle.resil_rule.specs.declared.timed.Timed.{Timed}
 use Rattle.resil_virtual.specs.declared.arrival.Arrival.{Arrival}
 
 -- ---- Times.

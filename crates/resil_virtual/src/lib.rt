@@ -14,8 +14,7 @@ mod pool;
 
 pub use arrival::Arrival;
 use pool::Pool;
-use resil_replay::timed::Timed;
-use resil_rule::Limits;
+use resil_rule::{Limits, Timed};
 use std::alloc::{AllocError, Global};
 
 /// What happens to a load in a pool of these limits, of whose workers those above the core size end after so many microseconds without a
@@ -24,6 +23,16 @@ use std::alloc::{AllocError, Global};
 /// # Errors
 ///
 /// `AllocError` when out of memory.
+///
+/// ```
+/// let job = |number, at| Arrival { id: Id { caller: 1, number }, at, takes: 500 };
+/// // One worker runs both jobs, so the second one waits for 400 microseconds.
+/// let history = simulate(alloc, Limits::new(1, 1, 1)?, 0, &[job(1, 0), job(2, 100)])?;
+/// for timed in &history {
+///     println!(rt; "{} {:?}", timed.at, timed.event)?;
+/// }
+/// assert_eq!(rt; history.last().map(|timed| timed.at), Some(1_000));
+/// ```
 pub fn simulate(
     alloc: Global,
     limits: Limits,

@@ -11,8 +11,7 @@ ghost use Rattle.resil_virtual.specs.Simulated.{last_at};
 
 use crate::arrival::Arrival;
 use crate::due::{Running, first_due, first_end};
-use resil_replay::timed::Timed;
-use resil_rule::{Event, Limits, Origin, Rule, Slot};
+use resil_rule::{Event, Limits, Origin, Rule, Slot, Timed};
 use std::alloc::{AllocError, Global};
 
 /// What happens next.
@@ -150,8 +149,8 @@ impl<'a> Pool<'a> {
             return Err(AllocError);
         };
         let reply = self.rule.next_reply();
-        // It answers what `next_reply` told.
-        let _answer = self.rule.submit(arrival.id, arrival.takes);
+        self.rule
+            .submit_with_reply(arrival.id, arrival.takes, reply);
         self.next += 1;
         self.history.push(Timed {
             event: Event::Submit {

@@ -10,11 +10,11 @@ ghost use Rattle.toml.specs.Errors.{IsBlank};
 ghost use Rattle.resil_heads.specs.Checks.{Gives};
 ghost use Rattle.resil_weave.specs.Head.{requested_permits, check_permits, weave_head_of};
 
-use resil_heads::HeadError;
 use resil_heads::document::{check_keys, read_document};
 use resil_heads::forms::{Form, Key};
 use resil_heads::keys::count_at;
 use resil_heads::layers::DEFAULT_PERMITS;
+use resil_heads::{HeadError, HeadFault};
 use resil_permit::MAX_PERMITS;
 use std::alloc::Global;
 use toml::Table;
@@ -23,7 +23,7 @@ use toml::Table;
 pub const WEAVE_KEYS: &[Key] = &[Key::Optional("permits", Form::Count(0, 65_535))];
 
 // The permits that the table of a head requests. Errors: `UnknownKey`, `BadValue`.
-fn requested_permits(table: &Table) -> Result<u32, HeadError>
+fn requested_permits(table: &Table) -> Result<u32, HeadFault>
     ensures { result ≡ requested_permits (table_view table.now) }
 {
     check_keys(WEAVE_KEYS, table)?;
@@ -48,7 +48,7 @@ fn check_permits(permits: u32) -> Result<u32, HeadError>
 ///
 /// The first in this order: `BadToml`; `UnknownKey`; `BadValue`; `TooManyPermits` above 65,535.
 /// `Memory` may come while the head is read.
-pub fn read_head(alloc: Global, bytes: &[u8]) -> Result<u32, HeadError>
+pub fn read_head(alloc: Global, bytes: &[u8]) -> Result<u32, HeadFault>
     ensures answer { Gives result (weave_head_of bytes.now) }
     ensures countable { IfOk result (λ permits. permits ≤ 65535) }
 
@@ -56,5 +56,5 @@ pub fn read_head(alloc: Global, bytes: &[u8]) -> Result<u32, HeadError>
     ensures memory { result ≡ Err HeadError.Memory → ¬ IsBlank bytes.now }
 {
     let table = read_document(alloc, bytes)?;
-    check_permits(requested_permits(&table)?)
+    Ok(check_permits(requested_permits(&table)?)?)
 }

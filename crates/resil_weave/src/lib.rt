@@ -11,6 +11,7 @@ ghost use Rattle.resil_weave.specs.Weave.{IsWeaveText, IsWeaveRefusal};
 
 pub mod head;
 pub mod rows;
+pub mod subject;
 mod worked_heads;
 pub mod woven;
 

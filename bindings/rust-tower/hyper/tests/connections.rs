@@ -24,7 +24,7 @@ fn serve(layer: QueueingLayer, goes_on: Arc<Semaphore>) -> Result<SocketAddr, Bo
         let goes_on = Arc::clone(&goes_on);
         async move {
             if request.uri().path() == "/slow" {
-                goes_on.acquire().await.expect("it isn't closed").forget();
+                goes_on.acquire_owned().await.expect("it isn't closed").forget();
             }
             Ok::<_, Infallible>(Response::new(Body::from("hello")))
         }

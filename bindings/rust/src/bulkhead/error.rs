@@ -1,22 +1,56 @@
 //! Why there is no permit, and why there is no bulkhead.
+use crate::observer::WaitEnd;
 use crate::texts::error_texts;
 
-/// Why there is no permit. This crate has the two by their own names too.
-#[derive(Debug, Clone, Copy, PartialEq, Eq)]
+/// Why there is no permit. `Full` and `Closed` are names of this crate too. There may be further reasons one day.
+///
+/// A server answers 503 where it is full or closed, and 504 where the call has waited in vain:
+///
+/// ```
+/// use resil::{Bulkhead, NoPermit};
+/// use std::time::Duration;
+///
+/// let status = |refused| match refused {
+///     NoPermit::TimedOut => 504,
+///     _ => 503,
+/// };
+/// let backend = Bulkhead::new("backend", 1)?;
+/// let _permit = backend.enter()?;
+/// assert_eq!(backend.enter().map_err(status).err(), Some(503));
+/// let waits = backend.enter_within(Duration::from_millis(1));
+/// assert_eq!(waits.map_err(status).err(), Some(504));
+/// # Ok::<(), Box<dyn std::error::Error>>(())
+/// ```
+#[derive(Debug, Clone, Copy, PartialEq, Eq, Hash)]
+#[non_exhaustive]
 pub enum NoPermit {
-    /// All permits in use are held.
+    /// All permits in use are held, and the call didn't wait for one.
     Full,
     /// The bulkhead is [closed](crate::Bulkhead::close).
     Closed,
+    /// All permits in use were held until the call's time limit.
+    TimedOut,
 }
 
 error_texts! { NoPermit {
     Full => "the bulkhead is full",
     Closed => "the bulkhead is closed",
+    TimedOut => "the bulkhead had no permit in time",
 }}
 
+// A wait that ended without a permit.
+impl From<WaitEnd> for NoPermit {
+    fn from(end: WaitEnd) -> NoPermit {
+        match end {
+            WaitEnd::TimedOut => NoPermit::TimedOut,
+            WaitEnd::Closed => NoPermit::Closed,
+            _ => NoPermit::Full,
+        }
+    }
+}
+
 /// Why there is no bulkhead or no pass; where more than one holds, the first of these.
-#[derive(Debug, Clone, Copy, PartialEq, Eq)]
+#[derive(Debug, Clone, Copy, PartialEq, Eq, Hash)]
 #[non_exhaustive]
 pub enum BulkheadError {
     /// The name isn't 1 to 64 bytes of ASCII letters, digits, `-`, `_` and `.`.

@@ -1,9 +1,11 @@
 //! What a bulkhead tells its observer, where it has one: who takes a permit and gives it back passes here.
 use super::Bulkhead;
 use super::error::NoPermit;
+use super::runs::Runs;
 use super::seats::{Place, Stamp};
-use crate::observer::Watch;
+use crate::observer::{WaitEnd, Watch};
 use std::mem;
+use std::time::Duration;
 
 impl Bulkhead {
     /// Takes a permit for a call. By the seat of the thread nobody is asked, since no observed bulkhead has such seats.
@@ -75,16 +77,145 @@ impl Bulkhead {
         }
     }
 
+    /// When a wait begins that is to be told; none where nobody is told.
+    pub(super) fn now(&self) -> Option<Duration> {
+        self.observer.as_deref().map(Watch::now)
+    }
+
+    /// Tells how a wait ended that began then, or that wasn't one.
+    pub(super) fn tell_wait(&self, since: Option<Duration>, end: WaitEnd) {
+        if let Some(watch) = &self.observer {
+            let time = since.map(|since| watch.since(since));
+            watch
+                .observer
+                .call_waited(&watch.name, time.unwrap_or_default(), end);
+        }
+    }
+
+    /// Tells how a wait ended, and then that the call has a permit, or that it is refused.
+    #[inline]
+    pub(super) fn told_wait(
+        &self,
+        since: Option<Duration>,
+        acquired: Result<Place, WaitEnd>,
+    ) -> Result<Place, NoPermit> {
+        match &self.observer {
+            None => acquired.map_err(NoPermit::from),
+            Some(watch) => self.tell_all_of_wait(watch, since, acquired),
+        }
+    }
+
+    #[inline(never)]
+    fn tell_all_of_wait(
+        &self,
+        watch: &Watch,
+        since: Option<Duration>,
+        acquired: Result<Place, WaitEnd>,
+    ) -> Result<Place, NoPermit> {
+        // Given back where the observer panics.
+        let held = acquired.map(|place| Held(self, place));
+        self.tell_wait(
+            since,
+            held.as_ref().err().copied().unwrap_or(WaitEnd::Granted),
+        );
+        self.tell(watch, held.map(Held::keep).map_err(NoPermit::from))
+    }
+
+    /// The same of several permits.
+    pub(super) fn told_wait_all(
+        &self,
+        since: Option<Duration>,
+        acquired: Result<Runs, WaitEnd>,
+    ) -> Result<Runs, NoPermit> {
+        let held = acquired.map(|runs| HeldAll(self, runs));
+        self.tell_wait(
+            since,
+            held.as_ref().err().copied().unwrap_or(WaitEnd::Granted),
+        );
+        self.told_all(held.map(HeldAll::keep).map_err(NoPermit::from))
+    }
+
+    /// Tells of each permit that a call has it, or that it is refused. The time of all begins at once.
+    pub(super) fn told_all(&self, acquired: Result<Runs, NoPermit>) -> Result<Runs, NoPermit> {
+        let Some(watch) = &self.observer else {
+            return acquired;
+        };
+        let Ok(runs) = acquired else {
+            watch.observer.call_refused(&watch.name);
+            return acquired;
+        };
+        let now = watch.nanoseconds();
+        let mut untold = HeldAll(self, runs.map(|place| place.at(now)));
+        let mut told = ToldAll(self, Runs::default());
+        while let Some(run) = untold.1.pop(1) {
+            let held = Held(self, run.place);
+            watch.observer.call_permitted(&watch.name);
+            held.keep();
+            told.1.push(run);
+        }
+        Ok(mem::take(&mut told.1))
+    }
+
+    /// Gives the permits of a call back, and tells of each.
+    pub(super) fn give_back_all(&self, runs: Runs) {
+        if runs.count() == 0 {
+            return;
+        }
+        let Some(watch) = &self.observer else {
+            return self.put_back_all(runs);
+        };
+        let now = watch.nanoseconds();
+        let times: Vec<_> = runs
+            .iter()
+            .map(|run| (run.count, now.map(|now| run.place.until(now))))
+            .collect();
+        self.put_back_all(runs);
+        for (count, time) in times {
+            for _ in 0..count {
+                watch
+                    .observer
+                    .call_finished(&watch.name, time.unwrap_or_default());
+            }
+        }
+    }
+
+    /// Tells that a call gave its permit back unused, since it was out of time.
+    pub(super) fn tell_time_out(&self) {
+        if let Some(watch) = &self.observer {
+            watch.observer.call_timed_out(&watch.name);
+        }
+    }
+
     // The time of the call begins once the observer is told.
     #[inline]
     fn permitted(&self, watch: &Watch, place: Place) -> Place {
         let held = Held(self, place);
         watch.observer.call_permitted(&watch.name);
-        let place = held.keep();
-        match (place, watch.nanoseconds()) {
-            (Place::Elsewhere(stamp), Some(now)) => Place::Elsewhere(stamp.at(now)),
-            _ => place,
-        }
+        held.keep().at(watch.nanoseconds())
+    }
+}
+
+/// Permits that are given back where what comes before their keeping panics.
+pub(super) struct HeldAll<'a>(pub(super) &'a Bulkhead, pub(super) Runs);
+
+impl HeldAll<'_> {
+    pub(super) fn keep(mut self) -> Runs {
+        mem::take(&mut self.1)
+    }
+}
+
+impl Drop for HeldAll<'_> {
+    fn drop(&mut self) {
+        self.0.put_back_all(mem::take(&mut self.1));
+    }
+}
+
+/// The same of permits that the observer was told of, which is told that they are given back.
+struct ToldAll<'a>(&'a Bulkhead, Runs);
+
+impl Drop for ToldAll<'_> {
+    fn drop(&mut self) {
+        self.0.give_back_all(mem::take(&mut self.1));
     }
 }
 

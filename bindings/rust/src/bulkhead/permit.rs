@@ -48,6 +48,14 @@ impl OwnedPermit {
         }
     }
 
+    /// Gives the permit back, and tells the bulkhead's observer that its call timed out before it was made. For the crate resil-tower.
+    #[doc(hidden)]
+    pub fn time_out(self) {
+        let bulkhead = Arc::clone(&self.bulkhead);
+        drop(self);
+        bulkhead.tell_time_out();
+    }
+
     /// Drops the permit without giving it back: it is held for good, and the bulkhead isn't kept for it.
     pub fn forget(mut self) {
         if let Some(place) = self.place.take() {

@@ -4,49 +4,113 @@
 //! dropped gives it back. Or it wakes a thread, by turns, which then tries for itself. Where nobody waited it looks again once the
 //! permit is free, and takes one for a task that has come meanwhile. A thread that leaves hands on what else is free, since more
 //! than one permit may have been meant for it.
+//!
+//! Who waits for several has one place in the row. While it is the first there it gathers what is given back, and what is free, but a
+//! [slice](SLICE) of it at a time, so that the gate is held for some microseconds however many it wants: then it is woken, and goes on
+//! by its own polls. Meanwhile its waker isn't there, and nobody else takes what is free for it. So it hands on to those behind it once
+//! it has all or leaves.
 use super::Bulkhead;
-use super::error::NoPermit;
-use super::observed::Held;
-use super::permit::OwnedPermit;
+use super::observed::HeldAll;
+use super::runs::{Run, Runs};
 use super::seats::Place;
 use super::tickets::Tickets;
 use crate::lock::locked;
+use crate::observer::WaitEnd;
 use std::collections::BTreeMap;
-use std::fmt;
+use std::iter;
 use std::mem;
-use std::ops::Range;
 use std::panic::{AssertUnwindSafe, catch_unwind, resume_unwind};
-use std::pin::Pin;
-use std::sync::Arc;
+use std::sync::MutexGuard;
 use std::sync::atomic::Ordering;
-use std::task::{Context, Poll, Waker};
+use std::task::Waker;
+
+/// How many permits are taken or given back under a lock at a time.
+pub(super) const SLICE: u32 = 256;
 
 /// What the gate's lock keeps.
 #[derive(Default)]
 pub(super) struct Row {
-    // By their tickets, so in the order in which they came: who waits for a permit, and who was given one, which is to be fetched.
-    // Who awaits several has as many tickets one after the other, and is woken by the last.
-    waiting: Tickets<Option<Waker>>,
-    given: BTreeMap<u64, Place>,
+    // By their tickets, so in the order in which they came: who waits for permits, and what was given to whom, which is to be fetched.
+    waiting: Tickets<Waiting>,
+    given: BTreeMap<u64, Given>,
     tickets: u64,
     /// The permits that are retired, each where it was held or taken. A thread whose seat has one goes by a spare pass meanwhile.
     pub(super) retired: Vec<Place>,
     /// How many are to be retired as they are given back. They count among what is wanted.
     pub(super) owed: u32,
+    /// How many were owed, and never come back.
+    pub(super) written_off: u32,
     /// How many threads wait.
     pub(super) threads: usize,
     // Whether it is a thread's turn where tasks wait too.
     is_threads_turn: bool,
 }
 
+/// A task in the row.
+pub(super) struct Waiting {
+    // None while it goes on gathering by its own polls.
+    waker: Option<Waker>,
+    // Of one that waits for several.
+    many: Option<Box<Gathered>>,
+}
+
+/// What one that waits for several has so far.
+struct Gathered {
+    missing: u32,
+    runs: Runs,
+}
+
+impl Gathered {
+    fn add(&mut self, run: Run) {
+        self.missing -= run.count;
+        self.runs.push(run);
+    }
+}
+
+/// What was given to a task.
+pub(super) enum Given {
+    One(Place),
+    Many(Runs),
+}
+
+impl Given {
+    /// The permit of one that waits for one.
+    pub(super) fn one(self) -> Option<Place> {
+        match self {
+            Given::One(place) => Some(place),
+            Given::Many(_) => None,
+        }
+    }
+
+    /// All of them.
+    pub(super) fn all(self) -> Runs {
+        match self {
+            Given::Many(runs) => runs,
+            Given::One(place) => {
+                let mut runs = Runs::default();
+                runs.push(Run { place, count: 1 });
+                runs
+            }
+        }
+    }
+}
+
 impl Row {
-    // Has a task stand at the end for so many permits, at least one, and gives its tickets.
-    fn push(&mut self, count: u32, waker: Waker) -> Range<u64> {
-        let first = self.tickets + 1;
-        self.tickets += u64::from(count);
-        (first..self.tickets).for_each(|other| self.waiting.push(other, None));
-        self.waiting.push(self.tickets, Some(waker));
-        first..self.tickets + 1
+    // Has a task stand at the end, and gives its ticket.
+    fn push(&mut self, count: u32, waker: Waker) -> u64 {
+        self.tickets += 1;
+        let gathered = || {
+            Box::new(Gathered {
+                missing: count,
+                runs: Runs::default(),
+            })
+        };
+        let waiting = Waiting {
+            waker: Some(waker),
+            many: (count > 1).then(gathered),
+        };
+        self.waiting.push(self.tickets, waiting);
+        self.tickets
     }
 
     /// How many permits are retired.
@@ -54,10 +118,9 @@ impl Row {
         u32::try_from(self.retired.len()).unwrap_or(u32::MAX)
     }
 
-    /// Has all leave who wait, and gives what wakes them: a ticket that isn't there is of a closed bulkhead.
-    pub(super) fn dismiss(&mut self) -> Vec<Waker> {
-        let all = mem::take(&mut self.waiting);
-        all.into_values().flatten().collect()
+    /// Has all leave who wait: a ticket that isn't there is of a closed bulkhead.
+    pub(super) fn dismiss(&mut self) -> Vec<Waiting> {
+        mem::take(&mut self.waiting).into_values().collect()
     }
 }
 
@@ -76,51 +139,104 @@ pub(super) fn wake_all(wakers: impl IntoIterator<Item = Waker>) {
 }
 
 impl Bulkhead {
-    /// Sees to the next who waits, as a permit was given back. One that waits has the gate from its try to its sleep.
+    /// Gives a permit back while some are wanted.
+    #[cold]
+    pub(super) fn release_wanted(&self, place: Place) {
+        wake_all(self.put_back(place));
+    }
+
+    /// Sees to the next who waits, as a permit was given back.
     #[cold]
     pub(super) fn wake(&self) {
+        wake_all(self.see_to_next());
+    }
+
+    // Gives a permit back while some are wanted, and gives what wakes the task that has it then.
+    fn put_back(&self, place: Place) -> Option<Waker> {
+        match self.pass_on(place) {
+            Ok(waker) => waker,
+            Err(place) => {
+                self.seats.release(place);
+                let is_wanted = self.wanted.load(Ordering::SeqCst) > 0;
+                is_wanted.then(|| self.see_to_next()).flatten()
+            }
+        }
+    }
+
+    // Gives what wakes the next who waits, where it is a task's turn. One that waits has the gate from its try to its sleep.
+    fn see_to_next(&self) -> Option<Waker> {
         let mut row = locked(&self.gate);
         self.pay(&mut row);
         if row.threads > 0 && (row.is_threads_turn || row.waiting.is_empty()) {
             row.is_threads_turn = false;
             drop(row);
             self.freed.notify_one();
-            return;
+            return None;
         }
         row.is_threads_turn = true;
-        let waker = self.hand_on(&mut row);
-        drop(row);
-        wake_all(waker);
+        self.hand_on(&mut row)
     }
 
-    /// Retires a permit where one is owed, or passes it on to the first task, where it is one's turn, and says whether it did.
-    #[cold]
-    pub(super) fn pass_on(&self, place: Place) -> bool {
+    // Retires a permit where one is owed, or passes it on to the first task, where it is one's turn, and gives what wakes that; else it
+    // gives the permit.
+    fn pass_on(&self, place: Place) -> Result<Option<Waker>, Place> {
         let mut row = locked(&self.gate);
         if row.owed > 0 {
             self.cancel(&mut row, 1);
             row.retired.push(place);
-            return true;
+            return Ok(None);
         }
         if row.waiting.is_empty() || row.threads > 0 && row.is_threads_turn {
-            return false;
+            return Err(place);
         }
-        let waker = self.give(&mut row, place);
         row.is_threads_turn = true;
-        drop(row);
-        wake_all(waker);
-        true
+        Ok(self.give(&mut row, Run { place, count: 1 }))
     }
 
-    /// Takes permits for the first task, where there is both, and gives what wakes it once it has all that it awaits.
+    /// Gives permits back, all of them, and then wakes who has them.
+    pub(super) fn put_back_all(&self, mut runs: Runs) {
+        let mut wakers = Vec::new();
+        while let Some(run) = runs.pop(SLICE) {
+            if self.wanted.load(Ordering::SeqCst) > 0 {
+                // Each goes its own way.
+                let one = |_| self.put_back(run.place);
+                wakers.extend((0..run.count).filter_map(one));
+                continue;
+            }
+            self.seats.release_run(run);
+            if self.wanted.load(Ordering::SeqCst) > 0 {
+                wakers.extend(self.hand_on_all(&mut locked(&self.gate)));
+                self.freed.notify_all();
+            }
+        }
+        wake_all(wakers);
+    }
+
+    /// Takes permits that are free for the first task, and gives what wakes it: once it has all that it waits for, or where it is to go
+    /// on by itself.
     pub(super) fn hand_on(&self, row: &mut Row) -> Option<Waker> {
         self.pay(row);
-        let mut waker = None;
-        while waker.is_none() && !row.waiting.is_empty() {
-            let place = self.seats.acquire().ok()?;
-            waker = self.give(row, place);
+        let (_, first) = row.waiting.first_mut()?;
+        let run = match &first.many {
+            None => {
+                let place = self.seats.acquire().ok()?;
+                Run { place, count: 1 }
+            }
+            Some(_) if first.waker.is_none() => return None,
+            Some(many) => self.seats.acquire_run(many.missing.min(SLICE))?,
+        };
+        let waker = self.give(row, run);
+        if waker.is_none() && run.count == SLICE {
+            // There may be more.
+            let (_, first) = row.waiting.first_mut()?;
+            return first.waker.take();
         }
         waker
+    }
+
+    /// Hands on what is free to those tasks that it is enough for.
+    pub(super) fn hand_on_all(&self, row: &mut Row) -> Vec<Waker> {
+        iter::from_fn(|| self.hand_on(row)).collect()
     }
 
     /// How many threads and tasks wait.
@@ -128,103 +244,66 @@ impl Bulkhead {
         self.wanted.load(Ordering::SeqCst) - row.owed as usize
     }
 
-    // Gives a permit to the first task that waits, and gives what wakes it where it has all that it awaits.
-    fn give(&self, row: &mut Row, place: Place) -> Option<Waker> {
-        let (ticket, waker) = row.waiting.pop_first()?;
-        row.given.insert(ticket, place);
-        let is_last = usize::from(waker.is_some());
-        self.wanted.fetch_sub(is_last, Ordering::SeqCst);
-        waker
-    }
-
-    // Takes a permit where nobody waits, or has a task stand at the end of the row. Nobody overtakes the tasks that stand there.
-    #[inline]
-    fn ask(
-        &self,
-        tickets: &mut Range<u64>,
-        waker: &Waker,
-        most_waiting: usize,
-    ) -> Result<Option<Place>, NoPermit> {
-        if self.is_closed() {
-            return Err(NoPermit::Closed);
-        }
-        if self.wanted.load(Ordering::SeqCst) == 0 {
-            if let Ok(place) = self.seats.acquire() {
-                return Ok(Some(place));
+    // Gives permits to the first task, not more than it waits for, and gives what wakes it where it has all.
+    fn give(&self, row: &mut Row, run: Run) -> Option<Waker> {
+        let (_, first) = row.waiting.first_mut()?;
+        if let Some(many) = &mut first.many {
+            many.add(run);
+            if many.missing > 0 {
+                return None;
             }
         }
-        if self.stand(tickets, 1, waker, most_waiting)? {
-            return self.fetch(tickets.start, waker);
-        }
-        Ok(None)
+        let (ticket, first) = row.waiting.pop_first()?;
+        let given = match first.many {
+            None => Given::One(run.place),
+            Some(many) => Given::Many(many.runs),
+        };
+        row.given.insert(ticket, given);
+        self.wanted.fetch_sub(1, Ordering::SeqCst);
+        first.waker
     }
 
-    /// Has a task stand in the row for so many permits, unless too many do, and says whether it has been given all, as the first may be.
+    /// Has a task stand in the row for so many permits, at least one, unless too many do, and gives these where it has all, as the first
+    /// may. Nobody overtakes the tasks that stand there.
     pub(super) fn stand(
         &self,
-        tickets: &mut Range<u64>,
+        ticket: &mut Option<u64>,
         count: u32,
         waker: &Waker,
         most_waiting: usize,
-    ) -> Result<bool, NoPermit> {
+    ) -> Result<Option<Given>, WaitEnd> {
         // Wakers are made and dropped outside of the lock.
         let waker = waker.clone();
         let mut row = locked(&self.gate);
         if self.is_closed() {
-            return Err(NoPermit::Closed);
+            return Err(WaitEnd::Closed);
         }
         if count > self.max {
-            return Err(NoPermit::Full);
+            return Err(WaitEnd::Full);
         }
-        if count == 0 {
-            return Ok(true);
-        }
-        self.wanted.fetch_add(1, Ordering::SeqCst);
+        let is_full = self.waiting(&row) >= most_waiting;
         let is_first = row.waiting.is_empty();
-        *tickets = row.push(count, waker);
-        let mut own = None;
-        if is_first {
-            own = self.hand_on(&mut row);
-        }
-        let has_all = own.is_some();
-        let is_full = !has_all && self.waiting(&row) > most_waiting;
-        if is_full {
-            own = self.remove(&mut row, mem::take(tickets));
-        }
+        self.wanted.fetch_add(1, Ordering::SeqCst);
+        let own = row.push(count, waker);
+        *ticket = Some(own);
+        let woken = is_first.then(|| self.hand_on(&mut row)).flatten();
+        let given = row.given.remove(&own);
         drop(row);
-        drop(own);
+        if given.is_some() {
+            return Ok(given);
+        }
         if is_full {
-            Err(NoPermit::Full)
-        } else {
-            Ok(has_all)
+            drop(woken);
+            self.leave(own);
+            *ticket = None;
+            return Err(WaitEnd::QueueFull);
         }
+        wake_all(woken);
+        Ok(None)
     }
 
-    /// Has a task stand in the row for so many permits, and fetches them once it was given all; else this waker wakes it from here on.
-    pub(super) fn fetch_many(
-        &self,
-        tickets: &mut Range<u64>,
-        count: u32,
-        waker: &Waker,
-    ) -> Result<Option<Vec<Held<'_>>>, NoPermit> {
-        if tickets.is_empty() && !self.stand(tickets, count, waker, usize::MAX)? {
-            return Ok(None);
-        }
-        let Some(last) = tickets.clone().last() else {
-            return Ok(Some(Vec::new()));
-        };
-        let Some(fetched) = self.fetch(last, waker).transpose() else {
-            return Ok(None);
-        };
-        let last = fetched.map(|place| Held(self, place));
-        // Of a closed bulkhead they are given back.
-        let mut held = self.fetch_given(tickets.clone());
-        held.push(last?);
-        Ok(Some(held))
-    }
-
-    // Fetches the permit that was given to a task; else this waker wakes it from here on.
-    fn fetch(&self, ticket: u64, waker: &Waker) -> Result<Option<Place>, NoPermit> {
+    /// Fetches what was given to a task, all that it waits for; else this waker wakes it from here on.
+    pub(super) fn fetch(&self, ticket: u64, waker: &Waker) -> Result<Option<Given>, WaitEnd> {
         // As above.
         let mut new = None;
         loop {
@@ -233,133 +312,71 @@ impl Bulkhead {
             if given.is_some() {
                 return Ok(given);
             }
-            let Some(Some(old)) = row.waiting.get_mut(ticket) else {
-                return Err(NoPermit::Closed);
+            let Some(own) = row.waiting.get_mut(ticket) else {
+                return Err(WaitEnd::Closed);
             };
-            if old.will_wake(waker) {
+            if own.waker.as_ref().is_some_and(|old| old.will_wake(waker)) {
                 return Ok(None);
             }
-            if let Some(new) = &mut new {
-                mem::swap(old, new);
-                return Ok(None);
+            if new.is_some() {
+                mem::swap(&mut own.waker, &mut new);
+                if new.is_some() {
+                    return Ok(None);
+                }
+                return Ok(self.go_on(row, ticket));
             }
             drop(row);
             new = Some(waker.clone());
         }
     }
 
-    // Fetches the permits that were given to these tickets.
-    fn fetch_given(&self, tickets: Range<u64>) -> Vec<Held<'_>> {
+    // Gathers more for the first task, which does so by itself, and gives all once it has all. What is left is for those behind it.
+    fn go_on(&self, mut row: MutexGuard<'_, Row>, ticket: u64) -> Option<Given> {
+        let own = self.hand_on(&mut row);
+        let given = row.given.remove(&ticket);
+        let Some(given) = given else {
+            drop(row);
+            wake_all(own);
+            return None;
+        };
+        let behind = self.hand_on_all(&mut row);
+        drop(row);
+        // Given back where a waker panics.
+        let held = HeldAll(self, given.all());
+        wake_all(behind);
+        Some(Given::Many(held.keep()))
+    }
+
+    /// Leaves the row, and gives back what was given to this ticket.
+    pub(super) fn leave(&self, ticket: u64) {
         let mut row = locked(&self.gate);
-        let given = tickets.filter_map(|ticket| row.given.remove(&ticket));
-        given.map(|place| Held(self, place)).collect()
-    }
-
-    /// Leaves the row with these tickets. What was given to them meanwhile is given back.
-    #[inline]
-    pub(super) fn leave(&self, tickets: Range<u64>) {
-        if !tickets.is_empty() {
-            self.leave_row(tickets);
+        let gone = row.waiting.remove(ticket);
+        let given = row.given.remove(&ticket);
+        self.wanted
+            .fetch_sub(usize::from(gone.is_some()), Ordering::SeqCst);
+        drop(row);
+        match given {
+            Some(Given::One(place)) => self.release(place),
+            Some(Given::Many(runs)) => self.put_back_all(runs),
+            None => {}
+        }
+        if let Some(many) = gone.and_then(|gone| gone.many) {
+            self.put_back_all(many.runs);
+            // It may have left what is free.
+            let woken = self.hand_on_all(&mut locked(&self.gate));
+            wake_all(woken);
         }
     }
 
-    fn leave_row(&self, tickets: Range<u64>) {
-        let waker = self.remove(&mut locked(&self.gate), tickets.clone());
-        drop(self.fetch_given(tickets));
-        drop(waker);
-    }
-
-    // Removes who waits by these tickets, and gives its waker.
-    fn remove(&self, row: &mut Row, tickets: Range<u64>) -> Option<Waker> {
-        let remove = |ticket| row.waiting.remove(ticket).flatten();
-        let waker = tickets.filter_map(remove).last();
-        let is_there = usize::from(waker.is_some());
-        self.wanted.fetch_sub(is_there, Ordering::SeqCst);
-        waker
-    }
-}
-
-/// A permit that is awaited, or why there is none. [`Bulkhead::acquire`] makes it.
-///
-/// It may be dropped at any time: it leaves the row, and a permit that it was given goes to the next.
-#[must_use = "a future that isn't polled does nothing"]
-pub struct Acquire {
-    // None once it was ready.
-    pub(super) bulkhead: Option<Arc<Bulkhead>>,
-    // Of its places in the row: none before the first poll, and once it is ready.
-    pub(super) tickets: Range<u64>,
-    most_waiting: usize,
-}
-
-impl Acquire {
-    #[inline]
-    pub(super) fn new(bulkhead: Arc<Bulkhead>) -> Acquire {
-        Acquire {
-            bulkhead: Some(bulkhead),
-            tickets: 0..0,
-            most_waiting: usize::MAX,
+    /// Dismisses all who wait for permits of a bulkhead that is closed: gives back what they have gathered, and wakes them.
+    pub(super) fn dismiss(&self, dismissed: Vec<Waiting>) {
+        let mut wakers = Vec::new();
+        for Waiting { waker, many } in dismissed {
+            wakers.extend(waker);
+            if let Some(many) = many {
+                self.put_back_all(many.runs);
+            }
         }
-    }
-
-    /// The same, which doesn't wait where so many calls wait already, threads among them: then it is refused at once, by `Full`.
-    pub fn most_waiting(mut self, most: usize) -> Acquire {
-        self.most_waiting = most;
-        self
-    }
-
-    /// Leaves the row as a drop does, and tells the bulkhead's observer that a call was refused, by `Full`.
-    pub fn give_up(&mut self) -> NoPermit {
-        if let Some(own) = self.bulkhead.take() {
-            own.leave(mem::take(&mut self.tickets));
-            let _told = own.told(Err(NoPermit::Full));
-        }
-        NoPermit::Full
-    }
-}
-
-impl Future for Acquire {
-    type Output = Result<OwnedPermit, NoPermit>;
-
-    /// # Panics
-    ///
-    /// Where it is polled once more after it was ready.
-    #[inline]
-    fn poll(mut self: Pin<&mut Self>, context: &mut Context<'_>) -> Poll<Self::Output> {
-        let Acquire {
-            bulkhead,
-            tickets,
-            most_waiting,
-        } = &mut *self;
-        let own = bulkhead.as_ref();
-        let own = own.expect("a permit was awaited after it was there");
-        let asked = if tickets.is_empty() {
-            own.ask(tickets, context.waker(), *most_waiting)
-        } else {
-            own.fetch(tickets.start, context.waker())
-        };
-        let Some(asked) = asked.transpose() else {
-            return Poll::Pending;
-        };
-        *tickets = 0..0;
-        let asked = own.told(asked);
-        let own = bulkhead.take().expect("it is there until here");
-        Poll::Ready(asked.map(|place| OwnedPermit::new(own, place)))
-    }
-}
-
-impl Drop for Acquire {
-    #[inline]
-    fn drop(&mut self) {
-        if let Some(bulkhead) = &self.bulkhead {
-            bulkhead.leave(mem::take(&mut self.tickets));
-        }
-    }
-}
-
-impl fmt::Debug for Acquire {
-    fn fmt(&self, f: &mut fmt::Formatter<'_>) -> fmt::Result {
-        f.debug_struct("Acquire")
-            .field("bulkhead", &self.bulkhead)
-            .finish_non_exhaustive()
+        wake_all(wakers);
     }
 }

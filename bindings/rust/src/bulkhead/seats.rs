@@ -7,6 +7,7 @@
 //!
 //! An observed bulkhead has its seats apart, so that one that isn't observed doesn't ask whether it is.
 use super::error::{BulkheadError, NoPermit};
+use super::runs::{Run, Runs};
 use crate::lock::locked;
 use crate::pass::Pass;
 use crate::thread_number::{self, MOST_PLACES, PLACES};
@@ -78,14 +79,32 @@ impl Seat {
 }
 
 /// Where a permit is held.
-#[derive(Debug, Clone, Copy)]
+#[derive(Debug, Clone, Copy, PartialEq, Eq)]
 pub(super) enum Place {
     Seat(usize),
     Elsewhere(Stamp),
 }
 
+impl Place {
+    /// The same place, with this time where it has room for it and times are wanted.
+    pub(super) fn at(self, now: Option<u64>) -> Place {
+        match (self, now) {
+            (Place::Elsewhere(stamp), Some(now)) => Place::Elsewhere(stamp.at(now)),
+            _ => self,
+        }
+    }
+
+    /// How long before this time the permit was taken, where that is known.
+    pub(super) fn until(self, now: u64) -> Duration {
+        match self {
+            Place::Elsewhere(stamp) => stamp.until(now),
+            Place::Seat(_) => Duration::ZERO,
+        }
+    }
+}
+
 /// A seat of an observed bulkhead or, by the numbers behind those, a spare pass; and when the permit was taken, of an observed one.
-#[derive(Debug, Clone, Copy)]
+#[derive(Debug, Clone, Copy, PartialEq, Eq)]
 pub(super) struct Stamp(u64);
 
 impl Stamp {
@@ -209,6 +228,33 @@ impl Seats {
         Ok(Place::Elsewhere(Stamp::new(MOST_PLACES + index)))
     }
 
+    /// Takes at most so many permits by a spare pass, under its lock, as long as there is one; at least one.
+    pub(super) fn acquire_run(&self, most: u32) -> Option<Run> {
+        let index = thread_number::current() % self.spare.len();
+        let mut pass = self.spare(index);
+        let count = (0..most).take_while(|_| pass.acquire().is_ok()).count();
+        let count = u32::try_from(count).ok().filter(|count| *count > 0)?;
+        let place = Place::Elsewhere(Stamp::new(MOST_PLACES + index));
+        Some(Run { place, count })
+    }
+
+    /// Gives the permits of a run back, as one, but at once.
+    pub(super) fn release_run(&self, run: Run) {
+        let stamp = match run.place {
+            Place::Elsewhere(stamp) => stamp.place().checked_sub(MOST_PLACES),
+            Place::Seat(_) => None,
+        };
+        let Some(index) = stamp else {
+            // A seat holds one.
+            return self.release(run.place);
+        };
+        let mut pass = self.spare(index);
+        for _ in 0..run.count {
+            let given = pass.release();
+            debug_assert!(given);
+        }
+    }
+
     /// Gives a permit back. It was acquired, and is given back once.
     #[inline]
     pub(super) fn release(&self, place: Place) {
@@ -220,6 +266,13 @@ impl Seats {
     pub(super) fn forget(&self, place: Place) {
         let had = self.give_up(place, Pass::keep_back);
         debug_assert!(had);
+    }
+
+    /// Keeps permits back for good.
+    pub(super) fn forget_all(&self, runs: &Runs) {
+        for run in runs.iter() {
+            (0..run.count).for_each(|_| self.forget(run.place));
+        }
     }
 
     #[inline]

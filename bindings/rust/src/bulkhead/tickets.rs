@@ -5,11 +5,19 @@ use std::collections::VecDeque;
 ///
 /// What is taken out of the middle leaves a gap. Once gaps are most of it they are closed, so that a removal takes as long however many
 /// there are, but for a search; and the memory of what is gone comes back.
-#[derive(Default)]
 pub(super) struct Tickets<T> {
     // None in a gap. The first isn't one.
     entries: VecDeque<(u64, Option<T>)>,
     gaps: usize,
+}
+
+impl<T> Default for Tickets<T> {
+    fn default() -> Tickets<T> {
+        Tickets {
+            entries: VecDeque::new(),
+            gaps: 0,
+        }
+    }
 }
 
 impl<T> Tickets<T> {
@@ -29,6 +37,11 @@ impl<T> Tickets<T> {
         let (ticket, value) = self.entries.pop_front()?;
         self.close_gaps();
         Some((ticket, value?))
+    }
+
+    pub(super) fn first_mut(&mut self) -> Option<(u64, &mut T)> {
+        let (ticket, value) = self.entries.front_mut()?;
+        Some((*ticket, value.as_mut()?))
     }
 
     pub(super) fn get_mut(&mut self, ticket: u64) -> Option<&mut T> {

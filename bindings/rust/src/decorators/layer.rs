@@ -9,6 +9,10 @@ use std::time::Duration;
 ///
 /// `Arguments` are those of the function: `()`, or `(T,)` of one that is called with a `T`. This crate alone has such types. A
 /// function that takes or gives a chain says by this trait what the chain gives:
+#[diagnostic::on_unimplemented(
+    message = "a chain goes round a function that gives a `Result`, with one argument or none",
+    note = "an async function goes into `Decorators::of_async`, or is called by `Bulkhead::call_async` or `Retry::call_async`"
+)]
 pub trait Layer<Arguments = ()>: Sealed {
     /// What a call gives.
     type Value;

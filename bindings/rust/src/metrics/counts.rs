@@ -1,6 +1,6 @@
 //! What is counted of one bulkhead, retry or pool.
 use super::page::Page;
-use crate::observer::Observer;
+use crate::observer::{Observer, WaitEnd};
 use crate::rule::Reply;
 use crate::thread_number;
 use crate::thread_pool::Refusal;
@@ -102,8 +102,39 @@ pub(super) struct Calls {
 struct CallCounts {
     permitted: Counter,
     refused: Counter,
+    timed_out: Counter,
     times: Histogram,
+    waits: Histogram,
+    granted: Counter,
+    full: Counter,
+    queue_full: Counter,
+    waited_in_vain: Counter,
+    closed: Counter,
+    abandoned: Counter,
 }
+
+impl CallCounts {
+    fn ends(&self, end: WaitEnd) -> &Counter {
+        match end {
+            WaitEnd::Granted => &self.granted,
+            WaitEnd::Full => &self.full,
+            WaitEnd::QueueFull => &self.queue_full,
+            WaitEnd::TimedOut => &self.waited_in_vain,
+            WaitEnd::Closed => &self.closed,
+            WaitEnd::Abandoned => &self.abandoned,
+        }
+    }
+}
+
+/// How waits end, by the names that they have in the text.
+const WAIT_ENDS: [(WaitEnd, &str); 6] = [
+    (WaitEnd::Abandoned, "abandoned"),
+    (WaitEnd::Closed, "closed"),
+    (WaitEnd::Full, "full"),
+    (WaitEnd::Granted, "granted"),
+    (WaitEnd::QueueFull, "queue_full"),
+    (WaitEnd::TimedOut, "timed_out"),
+];
 
 impl Calls {
     pub(super) fn new(is_timed: bool) -> Calls {
@@ -128,8 +159,12 @@ impl Calls {
         self.places.iter().chain([&self.shared])
     }
 
-    fn sum(&self, of: fn(&CallCounts) -> &Counter) -> u64 {
+    fn sum(&self, of: impl Fn(&CallCounts) -> &Counter) -> u64 {
         self.all().map(|counts| of(counts).get()).sum()
+    }
+
+    fn lengths(&self, of: fn(&CallCounts) -> &Histogram) -> Option<Lengths> {
+        self.is_timed.then(|| self.all().map(of).sum())
     }
 
     pub(super) fn write(page: &mut Page, all: &BTreeMap<String, Arc<Calls>>) {
@@ -143,13 +178,28 @@ impl Calls {
                 ]
             },
         );
+        page.numbers(
+            "counter",
+            "resil_bulkhead_timed_out_calls_total The number of calls that gave their permit back unused, since they were out of time",
+            all,
+            |calls| calls.sum(|counts| &counts.timed_out),
+        );
+        page.counters(
+            "resil_bulkhead_waits_total The number of calls that were ready to wait for a permit, by how that ended",
+            all,
+            |calls| {
+                WAIT_ENDS.map(|(end, kind)| (kind, calls.sum(|counts| counts.ends(end))))
+            },
+        );
+        page.histograms(
+            "resil_bulkhead_wait_seconds How long these calls waited, whatever the end",
+            all,
+            |calls| calls.lengths(|counts| &counts.waits),
+        );
         page.histograms(
             "resil_bulkhead_call_seconds How long permits were held",
             all,
-            |calls| {
-                let times = calls.all().map(|counts| &counts.times);
-                calls.is_timed.then(|| times.sum())
-            },
+            |calls| calls.lengths(|counts| &counts.times),
         );
     }
 }
@@ -167,6 +217,19 @@ impl Observer for Calls {
     fn call_refused(&self, _bulkhead: &str) {
         let (own, is_alone) = self.own();
         own.refused.add(1, is_alone);
+    }
+
+    fn call_waited(&self, _bulkhead: &str, time: Duration, end: WaitEnd) {
+        let (own, is_alone) = self.own();
+        own.ends(end).add(1, is_alone);
+        if self.is_timed {
+            own.waits.add(time, is_alone);
+        }
+    }
+
+    fn call_timed_out(&self, _bulkhead: &str) {
+        let (own, is_alone) = self.own();
+        own.timed_out.add(1, is_alone);
     }
 
     fn call_finished(&self, _bulkhead: &str, time: Duration) {

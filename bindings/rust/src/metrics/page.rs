@@ -150,7 +150,10 @@ pub(super) fn write_bulkheads(page: &mut Page, bulkheads: &[Arc<Bulkhead>]) {
         let numbers = bulkhead.numbers();
         let gauges = [
             numbers.available.into(),
-            numbers.max.saturating_sub(numbers.retired).into(),
+            (numbers
+                .max
+                .saturating_sub(numbers.retired + numbers.written_off))
+            .into(),
             numbers.retired.into(),
             numbers.owed.into(),
             numbers.waiting as u64,

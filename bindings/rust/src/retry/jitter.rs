@@ -2,6 +2,7 @@
 use crate::interval::milliseconds;
 use std::collections::hash_map::RandomState;
 use std::hash::{BuildHasher, Hasher};
+use std::sync::Arc;
 use std::sync::atomic::{AtomicU64, Ordering};
 use std::time::Duration;
 
@@ -9,15 +10,16 @@ use std::time::Duration;
 // grows by the odd part of the golden ratio, and is mixed. So threads need no lock to draw.
 const STEP: u64 = 0x9e37_79b9_7f4a_7c15;
 
-#[derive(Debug)]
+// Clones draw on one stream: two that drew the same numbers would wait in step.
+#[derive(Debug, Clone)]
 pub(super) struct Jitter {
-    state: AtomicU64,
+    state: Arc<AtomicU64>,
 }
 
 impl Jitter {
     pub(super) fn new(seed: u64) -> Jitter {
         Jitter {
-            state: AtomicU64::new(seed),
+            state: Arc::new(AtomicU64::new(seed)),
         }
     }
 

@@ -4,7 +4,7 @@ use crate::interval::Interval;
 use crate::observer::Watch;
 use std::time::{Duration, Instant};
 
-#[derive(Debug)]
+#[derive(Debug, Clone)]
 pub(super) struct Plan {
     pub(super) attempts: u32,
     pub(super) interval: Interval,
@@ -13,7 +13,7 @@ pub(super) struct Plan {
     more: Option<Box<More>>,
 }
 
-#[derive(Debug, Default)]
+#[derive(Debug, Clone, Default)]
 struct More {
     limit: Option<Duration>,
     observer: Option<Watch>,

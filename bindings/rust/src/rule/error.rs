@@ -2,7 +2,7 @@
 use crate::texts::error_texts;
 
 /// Why a pool wasn't made, or a call of it was refused; where more than one holds, the first of these. Nothing was changed.
-#[derive(Debug, Clone, Copy, PartialEq, Eq)]
+#[derive(Debug, Clone, Copy, PartialEq, Eq, Hash)]
 #[non_exhaustive]
 pub enum PoolError {
     /// The pool's name has a byte 0, which no thread's name may have.

@@ -11,7 +11,8 @@ pub struct JobId {
 }
 
 /// The answer to a submission.
-#[derive(Debug, Clone, Copy, PartialEq, Eq)]
+#[derive(Debug, Clone, Copy, PartialEq, Eq, Hash)]
+#[non_exhaustive]
 pub enum Reply {
     /// Accepted: a worker is started for it, since there were fewer than the core size.
     Core,
@@ -40,7 +41,7 @@ impl Reply {
 }
 
 /// Where a picked job comes from.
-#[derive(Debug, Clone, Copy, PartialEq, Eq)]
+#[derive(Debug, Clone, Copy, PartialEq, Eq, Hash)]
 pub enum Origin {
     /// It has had a worker of its own since its submission.
     OwnStart,
@@ -49,7 +50,7 @@ pub enum Origin {
 }
 
 /// A job that was picked, by which it is finished.
-#[derive(Debug, Clone, Copy, PartialEq, Eq)]
+#[derive(Debug, Clone, Copy, PartialEq, Eq, Hash)]
 pub struct Picked {
     /// Its name.
     pub id: JobId,
@@ -76,7 +77,8 @@ impl Picked {
 }
 
 /// One event of a pool: what happened at one call.
-#[derive(Debug, Clone, Copy, PartialEq, Eq)]
+#[derive(Debug, Clone, Copy, PartialEq, Eq, Hash)]
+#[non_exhaustive]
 pub enum Event {
     /// A submission and its answer.
     Submit(JobId, Reply),
@@ -119,7 +121,7 @@ impl Event {
 }
 
 /// The numbers of a pool, all of one moment: `accepted = running + waiting + finished`.
-#[derive(Debug, Clone, Copy, PartialEq, Eq)]
+#[derive(Debug, Clone, Copy, PartialEq, Eq, Hash)]
 pub struct PoolNumbers {
     /// The core size now, in workers.
     pub core: u32,

@@ -3,6 +3,7 @@
 //!
 //! By the rule a worker that is idle may pick whatever waits. Where the sizes were lowered there may be more workers than
 //! the greatest size; a thread doesn't pick then while as many jobs run as the greatest size, and holds back.
+use super::inbox::{Inbox, Ring};
 use super::inside::Caller;
 use super::joins::{Joins, Threads};
 use super::task::Work;
@@ -29,6 +30,9 @@ struct Queued {
 
 pub(super) struct Book {
     rule: RecordedRule,
+    // What is submitted without the lock, and whether nothing is.
+    pub(super) inbox: Inbox,
+    by_lock: bool,
     submitted: u64,
     // The jobs that wait in the rule's queue, and how many more are in there that were given back.
     queue: VecDeque<Queued>,
@@ -36,9 +40,12 @@ pub(super) struct Book {
     // Jobs that were picked for threads that are about to start, and those of them whose thread couldn't be started.
     firsts: VecDeque<Job>,
     orphans: VecDeque<Job>,
-    // How many jobs have a worker of the rule, and how many may at most.
-    running: usize,
+    /// How many jobs have a worker of the rule.
+    pub(super) running: usize,
+    // The sizes, of which the greatest bounds how many jobs run.
+    core: usize,
     max: usize,
+    capacity: usize,
     pub(super) closed: bool,
     /// How many threads were started, or should have been.
     pub(super) started: u64,
@@ -71,18 +78,23 @@ fn room<T>(count: usize) -> Result<VecDeque<T>, PoolError> {
 }
 
 impl Book {
-    pub(super) fn new(mut rule: RecordedRule) -> Result<Book, PoolError> {
-        let PoolNumbers { max, capacity, .. } = rule.numbers();
-        let max = max as usize;
+    pub(super) fn new(mut rule: RecordedRule, by_lock: bool) -> Result<Book, PoolError> {
+        let numbers = rule.numbers();
+        let sizes = [numbers.core, numbers.max, numbers.capacity];
+        let [core, max, capacity] = sizes.map(|size| size as usize);
+        let ring = Ring::new(0)?;
         Ok(Book {
             rule,
+            by_lock,
             submitted: 0,
-            queue: room(capacity as usize)?,
+            queue: room(capacity)?,
             given_back: 0,
             firsts: room(max)?,
             orphans: room(max)?,
             running: 0,
+            core,
             max,
+            capacity,
             closed: false,
             started: 0,
             threads: 0,
@@ -95,6 +107,8 @@ impl Book {
             joins: Joins::default(),
             handles: room(max)?.into(),
             early: Vec::new(),
+            // It takes memory that can't be refused, so it comes last.
+            inbox: Inbox::new(ring),
         })
     }
 
@@ -112,6 +126,50 @@ impl Book {
     /// Submits a worker's share of a task, by its number. Where a thread is to start for it, it is picked as the first job of
     /// that thread.
     pub(super) fn submit(&mut self, work: u64) -> Reply {
+        self.end_grant();
+        let reply = self.submit_by_rule(work);
+        self.grant();
+        reply
+    }
+
+    // Lets no more be submitted without the lock, and tells the rule what was: whatever changes its replies comes after this.
+    fn end_grant(&mut self) {
+        self.inbox.take_back_grant();
+        self.tell_rule();
+    }
+
+    // Lets as many be submitted without the lock as the rule will queue.
+    fn grant(&mut self) {
+        let has_core = self.missing == 0 && self.threads >= self.core;
+        if has_core && !self.closed && !self.by_lock {
+            self.inbox.grant(self.capacity - self.queue.len());
+        }
+    }
+
+    // Tells the rule what was submitted without the lock, as far as that is known.
+    fn tell_rule(&mut self) {
+        while let Some(work) = self.inbox.pop() {
+            let reply = self.submit_by_rule(work);
+            assert_eq!(reply, Reply::Queued, "as was granted");
+        }
+    }
+
+    // Tells the rule all that was submitted without the lock up to here.
+    fn catch_up(&mut self) {
+        self.inbox.look();
+        self.take_in();
+    }
+
+    // The same as far as it is known, and then grants more.
+    fn take_in(&mut self) {
+        let before = self.submitted;
+        self.tell_rule();
+        if self.submitted > before {
+            self.grant();
+        }
+    }
+
+    fn submit_by_rule(&mut self, work: u64) -> Reply {
         self.submitted += 1;
         let number = self.submitted;
         let id = JobId {
@@ -133,13 +191,20 @@ impl Book {
         reply
     }
 
+    /// Takes down that nobody searches any more.
+    pub(super) fn end_search(&mut self) {
+        self.searching = false;
+        self.set_calls();
+    }
+
     /// The first job of a thread that starts.
     pub(super) fn first(&mut self) -> Option<Job> {
         self.firsts.pop_front()
     }
 
-    /// Takes down that a thread couldn't be started, whose first job is one for any.
+    /// Takes down that a thread couldn't be started, whose first job is one for any. The next submission tries again.
     pub(super) fn do_without(&mut self) {
+        self.end_grant();
         self.threads -= 1;
         self.missing += 1;
         let first = self.firsts.pop_back();
@@ -153,7 +218,7 @@ impl Book {
         if let Some(orphan) = self.orphans.pop_front() {
             return Some(orphan);
         }
-        if self.can_pick() {
+        if self.has_work() {
             let picked = self.pick_by_rule();
             if picked.is_some() {
                 self.running += 1;
@@ -164,18 +229,33 @@ impl Book {
     }
 
     /// Whether there is a job to pick, for a thread that has none.
-    pub(super) fn can_pick(&self) -> bool {
+    #[inline]
+    pub(super) fn has_work(&mut self) -> bool {
         !self.orphans.is_empty() || (self.waits() && self.running < self.max)
     }
 
     /// Whether a job waits that isn't to be picked now, since as many run as the greatest size.
-    pub(super) fn holds_back(&self) -> bool {
-        self.waits() && !self.can_pick()
+    pub(super) fn holds_back(&mut self) -> bool {
+        self.waits() && !self.has_work()
     }
 
     /// Whether a job waits in the queue.
-    pub(super) fn waits(&self) -> bool {
+    #[inline]
+    pub(super) fn waits(&mut self) -> bool {
+        if self.queue.is_empty() {
+            if self.inbox.is_empty() {
+                self.inbox.look();
+            }
+            self.take_in();
+        }
         !self.queue.is_empty()
+    }
+
+    /// Takes down whether a submission calls a thread that sleeps, now that one searches or sleeps which didn't, or the other way round.
+    /// What was submitted before a thread says that it sleeps may call nobody, so it looks for a job once more after this.
+    pub(super) fn set_calls(&mut self) {
+        let calls = self.asleep > 0 && self.called == 0 && !self.searching;
+        self.inbox.set_calls(calls);
     }
 
     fn pick_by_rule(&mut self) -> Option<Job> {
@@ -196,6 +276,20 @@ impl Book {
         self.finish_by_rule(picked);
         self.running -= 1;
         self.joins.count(picked.id.number);
+    }
+
+    /// Finishes the job of this number, which was picked at this place.
+    pub(super) fn finish_at(&mut self, place: u32, number: u64) {
+        let id = JobId {
+            caller: CALLER,
+            number,
+        };
+        self.finish(&Picked {
+            id,
+            work: 0,
+            place,
+            origin: Origin::Queue,
+        });
     }
 
     fn finish_by_rule(&mut self, picked: &Picked) {
@@ -234,12 +328,14 @@ impl Book {
     }
 
     pub(super) fn resize(&mut self, core: u32, max: u32) -> Result<(), PoolError> {
+        self.end_grant();
         self.rule.resize(core, max)?;
-        self.max = max as usize;
+        (self.core, self.max) = (core as usize, max as usize);
         Ok(())
     }
 
     pub(super) fn close(&mut self) {
+        self.end_grant();
         self.rule.close();
         self.closed = true;
         self.end_missing();
@@ -247,6 +343,7 @@ impl Book {
 
     /// The numbers, in which a job that was given back is finished.
     pub(super) fn numbers(&mut self) -> PoolNumbers {
+        self.catch_up();
         let numbers = self.rule.numbers();
         PoolNumbers {
             waiting: numbers.waiting - self.given_back,
@@ -257,12 +354,12 @@ impl Book {
 
     /// Whether the rule lets an idle worker end after a while: where it is above the core size and nothing waits.
     pub(super) fn is_above_core(&mut self) -> bool {
-        let numbers = self.numbers();
-        numbers.workers > numbers.core && !self.waits()
+        self.threads + self.missing > self.core && !self.waits()
     }
 
     /// Ends an idle worker where the rule lets one end, one without a thread first; whether this thread ends.
     pub(super) fn ends_idle(&mut self) -> bool {
+        self.catch_up();
         while self.rule.idle_end() {
             if self.missing == 0 {
                 return true;
@@ -293,6 +390,7 @@ impl Book {
         if sleeps {
             self.asleep -= 1;
             self.called += 1;
+            self.set_calls();
         }
         sleeps
     }
@@ -339,6 +437,7 @@ impl Book {
 
     /// Begins to join, and gives the id of this join.
     pub(super) fn begin_join(&mut self, caller: Caller) -> u64 {
+        self.catch_up();
         let left = self.running + self.queue.len();
         self.joins.begin(caller, self.submitted, left)
     }

@@ -20,7 +20,7 @@ pub struct ThreadPoolBuilder {
     core: u32,
     max: u32,
     queue: u32,
-    kind: Kind,
+    pub(super) kind: Kind,
     record: Option<u32>,
     observer: Option<Arc<dyn Observer>>,
 }
@@ -36,6 +36,7 @@ impl ThreadPoolBuilder {
                 keep_alive: KEEP_ALIVE,
                 stack_size: None,
                 start: |builder, work| builder.spawn(work),
+                by_lock: false,
             },
             record: None,
             observer: None,
@@ -85,8 +86,16 @@ impl ThreadPoolBuilder {
     /// one that panicked or was given back, each idle end, each resize and the closing. Its time is read before the lock is taken,
     /// in microseconds since the opening, and never goes back. Where there are more events than that the record ends until the
     /// next call of `history`, whose text says how many are missing; the pool goes on.
+    ///
+    /// ```
+    /// let pool = resil::ThreadPool::builder(1, 1).record(1_000).open()?;
+    /// pool.submit(|| 42)?.wait()?;
+    /// assert!(pool.history().is_some());
+    /// # Ok::<(), Box<dyn std::error::Error>>(())
+    /// ```
     pub fn record(mut self, events: u32) -> Self {
         self.record = Some(events);
+        self.kind.by_lock = true;
         self
     }
 
@@ -105,6 +114,12 @@ impl ThreadPoolBuilder {
     /// 1 to 64; `MaxOutOfRange` where the greatest size isn't from the core size to 64; `QueueOutOfRange`; `Memory` where there is
     /// none for the library's pool, the record or the queue. What else is taken here and for each job, some hundred bytes, is taken as
     /// everywhere in Rust: the process ends where it can't be had.
+    ///
+    /// ```
+    /// let pool = resil::ThreadPool::builder(2, 4).queue(10).name("letters").open()?;
+    /// assert_eq!(pool.submit(|| 6 * 7)?.wait()?, 42);
+    /// # Ok::<(), Box<dyn std::error::Error>>(())
+    /// ```
     pub fn open(self) -> Result<ThreadPool, PoolError> {
         if self.kind.name.contains('\0') {
             return Err(PoolError::NulInName);
@@ -116,7 +131,7 @@ impl ThreadPoolBuilder {
             .queue(self.queue)
             .open()?;
         let events = self.record.map(|events| events as usize);
-        let book = Book::new(RecordedRule::new(rule, events)?)?;
+        let book = Book::new(RecordedRule::new(rule, events)?, self.kind.by_lock)?;
         let watch = self.observer.map(|observer| {
             let own = observer.of_pool(&self.kind.name);
             Arc::new(Watch::new(&self.kind.name, observer, own))

@@ -1,7 +1,9 @@
 //! A pool as its submitters see it: how jobs come in, how threads are started and called, and how all of it ends.
 use super::book::{Book, Job};
-use super::door::Door;
+use super::door::{Door, try_lock};
+use super::ends::Ends;
 use super::handle::JobHandle;
+use super::inbox::Ring;
 use super::inside::{self, Caller, Running};
 use super::refused::{Refusal, Refused};
 use super::task::{Function, HandOut, Made, Worker};
@@ -23,6 +25,10 @@ pub(super) type Guard<'a> = MutexGuard<'a, Book>;
 /// The threads of a pool, and the book that they share.
 pub(super) struct Crew {
     book: Mutex<Book>,
+    /// That of the book's inbox, for submissions without the lock.
+    pub(super) ring: Arc<Ring>,
+    /// Jobs that have ended while the book was taken.
+    pub(super) ends: Ends,
     /// Where submitters wait that find the book taken, and where workers do that have run a job.
     pub(super) submitters: Door,
     pub(super) workers: &'static Door,
@@ -52,11 +58,15 @@ pub(super) struct Kind {
     pub(super) keep_alive: Duration,
     pub(super) stack_size: Option<usize>,
     pub(super) start: Start,
+    /// Whether each submission and each end of a job takes the lock, as a record wants it: its times are read just before.
+    pub(super) by_lock: bool,
 }
 
 impl Crew {
     pub(super) fn new(book: Book, kind: Kind, recorded: Option<Recorded>) -> Crew {
         Crew {
+            ring: book.inbox.ring(),
+            ends: Ends::new(),
             book: Mutex::new(book),
             submitters: Door::of_submitters(),
             workers: Door::of_workers(),
@@ -74,24 +84,35 @@ impl Crew {
         F: Function<T> + Send + 'static,
     {
         let task = Made::new(function);
-        let mut book = self.turn(|book| self.submitters.lock(book));
-        let reply = book.submit(task.number());
-        let reason = match reply {
+        match self.accept(task.number()) {
+            Ok(reply) => Ok(JobHandle::new(reply, task.into_held(), self.workers)),
+            Err(reason) => {
+                let function = task.into_function();
+                Err(Refused { reason, function })
+            }
+        }
+    }
+
+    // Submits a task to the rule, and sees to a thread for it.
+    fn accept(self: &Arc<Self>, task: u64) -> Result<Reply, Refusal> {
+        if let Some(calls) = self.ring.submit(task) {
+            if calls {
+                self.call(self.lock_to_submit());
+            }
+            return Ok(Reply::Queued);
+        }
+        let mut book = self.lock_to_submit();
+        let reply = book.submit(task);
+        match reply {
+            Reply::Full => return Err(Refusal::Full),
+            Reply::Closed => return Err(Refusal::Closed),
+            Reply::Queued => self.see_to_queue(book),
             Reply::Core | Reply::Extra => {
                 drop(book);
                 self.start_thread();
-                return Ok(JobHandle::new(reply, task.into_held(), self.workers));
             }
-            Reply::Queued => {
-                self.see_to_queue(book);
-                return Ok(JobHandle::new(reply, task.into_held(), self.workers));
-            }
-            Reply::Full => Refusal::Full,
-            Reply::Closed => Refusal::Closed,
-        };
-        drop(book);
-        let function = task.into_function();
-        Err(Refused { reason, function })
+        }
+        Ok(reply)
     }
 
     pub(super) fn resize(&self, core: u32, max: u32) -> Result<(), PoolError> {
@@ -133,7 +154,7 @@ impl Crew {
     }
 
     pub(super) fn numbers(&self) -> PoolNumbers {
-        self.lock().numbers()
+        self.lock_settled().numbers()
     }
 
     /// The text of what was recorded up to here, where the pool is recorded.
@@ -165,7 +186,7 @@ impl Crew {
     }
 
     fn wait_for_join(&self, caller: Caller, deadline: Option<Instant>) -> (Guard<'_>, bool) {
-        let mut book = self.lock();
+        let mut book = self.lock_settled();
         let id = book.begin_join(caller);
         self.settle(&mut book);
         let is_done = loop {
@@ -193,9 +214,42 @@ impl Crew {
         self.turn(locked)
     }
 
+    // The same for whoever asks which jobs are finished.
+    fn lock_settled(&self) -> Guard<'_> {
+        let mut book = self.lock();
+        self.ends.settle();
+        self.take_ends(&mut book);
+        book
+    }
+
+    fn lock_to_submit(&self) -> Guard<'_> {
+        self.turn(|book| self.submitters.lock(book))
+    }
+
     /// Takes the lock for a worker that has run a job.
     pub(super) fn lock_at_door(&self) -> Guard<'_> {
         self.turn(|book| self.workers.lock(book))
+    }
+
+    /// Takes the lock for a worker whose answer isn't out yet: in a recorded pool, and else if it is free.
+    pub(super) fn lock_to_end(&self) -> Option<Guard<'_>> {
+        if self.kind.by_lock {
+            return Some(self.lock_at_door());
+        }
+        let at = self.now();
+        let mut book = try_lock(&self.book)?;
+        book.begin_turn(at);
+        Some(book)
+    }
+
+    // Finishes the jobs that have ended without the lock, whose answers are out.
+    fn take_ends(&self, book: &mut Guard<'_>) {
+        let before = book.running;
+        self.ends
+            .take(|place, number| book.finish_at(place, number));
+        if book.running < before {
+            self.settle(book);
+        }
     }
 
     // Takes the lock for a turn. Its time is read before, while nobody waits for it.
@@ -228,6 +282,7 @@ impl Crew {
 
     /// Picks a job. Where the last one that waited is picked, those that held back are idle from here on.
     pub(super) fn pick(&self, book: &mut Guard<'_>) -> Option<Job> {
+        self.take_ends(book);
         let job = book.pick();
         if book.held > 0 && !book.waits() {
             book.call_all();
@@ -238,7 +293,7 @@ impl Crew {
 
     /// Calls a thread where there is a job that it may pick.
     pub(super) fn call(&self, mut book: Guard<'_>) {
-        if !book.can_pick() {
+        if !book.has_work() {
             return;
         }
         if book.searching {
@@ -314,6 +369,8 @@ impl Worker for Helper<'_> {
         self.running.is_finished();
         self.crew.finish(&self.picked, out, &mut self.crew.lock());
     }
+
+    fn tell(&mut self) {}
 
     fn before_drop(&mut self) {}
 }

@@ -3,8 +3,8 @@
 //! The lock is held for short turns by threads that soon come again. Who finds it taken pauses, twice as long after each try,
 //! and then sleeps. No release wakes a sleeper: a wake-up takes as long as many turns, and what the lock guards would move to
 //! the cache of another processor each time. So the lock is left to those that are awake, and a worker lies down sooner than
-//! a submitter, who has more work to bring. Since a worker at the door has an answer in hand, whoever waits for an answer calls
-//! the workers in; a worker that finds nothing to do calls all in. No sleep needs a call: it ends with its time, each one takes
+//! a submitter, who has more work to bring. Since a worker of a recorded pool has an answer in hand at its door, and any other may run
+//! the next job, whoever waits for an answer calls the workers in; a worker that finds nothing to do calls all in. No sleep needs a call: it ends with its time, each one takes
 //! twice as long as the one before, and behind the last a thread waits in the mutex's own row, where a release wakes the next.
 use crate::lock::locked;
 use std::hint;
@@ -91,7 +91,7 @@ impl Door {
     }
 }
 
-fn try_lock<T>(mutex: &Mutex<T>) -> Option<MutexGuard<'_, T>> {
+pub(super) fn try_lock<T>(mutex: &Mutex<T>) -> Option<MutexGuard<'_, T>> {
     match mutex.try_lock() {
         Ok(guard) => Some(guard),
         Err(TryLockError::Poisoned(error)) => Some(error.into_inner()),

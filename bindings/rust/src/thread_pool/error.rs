@@ -5,7 +5,7 @@ use std::fmt;
 use std::sync::{Mutex, PoisonError};
 
 /// Why a job has no answer.
-#[derive(Debug)]
+#[derive(Debug, PartialEq)]
 #[non_exhaustive]
 pub enum JobError {
     /// The function panicked.
@@ -62,6 +62,13 @@ impl JobPanic {
     pub fn into_payload(self) -> Box<dyn Any + Send> {
         let payload = self.payload.into_inner();
         payload.unwrap_or_else(PoisonError::into_inner)
+    }
+}
+
+/// Two are equal where they have the same message. Payloads that are no text aren't compared: such a panic equals none.
+impl PartialEq for JobPanic {
+    fn eq(&self, other: &JobPanic) -> bool {
+        self.message.is_some() && self.message == other.message
     }
 }
 

@@ -47,6 +47,13 @@ impl<T> JobHandle<T> {
     /// # Panics
     ///
     /// Where it was polled before, and was ready.
+    ///
+    /// ```
+    /// # let pool = resil::ThreadPool::builder(1, 1).open()?;
+    /// let job = pool.submit(|| 6 * 7)?;
+    /// assert_eq!(job.wait()?, 42);
+    /// # Ok::<(), Box<dyn std::error::Error>>(())
+    /// ```
     pub fn wait(self) -> Result<T, JobError> {
         self.is_not_given();
         loop {
@@ -66,6 +73,15 @@ impl<T> JobHandle<T> {
     /// # Panics
     ///
     /// As [`wait`](JobHandle::wait).
+    ///
+    /// ```
+    /// # use std::time::Duration;
+    /// # let pool = resil::ThreadPool::builder(1, 1).open()?;
+    /// let job = pool.submit(|| 6 * 7)?;
+    /// let answer = job.wait_for(Duration::from_secs(60)).map_err(|_job| "it runs still")??;
+    /// assert_eq!(answer, 42);
+    /// # Ok::<(), Box<dyn std::error::Error>>(())
+    /// ```
     pub fn wait_for(self, limit: Duration) -> Result<Result<T, JobError>, JobHandle<T>> {
         self.is_not_given();
         match Instant::now().checked_add(limit) {

@@ -4,7 +4,7 @@ use std::error::Error;
 use std::fmt;
 
 /// Why a job is refused.
-#[derive(Debug, Clone, Copy, PartialEq, Eq)]
+#[derive(Debug, Clone, Copy, PartialEq, Eq, Hash)]
 #[non_exhaustive]
 pub enum Refusal {
     /// The queue is full and there are as many workers as the greatest size.

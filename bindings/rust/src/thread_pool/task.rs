@@ -43,6 +43,9 @@ pub(super) trait Worker {
     /// Ends the job, and hands the answer out when it is time.
     fn end(&mut self, out: &mut HandOut<'_>);
 
+    /// Tells the pool's rule of the end, if it doesn't know: a waker, which is code of the user's, may take long.
+    fn tell(&mut self);
+
     /// Makes ready for code of the user's: the drop of an answer that nobody asks for any more.
     fn before_drop(&mut self);
 }
@@ -82,6 +85,7 @@ pub(super) struct Absent;
 
 impl Worker for Absent {
     fn end(&mut self, _out: &mut HandOut<'_>) {}
+    fn tell(&mut self) {}
     fn before_drop(&mut self) {}
 }
 
@@ -237,6 +241,9 @@ where
                 before = (*task).state.fetch_or(WORKER_LEFT, Ordering::AcqRel);
                 waiter
             };
+            if let Some(Waiter::Task(_)) = waiter {
+                worker.tell();
+            }
             waiter.into_iter().for_each(Waiter::wake);
         }
         // The handle may have gone meanwhile, and left the answer here, or a waker before.

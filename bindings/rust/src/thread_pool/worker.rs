@@ -6,21 +6,19 @@
 use super::book::Job;
 use super::crew::{Crew, Guard};
 use super::inside::{self, Running};
+use super::patience;
 use super::task::{HandOut, Worker};
 use crate::lock::sleep;
 use crate::rule::Picked;
-use std::hint;
 use std::sync::atomic::Ordering;
 use std::thread;
 use std::time::Instant;
 
-/// How often a thread looks for a job before it goes to sleep.
-const LOOKS: u32 = 200;
-
 /// What a thread does next.
 enum Next {
     Run(Job),
-    Search,
+    /// From when this was the next place of the inbox.
+    Search(u64),
     Sleep,
     End,
 }
@@ -38,7 +36,7 @@ impl Crew {
         loop {
             next = match next {
                 Next::Run(job) => self.run(job),
-                Next::Search => self.search(),
+                Next::Search(taken) => self.search(taken),
                 Next::Sleep => self.sleep(self.lock_at_door()),
                 Next::End => return,
             };
@@ -52,10 +50,11 @@ impl Crew {
             crew: self,
             running: &running,
             picked: job.picked,
-            next: Next::Sleep,
+            next: None,
         };
         running.around(|| job.work.run(&mut member));
-        member.next
+        member.tell();
+        member.next.unwrap_or(Next::Sleep)
     }
 
     fn next(&self, book: &mut Guard<'_>) -> Next {
@@ -67,22 +66,20 @@ impl Crew {
         }
         book.searching = true;
         self.found.store(false, Ordering::Relaxed);
-        Next::Search
+        book.set_calls();
+        Next::Search(book.inbox.taken)
     }
 
     // Looks for a moment whether something is submitted.
-    fn search(&self) -> Next {
+    fn search(&self, taken: u64) -> Next {
         // Who sleeps at a door may have work for this thread.
         self.submitters.call_in();
         self.workers.call_in();
-        for _ in 0..LOOKS {
-            if self.found.load(Ordering::Relaxed) {
-                break;
-            }
-            hint::spin_loop();
-        }
+        patience::looks(None, || {
+            self.ring.has_more(taken) || self.found.load(Ordering::Relaxed)
+        });
         let mut book = self.lock();
-        book.searching = false;
+        book.end_search();
         self.sleep(book)
     }
 
@@ -120,13 +117,19 @@ impl Crew {
     // Waits until this thread is called, or until the keep-alive is over; whether it was called. One that holds back is
     // called once the queue is empty or the sizes are others.
     fn wait<'a>(&self, mut book: Guard<'a>) -> (Guard<'a>, bool) {
+        book.asleep += 1;
+        book.set_calls();
+        if book.has_work() {
+            book.asleep -= 1;
+            book.set_calls();
+            return (book, true);
+        }
         let deadline = if book.is_above_core() {
             Instant::now().checked_add(self.kind.keep_alive)
         } else {
             None
         };
         let (alarms, holds) = (book.alarms, usize::from(book.holds_back()));
-        book.asleep += 1;
         book.held += holds;
         let called = loop {
             if book.called > 0 {
@@ -143,6 +146,7 @@ impl Crew {
         if book.alarms == alarms {
             book.held -= holds;
         }
+        book.set_calls();
         book.begin_turn(self.now());
         (book, called)
     }
@@ -153,23 +157,35 @@ struct Member<'a> {
     crew: &'a Crew,
     running: &'a Running,
     picked: Picked,
-    next: Next,
+    // None until it has had the lock after the job.
+    next: Option<Next>,
 }
 
 impl Worker for Member<'_> {
     fn end(&mut self, out: &mut HandOut<'_>) {
         self.running.is_finished();
-        let mut book = self.crew.lock_at_door();
-        self.crew.finish(&self.picked, out, &mut book);
-        self.next = self.crew.next(&mut book);
+        if let Some(mut book) = self.crew.lock_to_end() {
+            self.crew.finish(&self.picked, out, &mut book);
+            self.next = Some(self.crew.next(&mut book));
+        } else {
+            self.crew.ends.end(&self.picked, || out.hand_out());
+        }
+    }
+
+    fn tell(&mut self) {
+        if self.next.is_none() {
+            let mut book = self.crew.lock_at_door();
+            self.next = Some(self.crew.next(&mut book));
+        }
     }
 
     // A thread that does other things doesn't search.
     fn before_drop(&mut self) {
-        if let Next::Search = self.next {
+        self.tell();
+        if let Some(Next::Search(_)) = self.next {
             let mut book = self.crew.lock();
-            book.searching = false;
-            self.next = Next::Sleep;
+            book.end_search();
+            self.next = Some(Next::Sleep);
             self.crew.call(book);
         }
     }

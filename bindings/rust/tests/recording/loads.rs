@@ -41,6 +41,9 @@ impl Random {
 struct Counted {
     submitted: AtomicU64,
     refused: AtomicU64,
+    // How many jobs ran, and how many came back and were dropped.
+    ran: AtomicU64,
+    dropped: AtomicU64,
 }
 
 /// A load: its pool, the greatest size, and the texts so far.
@@ -55,8 +58,9 @@ impl Load {
         let core = 1 + random.below(6);
         let max = core + random.below(5);
         let room = [25_000, 25_000, 25_000, 400, 50][random.below(5) as usize];
-        let pool = ThreadPool::builder(core, max).queue(1 + random.below(40));
-        let pool = pool.keep_alive(random.micros(3_000)).record(room).open()?;
+        let most = [40, 40, 400][random.below(3) as usize];
+        let pool = ThreadPool::builder(core, max).queue(1 + random.below(most));
+        let pool = super::opened(pool.keep_alive(random.micros(3_000)).record(room))?;
         Ok(Load {
             pool: Arc::new(pool),
             max,
@@ -74,8 +78,12 @@ impl Load {
                 if time > Duration::from_micros(20) {
                     thread::sleep(time);
                 }
+                counted.ran.fetch_add(1, Ordering::SeqCst);
                 if submits == 0 {
-                    drop(submit(&pool, &counted, || ()));
+                    let inner = Arc::clone(&counted);
+                    drop(submit(&pool, &counted, move || {
+                        inner.ran.fetch_add(1, Ordering::SeqCst);
+                    }));
                 }
                 if fails == 0 {
                     panic::resume_unwind(Box::new(()));
@@ -111,7 +119,10 @@ impl Load {
         match random.below(5) {
             0 => self.pool.close(),
             1 => self.pool.close_now().into_iter().for_each(Unstarted::run),
-            2 => drop(self.pool.close_now()),
+            2 => {
+                let dropped = self.pool.close_now().len() as u64;
+                self.counted.dropped.store(dropped, Ordering::SeqCst);
+            }
             _ => {}
         }
         if random.below(2) == 0 {
@@ -155,6 +166,9 @@ impl Load {
                 assert_eq!(before.state_behind(left)?, after.state_behind(made)?);
             }
         }
+        let once = [&self.counted.ran, &self.counted.dropped];
+        let once = once.map(|count| count.load(Ordering::SeqCst));
+        assert_eq!(self.pool.numbers().finished, once[0] + once[1]);
         if texts.iter().all(|text| text.missed == 0) {
             let sum = |first, last| -> u64 {
                 let counts = texts.iter().map(|text| text.count(first, last));

@@ -5,11 +5,15 @@ mod loads;
 mod text;
 
 use common::{Checked, all_gated, end, gated, until};
-use resil::{PoolError, ThreadPool};
+use resil::{PoolError, ThreadPool, ThreadPoolBuilder};
 use std::error::Error;
 use std::panic;
 use std::time::Duration;
 use text::Text;
+
+fn opened(builder: ThreadPoolBuilder) -> Result<ThreadPool, PoolError> {
+    builder.open()
+}
 
 fn history(pool: &ThreadPool) -> Result<Text, Box<dyn Error>> {
     Text::of(&pool.history().ok_or("the pool isn't recorded")?)

@@ -124,8 +124,7 @@ impl Book {
         ensures submitted { IsSubmitted id work self.old self.new }
     {
         let reply = self.rule.next_reply();
-        // It answers what `next_reply` said.
-        let _answer = self.rule.submit(id, work);
+        self.rule.submit_with_reply(id, work, reply);
         self.last.write(Event::Submit { id, reply });
         self.refused = refused_after(self.refused, reply);
         reply

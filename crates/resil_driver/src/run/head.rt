@@ -17,12 +17,12 @@ ghost use Rattle.resil_driver.specs.Run.Head.{parse_run, run_head_of};
 
 use resil_admission::Limits;
 use resil_decor::Chain;
+use resil_heads::HeadFault;
 use resil_heads::document::read_document;
 use resil_heads::keys::count_at;
 use resil_heads::layers::{build_chain, parse_chain};
 use resil_heads::run::RUN_KEYS;
 use resil_heads::sizes::parse_limits;
-use resil_heads::{HeadError, HeadFault};
 use resil_registry::Registry;
 use std::alloc::Global;
 use std::marker::Model;
@@ -84,7 +84,7 @@ fn parse_run(alloc: Global, head: &Table) -> Result<RunHead, HeadFault>
 /// the pool refuses the sizes; `Registry` for the first configuration, in byte order of the names,
 /// that can't be added; `Retry` or `Registry` for the first layer that can't be built; `Chain`.
 /// `Memory` may come at any stage.
-pub fn read_head(alloc: Global, head: &[u8]) -> Result<RunHead, HeadError>
+pub fn read_head(alloc: Global, head: &[u8]) -> Result<RunHead, HeadFault>
     ensures answer { Gives result (run_head_of head.now) }
     ensures in_range { IfOk result (λ said. AreLimits said.limits) }
 

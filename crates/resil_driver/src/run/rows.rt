@@ -9,13 +9,24 @@ ghost use Rattle.csv.specs.Records.{fields_of};
 ghost use Rattle.resil_driver.specs.Run.Rows.{parse_caller_up_to, parse_job, IsRunBody, IsRunBodyError};
 
 use csv::ByteRecord;
-use resil_heads::run::RUN_HEADER;
+use resil_heads::forms::{Body, Form};
 use resil_input::csv_rows::{self, BodyError};
 use resil_input::fields::field_at;
 use resil_input::number::parse_caller;
 use resil_input::script::parse_script;
 use resil_retry::Script;
 use std::alloc::{AllocError, Global};
+
+// The fields of the header.
+const RUN_HEADER: &[&str] = &["caller", "script"];
+
+/// What the bodies may have.
+pub const RUN_BODY: Body = Body {
+    header: RUN_HEADER,
+    forms: &[Form::Caller, Form::Script],
+    rows: &[],
+    has_resizes: false,
+};
 
 /// One row of a `run`.
 #[derive(Drop)]

@@ -7,18 +7,30 @@ ghost use Rattle.std.specs.Prelude.{◌≡◌};
 ghost use Rattle.resil_heads.specs.Checks.{GivesBy};
 ghost use Rattle.resil_heads.specs.LayerBuild.{build_interval, build_retry, build_layer, build_layers};
 
-use crate::error::{HeadError, HeadFault, Part};
+use crate::error::{FaultyKey, HeadError, HeadFault, Part};
 use crate::layers::bulkheads::obtained;
 use crate::layers::values::{IntervalSpec, LayerSpec, RetrySpec};
 use resil_decor::Layer;
 use resil_registry::Registry;
-use resil_retry::{Interval, RetryConfig};
+use resil_retry::{Interval, MAX_INTERVAL, RetryConfig, RetryError};
 use std::alloc::Global;
 use std::marker::Model;
 
+// The fault of an interval that a retry refuses for this.
+fn refused_interval(said: IntervalSpec, why: RetryError) -> HeadFault
+    ensures { result ≡ HeadError.Retry why }
+{
+    let refused = HeadError::Retry(why);
+    match (why, said) {
+        (RetryError::IntervalTooLong, IntervalSpec::Exponential { initial, .. })
+            if initial <= MAX_INTERVAL => HeadFault::at(FaultyKey::Known("cap"), refused),
+        _ => HeadFault::from(refused),
+    }
+}
+
 // The interval, where a retry takes it.
 // Errors: `IntervalTooLong`, `BadMultiplier`, `CapBelowInitial`.
-fn build_interval(said: IntervalSpec) -> Result<Interval, HeadError>
+fn build_interval(said: IntervalSpec) -> Result<Interval, HeadFault>
     ensures { result ≡ build_interval said }
 {
     let interval = match said {
@@ -30,27 +42,30 @@ fn build_interval(said: IntervalSpec) -> Result<Interval, HeadError>
             cap,
         } => Interval::exponential(initial, numerator, denominator, cap),
     };
-    interval.map_err(HeadError::Retry)
+    match interval {
+        Ok(interval) => Ok(interval),
+        Err(why) => Err(refused_interval(said, why)),
+    }
 }
 
 // A retry of these parts. Errors: those of its interval; then `NoAttempts`, `TooManyAttempts`.
-fn build_retry(said: RetrySpec) -> Result<RetryConfig, HeadError>
+fn build_retry(said: RetrySpec) -> Result<RetryConfig, HeadFault>
     ensures { result ≡ build_retry said }
 {
     let interval = build_interval(said.interval)?;
-    RetryConfig::new(
+    let retry = RetryConfig::new(
         said.attempts,
         interval,
         said.result_test,
         said.error_test,
         said.fail_after_max,
-    )
-    .map_err(HeadError::Retry)
+    );
+    Ok(retry.map_err(HeadError::Retry)?)
 }
 
 // The layer that is requested; a bulkhead has the id that the registry gives it.
 // Errors: of a retry those of its parts; of a bulkhead `BadName`, `NoSuchConfig`, `Memory`, in this order.
-fn build_layer(registry: &mut Registry<u16>, said: LayerSpec) -> Result<Layer, HeadError>
+fn build_layer(registry: &mut Registry<u16>, said: LayerSpec) -> Result<Layer, HeadFault>
     ensures { GivesBy (λ layer. record { layer = layer; lists = registry.new }) result (build_layer registry.old said.entry) }
 {
     match said {
@@ -77,7 +92,7 @@ pub(super) fn build_layers(
     for said in asked {
         match build_layer(registry, said) {
             Ok(layer) => layers.push(layer)?,
-            Err(why) => return Err(HeadFault::new(Part::Layer(layers.len()), why)),
+            Err(fault) => return Err(fault.of(Part::Layer(layers.len()))),
         }
     }
     Ok(layers)

@@ -13,7 +13,7 @@ ghost use Rattle.resil_heads.specs.ByteOrder.{AreInByteOrder, in_byte_order};
 ghost use Rattle.resil_heads.specs.Keys.{each};
 ghost use Rattle.resil_heads.specs.LayerBulkheads.{permits_in, parse_permits, parse_config, registry_error, unconfigured, with_configuration, configured, obtained};
 
-use crate::error::{HeadError, HeadFault, Part};
+use crate::error::{HeadError, HeadFault, Part, at_key};
 use crate::keys::{HeadText, parse_integer, parse_table, value_at};
 use resil_registry::{Registry, RegistryError};
 use std::alloc::Global;
@@ -32,10 +32,13 @@ pub(crate) struct ConfigSpec<'a> {
 }
 
 /// The table of configurations, if there is one. Errors: `BadValue` where it isn't a table.
-pub(crate) fn permits_in<'a>(head: &'a Table) -> Result<Option<&'a Table>, HeadError>
+pub(crate) fn permits_in<'a>(head: &'a Table) -> Result<Option<&'a Table>, HeadFault>
     ensures { GivesBy (λ permits. option_map_or (λ table. table_view table.now) permits no_members) result (permits_in (table_view head.now)) }
 {
-    value_at("permits", head).map(parse_table).transpose()
+    at_key(
+        "permits",
+        value_at("permits", head).map(parse_table).transpose(),
+    )
 }
 
 // A number of permits, from 0 to 65,535. Errors: `BadValue`.
@@ -64,7 +67,7 @@ pub(crate) fn parse_configs<'a>(
                 let name = HeadText::new(name.as_str());
                 said.push(ConfigSpec { name, permits })?;
             }
-            Err(why) => return Err(HeadFault::new(Part::Configuration(said.len()), why)),
+            Err(why) => return Err(HeadFault::from(why).of(Part::Configuration(said.len()))),
         }
     }
     Ok(said)
@@ -99,13 +102,13 @@ pub(crate) fn configured(alloc: Global, said: Vec<ConfigSpec>) -> Result<Registr
     ensures { Gives result (configured unconfigured said.entry.items) }
 {
     let Ok(mut registry) = Registry::new(alloc, DEFAULT_PERMITS) else {
-        return Err(HeadFault::new(Part::Head, HeadError::Memory));
+        return Err(HeadFault::from(HeadError::Memory));
     };
     let mut place = 0usize;
     for configuration in said {
         match add_configuration(&mut registry, configuration) {
             Ok(()) => place = place.saturating_add(1),
-            Err(why) => return Err(HeadFault::new(Part::Configuration(place), why)),
+            Err(why) => return Err(HeadFault::from(why).of(Part::Configuration(place))),
         }
     }
     Ok(registry)

@@ -4,15 +4,15 @@
 //! Each stage goes over all layers before the next one begins: first their kinds, then the backoffs of the retries, then keys that
 //! aren't known, then required keys that are missing, then values.
 
-ghost use Rattle.std.specs.Prelude.{◌≡◌, map};
+ghost use Rattle.std.specs.Prelude.{◌≡◌, codes, map};
 ghost use Rattle.toml.specs.View.{table_view};
 ghost use Rattle.resil_heads.specs.Checks.{Gives, GivesBy};
 ghost use Rattle.resil_heads.specs.Document.{keys_of};
-ghost use Rattle.resil_heads.specs.Keys.{each};
+ghost use Rattle.resil_heads.specs.Keys.{each, parse_at, parse_fraction};
 ghost use Rattle.resil_heads.specs.LayerValues.{kind_in, backoff_in, keys_in, check_layer, check_layers, parse_interval, parse_error_test, parse_retry, parse_bulkhead, parse_fallback, parse_layer, requested_layers};
 
 use crate::document::{check_known, check_required};
-use crate::error::{HeadError, HeadFault, Part};
+use crate::error::{FaultyKey, HeadError, HeadFault, Part, at_key};
 use crate::forms::{Form, Key};
 use crate::keys::{
     HeadText, count_at, flag_at, kinds_at, parse_fraction, parse_integer, parse_text, required,
@@ -43,11 +43,11 @@ const RETRY_RESULT: Key = Key::Optional("retry_result", Form::ResultTest);
 
 const FAIL_AFTER_MAX: Key = Key::Optional("fail_after_max", Form::Flag);
 
-/// The keys of a layer of no kind that is known.
-pub const LAYER_KEYS: &[Key] = &[KIND];
+// The keys of a layer of no kind that is known.
+const LAYER_KEYS: &[Key] = &[KIND];
 
-/// The keys of a retry whose waits don't grow.
-pub const FIXED_RETRY_KEYS: &[Key] = &[
+// The keys of a retry whose waits don't grow.
+const FIXED_RETRY_KEYS: &[Key] = &[
     KIND,
     ATTEMPTS,
     INTERVAL,
@@ -72,15 +72,15 @@ pub const EXPONENTIAL_RETRY_KEYS: &[Key] = &[
     FAIL_AFTER_MAX,
 ];
 
-/// The keys of a bulkhead.
-pub const BULKHEAD_KEYS: &[Key] = &[
+// The keys of a bulkhead.
+const BULKHEAD_KEYS: &[Key] = &[
     Key::Required("name", Form::Text),
     KIND,
     Key::Optional("config", Form::Text),
 ];
 
-/// The keys of a fallback.
-pub const FALLBACK_KEYS: &[Key] = &[
+// The keys of a fallback.
+const FALLBACK_KEYS: &[Key] = &[
     Key::Required("value", Form::AnyInteger),
     KIND,
     Key::Optional("catch", Form::Kinds),
@@ -175,19 +175,19 @@ pub(crate) enum Stage {
 }
 
 // The kind of a layer. Errors: `MissingKey` where it has none, `BadValue` where it is unknown.
-fn kind_in(layer: &Table) -> Result<LayerKind, HeadError>
+fn kind_in(layer: &Table) -> Result<LayerKind, HeadFault>
     ensures { result ≡ kind_in (table_view layer.now) }
 {
     match required("kind", layer)?.as_str() {
         Some("retry") => Ok(LayerKind::Retry),
         Some("bulkhead") => Ok(LayerKind::Bulkhead),
         Some("fallback") => Ok(LayerKind::Fallback),
-        _ => Err(HeadError::BadValue),
+        _ => Err(HeadFault::at(FaultyKey::Known("kind"), HeadError::BadValue)),
     }
 }
 
 // The backoff of a retry, `Fixed` where it names none. Errors: `BadValue`.
-fn backoff_in(layer: &Table) -> Result<BackoffKind, HeadError>
+fn backoff_in(layer: &Table) -> Result<BackoffKind, HeadFault>
     ensures { result ≡ backoff_in (table_view layer.now) }
 {
     let Some(value) = value_at("backoff", layer) else {
@@ -196,12 +196,12 @@ fn backoff_in(layer: &Table) -> Result<BackoffKind, HeadError>
     match value.as_str() {
         Some("fixed") => Ok(BackoffKind::Fixed),
         Some("exponential") => Ok(BackoffKind::Exponential),
-        _ => Err(HeadError::BadValue),
+        _ => Err(HeadFault::at(FaultyKey::Known("backoff"), HeadError::BadValue)),
     }
 }
 
 // The keys of a layer. Errors: those of its kind; then `BadValue` for an unknown backoff.
-fn keys_in(layer: &Table) -> Result<&'static [Key], HeadError>
+fn keys_in(layer: &Table) -> Result<&'static [Key], HeadFault>
     ensures { GivesBy (λ keys. keys_of keys.now) result (keys_in (table_view layer.now)) }
 {
     Ok(match kind_in(layer)? {
@@ -214,8 +214,19 @@ fn keys_in(layer: &Table) -> Result<&'static [Key], HeadError>
     })
 }
 
+/// What a layer is called, with its article, or nothing where its kind isn't known; and which keys it may have.
+pub fn title_and_keys(layer: &Table) -> (&'static str, &'static [Key]) {
+    match (kind_in(layer), backoff_in(layer)) {
+        (Ok(LayerKind::Retry), Ok(BackoffKind::Exponential)) => ("a retry", EXPONENTIAL_RETRY_KEYS),
+        (Ok(LayerKind::Retry), _) => ("a retry", FIXED_RETRY_KEYS),
+        (Ok(LayerKind::Bulkhead), _) => ("a bulkhead", BULKHEAD_KEYS),
+        (Ok(LayerKind::Fallback), _) => ("a fallback", FALLBACK_KEYS),
+        (Err(_), _) => ("", LAYER_KEYS),
+    }
+}
+
 // Checks a layer at a stage.
-fn check_layer(stage: Stage, layer: &Table) -> Result<(), HeadError>
+fn check_layer(stage: Stage, layer: &Table) -> Result<(), HeadFault>
     ensures { Gives result (check_layer stage (table_view layer.now)) }
 {
     match stage {
@@ -235,25 +246,33 @@ fn check_layers(stage: Stage, layers: &[&Table]) -> Result<(), HeadFault>
     for layer in layers {
         match check_layer(stage, layer) {
             Ok(()) => place = place.saturating_add(1),
-            Err(why) => return Err(HeadFault::new(Part::Layer(place), why)),
+            Err(fault) => return Err(fault.of(Part::Layer(place))),
         }
     }
     Ok(())
 }
 
+// The multiplier of a retry whose waits grow. Errors: `BadValue`.
+fn multiplier_in(layer: &Table) -> Result<(u32, u32), HeadFault>
+    ensures { result ≡ parse_at parse_fraction (3, 2) (codes "multiplier") (table_view layer.now) }
+{
+    let value = value_at("multiplier", layer);
+    at_key(
+        "multiplier",
+        value.map_or(Ok(DEFAULT_MULTIPLIER), parse_fraction),
+    )
+}
+
 // The waits of a retry of this backoff. Errors: `BadValue`.
 #[tactic(auto, unfolding(crate::specs::LayerValues::waits_from))]
-fn parse_interval(backoff: BackoffKind, layer: &Table) -> Result<IntervalSpec, HeadError>
+fn parse_interval(backoff: BackoffKind, layer: &Table) -> Result<IntervalSpec, HeadFault>
     ensures { result ≡ parse_interval backoff (table_view layer.now) }
 {
     let initial = wait_at("interval", DEFAULT_INTERVAL, layer)?;
     match backoff {
         BackoffKind::Fixed => Ok(IntervalSpec::Fixed(initial)),
         BackoffKind::Exponential => {
-            let (numerator, denominator) = value_at("multiplier", layer).map_or(
-                Ok(DEFAULT_MULTIPLIER),
-                parse_fraction,
-            )?;
+            let (numerator, denominator) = multiplier_in(layer)?;
             let cap = wait_at("cap", MAX_INTERVAL, layer)?;
             Ok(IntervalSpec::Exponential {
                 initial,
@@ -267,7 +286,11 @@ fn parse_interval(backoff: BackoffKind, layer: &Table) -> Result<IntervalSpec, H
 
 // The kinds of error that a layer acts on: those at the key that lists them, but none that is ignored. Errors: `BadValue`, `Memory`.
 #[tactic(auto, unfolding(crate::specs::LayerValues::parse_error_test))]
-fn parse_error_test(alloc: Global, listed: &str, layer: &Table) -> Result<ErrorTest, HeadError>
+fn parse_error_test(
+    alloc: Global,
+    listed: &'static str,
+    layer: &Table,
+) -> Result<ErrorTest, HeadFault>
     ensures { Gives result (parse_error_test listed.now (table_view layer.now)) }
 {
     let named = kinds_at(alloc, listed, layer)?;
@@ -277,7 +300,7 @@ fn parse_error_test(alloc: Global, listed: &str, layer: &Table) -> Result<ErrorT
 
 // The values of a retry of this backoff. Errors: `BadValue`, `Memory`.
 #[tactic(auto, unfolding(crate::specs::LayerValues::parse_retry))]
-fn parse_retry(alloc: Global, backoff: BackoffKind, layer: &Table) -> Result<RetrySpec, HeadError>
+fn parse_retry(alloc: Global, backoff: BackoffKind, layer: &Table) -> Result<RetrySpec, HeadFault>
     ensures { Gives result (parse_retry backoff (table_view layer.now)) }
 {
     let attempts = count_at("attempts", DEFAULT_ATTEMPTS, layer)?;
@@ -296,26 +319,26 @@ fn parse_retry(alloc: Global, backoff: BackoffKind, layer: &Table) -> Result<Ret
 
 // The values of a bulkhead. Errors: `MissingKey` where it has no name, `BadValue`.
 #[tactic(auto, unfolding(crate::specs::LayerValues::parse_bulkhead))]
-fn parse_bulkhead<'a>(layer: &'a Table) -> Result<LayerSpec<'a>, HeadError>
+fn parse_bulkhead<'a>(layer: &'a Table) -> Result<LayerSpec<'a>, HeadFault>
     ensures { result ≡ parse_bulkhead (table_view layer.now) }
 {
-    let name = parse_text(required("name", layer)?)?;
+    let name = at_key("name", parse_text(required("name", layer)?))?;
     let config = text_at("config", DEFAULT_CONFIG, layer)?;
     Ok(LayerSpec::Bulkhead { name, config })
 }
 
 // The values of a fallback. Errors: `MissingKey` where it has no value, `BadValue`, `Memory`.
 #[tactic(auto, unfolding(crate::specs::LayerValues::parse_fallback))]
-fn parse_fallback<'a>(alloc: Global, layer: &'a Table) -> Result<LayerSpec<'a>, HeadError>
+fn parse_fallback<'a>(alloc: Global, layer: &'a Table) -> Result<LayerSpec<'a>, HeadFault>
     ensures { Gives result (parse_fallback (table_view layer.now)) }
 {
-    let value = parse_integer(required("value", layer)?)?;
+    let value = at_key("value", parse_integer(required("value", layer)?))?;
     let catch = parse_error_test(alloc, "catch", layer)?;
     Ok(LayerSpec::Fallback { catch, value })
 }
 
 // What a layer says. Errors: those of its kind and its backoff; then those of its values.
-fn parse_layer<'a>(alloc: Global, layer: &'a Table) -> Result<LayerSpec<'a>, HeadError>
+fn parse_layer<'a>(alloc: Global, layer: &'a Table) -> Result<LayerSpec<'a>, HeadFault>
     ensures { Gives result (parse_layer (table_view layer.now)) }
 {
     match kind_in(layer)? {
@@ -334,7 +357,7 @@ fn parse_layers<'a>(alloc: Global, layers: &[&'a Table]) -> Result<Vec<LayerSpec
     for layer in layers {
         match parse_layer(alloc, layer) {
             Ok(spec) => said.push(spec)?,
-            Err(why) => return Err(HeadFault::new(Part::Layer(said.len()), why)),
+            Err(fault) => return Err(fault.of(Part::Layer(said.len()))),
         }
     }
     Ok(said)

@@ -8,7 +8,7 @@ use super::jobs::JobName;
 use super::page::{CORE, EXTRA, GREY, GRID, INK, PAPER, Page, Pixels, QUEUED, REFUSED};
 use super::sheet::Sheet;
 use crate::{Illegal, Picture, column_width};
-use resil_heads::answer::name_of;
+use resil_input::answer::{InWords, reply_name};
 use resil_rule::{Event, Verdict};
 use std::alloc::{AllocError, Global};
 
@@ -110,10 +110,10 @@ fn write_facts(draft: &mut Draft, picture: &Picture) {
 
 // Writes the first illegal event, and what the rule answers there.
 fn write_illegal(draft: &mut Draft, illegal: Illegal) {
-    let (at, answer) = (illegal.at, illegal.answer);
+    let (at, answer) = (illegal.at, InWords(illegal.answer));
     put!(draft; r#"<text x="6" y="76" fill="{REFUSED}">event {at}, "#);
     match illegal.event {
-        Event::Submit { id, reply } => put!(draft; "submit {} {}", JobName(id), name_of(reply)),
+        Event::Submit { id, reply } => put!(draft; "submit {} {}", JobName(id), reply_name(reply)),
         Event::Take(id) => put!(draft; "take {}", JobName(id)),
         Event::Finish(id) => put!(draft; "finish {}", JobName(id)),
         Event::IdleEnd => put!(draft; "idle"),

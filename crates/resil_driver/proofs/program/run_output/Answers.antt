@@ -22,4 +22,4 @@ returns-in-Err-clause-output g c =
 
 pub returns-in-Ok-TooLong-clause-output : goal.returns-in-Ok-TooLong-clause-output
 returns-in-Ok-TooLong-clause-output g c =
-    refusal_answers (Run c.args.words) _ TooLong c.error_output-in-Ok-TooLong.result (rw c.in-Ok-TooLong.field-0-is at c.in-Ok-TooLong.ensures.input) c.error_output-in-Ok-TooLong.ensures
+    refusal_answers (Run c.args.words) _ TooLong c.too_long_output.result (rw c.in-Ok-TooLong.field-0-is at c.in-Ok-TooLong.ensures.input) c.too_long_output.ensures

@@ -1,5 +1,7 @@
-use Rattle.std.proofs.lemmas.Option.{IfSome_then}
 use Rattle.resil_look.proofs.look.output_for.Goals as goal
 
-pub returns-after-input-clause-output : goal.returns-after-input-clause-output
-returns-after-input-clause-output g c = rw (← c.in-Some.ensures) (IfSome_then _ c.in-Ok.ensures.input (λ bytes read. c.request_output-output.ensures bytes read))
+pub returns-in-Some-clause-output : goal.returns-in-Some-clause-output
+returns-in-Some-clause-output g c = rw (← c.in-Some.ensures) c.read_output.ensures.output
+
+pub returns-in-Some-clause-taken : goal.returns-in-Some-clause-taken
+returns-in-Some-clause-taken g c = rw (← c.in-Some.ensures) c.read_output.ensures.taken

@@ -1,5 +1,4 @@
-use Rattle.resil_replay.specs.History.{history_header}
-use Rattle.resil_replay.specs.Events.{parse_event}
+use Rattle.resil_replay.proofs.Words.{history_header, parse_event}
 use Rattle.resil_replay.proofs.EventLaws.{headers-apart}
 use Rattle.resil_replay.proofs.VersionLaws.{version-errors_unique, versions-exclude_errors, versions-unique}
 use Rattle.resil_replay.proofs.events.bodies_unique.Goals as goal

@@ -1,13 +1,11 @@
-use Rattle.std.proofs.Common.{rules}
-use Rattle.resil_replay.specs.History.{history_header}
-use Rattle.resil_replay.specs.Events.{parse_event}
-use Rattle.resil_replay.proofs.VersionLaws.{second-read}
+use Rattle.resil_replay.specs.declared.layout.Layout.TheVariants.{Untimed}
+use Rattle.resil_replay.proofs.VersionLaws.{audit-headless, audit-timed}
 use Rattle.resil_replay.proofs.events.read_rows.Goals as goal
 
-pub returns-in-Err-BadHeader : goal.returns-in-Err-BadHeader
-returns-in-Err-BadHeader c =
-    let one = rw c.in-Err-BadHeader.field-0-is at c.in-Err-BadHeader.ensures in
-    second-read history_header parse_event c.args.body.now (λ read. read.items) c.read_under-in-Err-BadHeader.result one c.read_under-in-Err-BadHeader.ensures
+pub returns-in-Some-Timed : goal.returns-in-Some-Timed
+returns-in-Some-Timed c =
+    let same = rw c.in-Some-Timed.field-0-is at c.in-Some-Timed.ensures.some in
+    audit-timed c.args.body.now c.in_ok-opened.opened c.in_ok-opened.ensures.opened same
 
-pub returns-in-Err : goal.returns-in-Err
-returns-in-Err c = search rules fits 100
+pub returns-in-None : goal.returns-in-None
+returns-in-None c = audit-headless c.args.body.now c.in_ok-opened.opened c.in_ok-opened.ensures.opened (λ version. c.in-None.ensures.none (Untimed version))

@@ -1,6 +1,4 @@
-use Rattle.std.proofs.Common.{◌≡◌, ◌∷◌, map, take}
-use Rattle.resil_input.specs.CsvTable.{HasColumns, table_text, text_so_far}
-use Rattle.resil_replay.specs.History.{columns_of, record_fields, history_header}
+use Rattle.resil_replay.proofs.Words.{◌≡◌, ◌∷◌, map, take, HasColumns, table_text, text_so_far, columns_of, record_fields, history_header}
 use Rattle.resil_replay.proofs.history.history_text.Given as goal
 
 abbrev pub invariant-loop-event : goal.invariant-loop-event

@@ -1,5 +1,4 @@
-use Rattle.std.proofs.Common.{take}
-use Rattle.resil_replay.specs.State.{HasReplayed}
+use Rattle.resil_replay.proofs.Words.{take, HasReplayed}
 use Rattle.resil_replay.proofs.play.play.Given as goal
 
 -- the rows so far were carried out

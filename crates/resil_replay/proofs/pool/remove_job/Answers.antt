@@ -1,7 +1,5 @@
-use Rattle.std.proofs.Common.{◌≡◌, ◌∙◌, Some, None, sym}
-use Rattle.std.specs.List.{position}
+use Rattle.resil_replay.proofs.Words.{◌≡◌, ◌∙◌, Some, None, sym, position, is_same_id}
 use Rattle.std.proofs.lemmas.List.Quantifiers.{position-Some}
-use Rattle.resil_rule.specs.History.{is_same_id}
 use Rattle.resil_replay.proofs.PoolLaws.{none-placed, placed}
 use Rattle.resil_replay.proofs.pool.remove_job.Goals as goal
 

@@ -1,6 +1,4 @@
-use Rattle.std.proofs.Common.{◌≡◌, arith, length}
-use Rattle.resil_replay.specs.declared.history.Version.TheVariants.{One, Two}
-use Rattle.resil_replay.specs.Rows.{parse_replay_row, replay_rows_header}
+use Rattle.resil_replay.proofs.Words.{◌≡◌, arith, length, One, Two, parse_replay_row, replay_rows_header}
 use Rattle.resil_replay.proofs.VersionLaws.{version-errors_unique, versions-exclude_errors, versions-unique}
 use Rattle.resil_replay.proofs.rows.bodies_unique.Goals as goal
 

@@ -1,5 +1,4 @@
-use Rattle.resil_input.proofs.RowLaws.{handed-on}
-use Rattle.resil_replay.specs.Rows.{parse_replay_row, replay_rows_header}
+use Rattle.resil_replay.proofs.Words.{handed-on, parse_replay_row, replay_rows_header}
 use Rattle.resil_replay.proofs.VersionLaws.{second-error}
 use Rattle.resil_replay.proofs.rows.read_rows.Goals as goal
 

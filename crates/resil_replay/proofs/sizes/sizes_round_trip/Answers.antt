@@ -1,5 +1,4 @@
-use Rattle.std.proofs.Common.{◌^◌, arith}
-use Rattle.resil_input.proofs.NumberLaws.{from_zero-are_decimal, from_zero-round_trip}
+use Rattle.resil_replay.proofs.Words.{◌^◌, arith, from_zero-are_decimal, from_zero-round_trip}
 use Rattle.resil_replay.proofs.sizes.sizes_round_trip.Goals as goal
 
 pub returns-clause-written : goal.returns-clause-written

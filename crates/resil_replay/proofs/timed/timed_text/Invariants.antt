@@ -1,6 +1,4 @@
-use Rattle.std.proofs.Common.{◌≡◌, ◌∷◌, map, take}
-use Rattle.resil_input.specs.CsvTable.{HasColumns, table_text, text_so_far}
-use Rattle.resil_replay.specs.Timed.{timed_fields, timed_header}
+use Rattle.resil_replay.proofs.Words.{◌≡◌, ◌∷◌, map, take, HasColumns, table_text, text_so_far, timed_fields, timed_header}
 use Rattle.resil_replay.proofs.timed.timed_text.Given as goal
 
 abbrev pub invariant-loop-timed : goal.invariant-loop-timed

@@ -1,11 +1,9 @@
-use Rattle.std.proofs.Common.{◌∙◌, ap}
-use Rattle.resil_heads.specs.Load.{plan_of}
-use Rattle.resil_simulate.specs.Table.{pools_text}
+use Rattle.resil_simulate.proofs.Words.{◌∙◌, ap, plan_of, pools_text}
 use Rattle.resil_simulate.proofs.CommandLaws.{arrivals-refused}
 use Rattle.resil_simulate.proofs.command.numbers_text.Goals as goal
 
 pub returns-in-Err : goal.returns-in-Err
-returns-in-Err c = arrivals-refused c.args.input.now (plan_of c.in_ok-head.head) c.in_ok-head.body.now c.in_ok-head.ensures c.in-Err.why c.in-Err.ensures
+returns-in-Err c = arrivals-refused (plan_of c.in_ok-head.head) c.in_ok-head.body.now c.args.input.now c.in_ok-head.ensures c.in-Err.why c.in-Err.ensures
 
 pub returns : goal.returns
 returns c = (

@@ -1,9 +1,4 @@
-use Rattle.std.proofs.Common.{◌∙◌, ◌++◌, ◌∷◌, [], List, ap, map, sym, subst, take}
-use Rattle.std.specs.List.{All}
-use Rattle.std.proofs.lemmas.List.{map-append, take_more}
-use Rattle.std.proofs.lemmas.List.Elements.{All-push}
-use Rattle.resil_rule.specs.Limits.{Sizes}
-use Rattle.resil_simulate.specs.Command.{IsPoolRun}
+use Rattle.resil_simulate.proofs.Words.{◌∙◌, ◌++◌, ◌∷◌, [], List, ap, map, sym, subst, take, All, map-append, take_more, All-push, Sizes, IsPoolRun}
 use Rattle.resil_simulate.specs.declared.numbers.Numbers.{Numbers}
 use Rattle.resil_simulate.proofs.command.run_pools.Goals as goal
 

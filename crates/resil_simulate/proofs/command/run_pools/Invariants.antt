@@ -1,5 +1,4 @@
-use Rattle.std.proofs.Common.{◌≡◌, All, map, take}
-use Rattle.resil_simulate.specs.Command.{IsPoolRun}
+use Rattle.resil_simulate.proofs.Words.{◌≡◌, All, map, take, IsPoolRun}
 use Rattle.resil_simulate.proofs.command.run_pools.Given as goal
 
 -- the pools so far, each with its numbers

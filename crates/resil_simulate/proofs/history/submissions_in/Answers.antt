@@ -1,6 +1,4 @@
-use Rattle.std.proofs.Common.{◌≡◌, ◌∙◌, ◌+◌, ◌++◌, ◌∷◌, [], List, Some, ap, get_or, refl}
-use Rattle.resil_stats.proofs.PlaceLaws.{made_none, made_one}
-use Rattle.resil_simulate.specs.History.{submitted_at}
+use Rattle.resil_simulate.proofs.Words.{◌≡◌, ◌∙◌, ◌+◌, ◌++◌, ◌∷◌, [], List, Some, ap, get_or, refl, made_none, made_one, submitted_at}
 use Rattle.resil_simulate.specs.declared.history.Submitted.{Submitted}
 use Rattle.resil_simulate.proofs.HistoryLaws.{no_timed, none-submitted}
 use Rattle.resil_simulate.proofs.history.submissions_in.Goals as goal

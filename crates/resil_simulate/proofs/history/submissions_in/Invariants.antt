@@ -1,6 +1,5 @@
-use Rattle.std.proofs.Common.{◌≡◌, filter_map, take}
+use Rattle.resil_simulate.proofs.Words.{◌≡◌, filter_map, take, submitted_at}
 use Rattle.std.specs.List.{enumerate_from}
-use Rattle.resil_simulate.specs.History.{submitted_at}
 use Rattle.resil_simulate.proofs.history.submissions_in.Given as goal
 
 -- the submissions among the events so far

@@ -1,5 +1,4 @@
-use Rattle.std.proofs.Common.{take, get_or}
-use Rattle.std.proofs.lemmas.List.{take_more}
+use Rattle.resil_simulate.proofs.Words.{take, get_or, take_more}
 use Rattle.resil_simulate.proofs.HistoryLaws.{no_timed, times_kept, times_more}
 use Rattle.resil_simulate.proofs.history.times_of.Goals as goal
 

@@ -1,7 +1,4 @@
-use Rattle.std.proofs.Common.{take}
-use Rattle.std.specs.BTreeMap.{IsOrdered}
-use Rattle.std.specs.Ordering.{nat_cmp}
-use Rattle.resil_simulate.specs.History.{AreTimesOf}
+use Rattle.resil_simulate.proofs.Words.{take, nat_cmp, IsOrdered, AreTimesOf}
 use Rattle.resil_simulate.proofs.history.times_of.Given as goal
 
 -- the times by the events so far

@@ -1,6 +1,4 @@
-use Rattle.std.proofs.Common.{arith}
-use Rattle.resil_rule.specs.History.{queued_id}
-use Rattle.resil_stats.proofs.CountLaws.{made_few}
+use Rattle.resil_simulate.proofs.Words.{arith, queued_id, made_few}
 use Rattle.resil_simulate.proofs.legality.asked_at.Goals as goal
 
 pub overflow_add-result : goal.overflow_add-result

@@ -1,7 +1,4 @@
-use Rattle.std.proofs.Common.{[], arith, take}
-use Rattle.std.proofs.lemmas.List.{take_more}
-use Rattle.resil_stats.proofs.LegalLaws.{no_event}
-use Rattle.resil_stats.proofs.PlaceLaws.{allowed-at}
+use Rattle.resil_simulate.proofs.Words.{[], arith, take, take_more, no_event, allowed-at}
 use Rattle.resil_simulate.proofs.LegalityLaws.{asked_enough, asked_grown}
 use Rattle.resil_simulate.proofs.legality.asked_by.Goals as goal
 

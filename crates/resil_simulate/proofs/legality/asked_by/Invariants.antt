@@ -1,8 +1,4 @@
-use Rattle.std.proofs.Common.{◌≤◌, [], take}
-use Rattle.resil_rule.specs.Admission.{IsLegal}
-use Rattle.resil_rule.specs.Limits.{AreLimits, Sizes}
-use Rattle.resil_stats.specs.Stats.{AreCountsOf}
-use Rattle.resil_simulate.specs.Legality.{AreEnough, IsAsked}
+use Rattle.resil_simulate.proofs.Words.{◌≤◌, [], take, IsLegal, AreLimits, Sizes, AreCountsOf, AreEnough, IsAsked}
 use Rattle.resil_simulate.proofs.legality.asked_by.Given as goal
 
 -- what the events so far ask for, which any pool has that has all of them

@@ -1,6 +1,4 @@
-use Rattle.std.proofs.Common.{◌∙◌, length, sym, arith}
-use Rattle.std.proofs.lemmas.List.{take_all}
-use Rattle.resil_simulate.specs.Legality.{IsLegalSomewhere}
+use Rattle.resil_simulate.proofs.Words.{◌∙◌, length, sym, arith, take_all, IsLegalSomewhere}
 use Rattle.resil_simulate.proofs.LegalityLaws.{no_events, some_events}
 use Rattle.resil_simulate.proofs.legality.first_illegal.Goals as goal
 

@@ -1,5 +1,4 @@
-use Rattle.std.proofs.Common.{◌-◌, ◌<◌, ◌≤◌, length, take}
-use Rattle.resil_simulate.specs.Legality.{IsLegalSomewhere}
+use Rattle.resil_simulate.proofs.Words.{◌-◌, ◌<◌, ◌≤◌, length, take, IsLegalSomewhere}
 use Rattle.resil_simulate.proofs.legality.first_illegal.Given as goal
 
 -- the history is legal somewhere up to one event, and nowhere up to a later one

@@ -1,8 +1,4 @@
-use Rattle.std.proofs.Common.{arith}
-use Rattle.std.proofs.lemmas.Grind.{common_steps}
-use Rattle.resil_rule.specs.History.{started_id}
-use Rattle.resil_stats.proofs.CountLaws.{made_few}
-use Rattle.resil_stats.proofs.LegalLaws.{started-replies}
+use Rattle.resil_simulate.proofs.Words.{arith, common_steps, started_id, made_few, started-replies}
 use Rattle.resil_simulate.proofs.legality.one_more.Goals as goal
 
 pub overflow_add-before : goal.overflow_add-before

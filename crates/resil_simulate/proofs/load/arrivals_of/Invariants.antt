@@ -1,5 +1,4 @@
-use Rattle.std.proofs.Common.{◌≡◌, take}
-use Rattle.resil_simulate.specs.Load.{arrivals_of}
+use Rattle.resil_simulate.proofs.Words.{◌≡◌, take, arrivals_of}
 use Rattle.resil_simulate.proofs.load.arrivals_of.Given as goal
 
 -- the jobs of the rows so far

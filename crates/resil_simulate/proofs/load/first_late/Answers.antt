@@ -1,6 +1,4 @@
-use borrow.Author.Count.{below_more}
-use Rattle.std.proofs.Common.{◌≡◌, ◌<◌, ◌+◌, ◌-◌, ◌^◌, arith}
-use Rattle.resil_simulate.specs.Load.{end_of}
+use Rattle.resil_simulate.proofs.Words.{◌≡◌, ◌<◌, ◌+◌, ◌-◌, ◌^◌, arith, below_more, end_of}
 use Rattle.resil_simulate.proofs.LoadLaws.{end-here, no_job, runs-more}
 use Rattle.resil_simulate.proofs.load.first_late.Goals as goal
 

@@ -1,6 +1,4 @@
-use Rattle.std.proofs.Common.{◌≡◌, ◌<◌, ◌^◌, ℕ, sum, take}
-use Rattle.resil_virtual.specs.Load.{runs_of}
-use Rattle.resil_simulate.specs.Load.{end_of}
+use Rattle.resil_simulate.proofs.Words.{◌≡◌, ◌<◌, ◌^◌, ℕ, sum, take, runs_of, end_of}
 use Rattle.resil_simulate.proofs.load.first_late.Given as goal
 
 -- the runs so far, and that each job so far is in time

@@ -1,7 +1,4 @@
-use Rattle.std.proofs.Common.{◌∙◌, ap, subst, sym}
-use Rattle.resil_replay.specs.Timed.{AreAscending}
-use Rattle.resil_virtual.specs.Load.{IsLoad, times_of}
-use Rattle.resil_simulate.specs.Load.{AreInTime}
+use Rattle.resil_simulate.proofs.Words.{◌∙◌, ap, subst, sym, AreAscending, IsLoad, times_of, AreInTime}
 use Rattle.resil_simulate.proofs.LoadLaws.{is_load}
 use Rattle.resil_simulate.proofs.load.load_of.Goals as goal
 

@@ -1,6 +1,4 @@
-use Rattle.std.proofs.Common.{◌≡◌, ◌∙◌, rules, unwrap_or, subst, sym}
-use Rattle.resil_virtual.specs.Load.{IsLoad}
-use Rattle.resil_simulate.specs.Load.{AreInTime, jobs_in}
+use Rattle.resil_simulate.proofs.Words.{◌≡◌, ◌∙◌, rules, unwrap_or, subst, sym, IsLoad, AreInTime, jobs_in}
 use Rattle.resil_simulate.proofs.HistoryLaws.{history_load}
 use Rattle.resil_simulate.proofs.load.load_of_history.Goals as goal
 

@@ -1,9 +1,4 @@
-use Rattle.std.proofs.Common.{◌≡◌, ◌+◌, ◌-◌, ◌∙◌, [], ℕ, List, true, false, ap, arith, take}
-use Rattle.std.proofs.lemmas.List.{length-take-le, take_more}
-use Rattle.resil_rule.specs.History.{workers}
-use Rattle.resil_rule.specs.declared.event.Event.{Event}
-use Rattle.resil_simulate.specs.Numbers.{is_finish, running_count}
-use Rattle.resil_stats.proofs.LegalLaws.{allowed-take, no_event}
+use Rattle.resil_simulate.proofs.Words.{◌≡◌, ◌+◌, ◌-◌, ◌∙◌, [], ℕ, List, true, false, ap, arith, take, length-take-le, take_more, workers, Event, is_finish, running_count, allowed-take, no_event}
 use Rattle.resil_simulate.proofs.NumberLaws.{areas-next, finish-next, no_finish}
 use Rattle.resil_simulate.proofs.numbers.areas_of.Goals as goal
 

@@ -1,7 +1,4 @@
-use Rattle.std.proofs.Common.{◌≡◌, ◌-◌, take}
-use Rattle.resil_rule.specs.History.{workers}
-use Rattle.resil_stats.specs.Stats.{AreCountsOf}
-use Rattle.resil_simulate.specs.Numbers.{area, running_count, to_finish}
+use Rattle.resil_simulate.proofs.Words.{◌≡◌, ◌-◌, take, workers, AreCountsOf, area, running_count, to_finish}
 use Rattle.resil_simulate.proofs.numbers.areas_of.Given as goal
 
 -- the counts of the events so far, and what ran and was there up to the last one, and up to the last finish

@@ -1,20 +1,23 @@
 use Rattle.std.proofs.Common.{rules}
-use Rattle.resil_rule.specs.declared.verdict.Verdict.TheVariants.{Legal}
-use Rattle.resil_rule.proofs.VerdictLaws.{verdict_unique}
 use Rattle.resil_simulate.proofs.numbers.numbers_of.Goals as goal
 
+pub spans_of-requires : goal.spans_of-requires
+spans_of-requires c = (c.requires.legal.0, c.requires.legal.2)
+
+pub count_legal-requires : goal.count_legal-requires
+count_legal-requires c = (c.requires.legal.0, c.requires.legal.2)
+
 pub busy_of-requires : goal.busy_of-requires
-busy_of-requires c = record { legal = (c.args.limits, search rules, c.requires.legal); same = c.requires.times; ascending = c.requires.ascending }
+busy_of-requires c = record { legal = c.requires.legal; same = c.requires.times; ascending = c.requires.ascending }
 
 pub returns : goal.returns
 returns c =
-    let legal = verdict_unique c.args.limits c.args.events.now c.in_ok-stats.stats.verdict Legal c.in_ok-stats.ensures.verdict c.requires.legal in
-    let counted = rw legal at c.in_ok-stats.ensures in
+    let counted = c.in_ok-stats.ensures in
     record {
-      submitted = search rules;
-      refused = search rules;
+      submitted = counted.counts.submissions;
+      refused = counted.counts.full;
       waits = search rules;
-      most_waiting = search rules;
-      most_workers = search rules;
+      most_waiting = counted.most.waiting;
+      most_workers = counted.most.workers;
       busy = search rules;
     }

@@ -1,5 +1,4 @@
-use Rattle.std.proofs.Common.{◌≡◌, string_bytes, take}
-use Rattle.resil_simulate.specs.Table.{pools_text}
+use Rattle.resil_simulate.proofs.Words.{◌≡◌, string_bytes, take, pools_text}
 use Rattle.resil_simulate.proofs.table.table_text.Given as goal
 
 -- the records of the pools so far

@@ -3,11 +3,10 @@ use Rattle.resil_admission.specs.Words.{is_among, RuleView, made_by, next_reply,
 use Rattle.resil_rule.proofs.FreshLaws.{next-fresh}
 use Rattle.resil_rule.proofs.OwedLaws.{submission-owes}
 use Rattle.resil_rule.proofs.RuleLaws.{next-is}
-use Rattle.resil_rule.proofs.RefusalLaws.{submission-follows, submission-accepted, submission-refused}
 use Rattle.resil_admission.specs.MachineView.{MachineView, ids_of, with_submission as machine_submission}
 use Rattle.resil_admission.specs.JobsInvariant.{unpicked_in}
 use Rattle.resil_admission.specs.MachineInvariant.{times_unpicked}
-use Rattle.resil_admission.proofs.MachineLaws.{machine-after, seen, unpicked-submitted, accepted-after, refused-after, refused-view, accepted-view}
+use Rattle.resil_admission.proofs.MachineLaws.{machine-after, seen, unpicked-submitted, accepted-after, refused-after, refused-counted, refused-view, accepted-view}
 use Rattle.resil_admission.proofs.machine.Machine.submit.Goals.{After-next_reply-reply}
 use Rattle.resil_admission.proofs.machine.Machine.submit.Goals as goal
 
@@ -48,15 +47,11 @@ module _ (c : goal.Joined-job) where
   bars : is_acceptance (next_reply (v ready)) ≡ false
   bars = ap is_acceptance (sym c.next_reply-reply.ensures.rule_of_admission) ∙ sym c.is_acceptance.ensures ∙ c.if-not-is_acceptance.true
 
-  refused : c.submit-refused.new.self ≡ counted (v ready) c.args.id
-  refused =
-      let told = c.submit-refused.ensures in
-      submission-refused (v ready) c.submit-refused.new.self c.args.id tt c.in-Ok.ensures.caller (next ready) c.submit-refused.result told.accepted told.follows told.refused bars
+  refused : c.submit_with_reply.new.self ≡ counted (v ready) c.args.id
+  refused = rw c.next_reply-reply.ensures.rule_of_admission at c.submit_with_reply.ensures.submitted ∙ refused-counted (v ready) c.args.id (next_reply (v ready)) (bars)
 
   refused-follows : Follows (v ready) (event ready) (counted (v ready) c.args.id)
-  refused-follows =
-      let told = c.submit-refused.ensures in
-      rw refused at (submission-follows (v ready) c.submit-refused.new.self c.args.id tt c.in-Ok.ensures.caller (next ready) c.submit-refused.result told.accepted told.follows told.refused)
+  refused-follows = rw (refused, c.next_reply-reply.ensures.rule_of_admission) at c.submit_with_reply.ensures.follows
 
   refused-events : c.write.new.self.events ≡ h ready ++ event ready ∷ []
   refused-events = c.write.ensures.written (h ready) c.make_room.ensures.kept ∙ ap (λ (reply : Reply). h ready ++ Submit c.args.id reply ∷ []) c.next_reply-reply.ensures.rule_of_admission
@@ -69,15 +64,11 @@ module _ (c : goal.After-push) where
   accepts : is_acceptance (next_reply (v room)) ≡ true
   accepts = ap is_acceptance (sym c.next_reply-reply.ensures.rule_of_admission) ∙ sym c.is_acceptance.ensures ∙ c.if-not-is_acceptance.false
 
-  accepted : c.submit-accepted.new.self ≡ with_submission (v room) c.args.id tt (next_reply (v room))
-  accepted =
-      let told = c.submit-accepted.ensures in
-      submission-accepted (v room) c.submit-accepted.new.self c.args.id tt c.in-Ok.ensures.caller (next room) c.submit-accepted.result told.accepted told.follows told.refused accepts
+  accepted : c.submit_with_reply-2.new.self ≡ with_submission (v room) c.args.id tt (next_reply (v room))
+  accepted = rw c.next_reply-reply.ensures.rule_of_admission at c.submit_with_reply-2.ensures.submitted
 
   accepted-follows : Follows (v room) (event room) (with_submission (v room) c.args.id tt (next_reply (v room)))
-  accepted-follows =
-      let told = c.submit-accepted.ensures in
-      rw accepted at (submission-follows (v room) c.submit-accepted.new.self c.args.id tt c.in-Ok.ensures.caller (next room) c.submit-accepted.result told.accepted told.follows told.refused)
+  accepted-follows = rw (accepted, c.next_reply-reply.ensures.rule_of_admission) at c.submit_with_reply-2.ensures.follows
 
   accepted-events : c.write-2.new.self.events ≡ h room ++ event room ∷ []
   accepted-events = c.write-2.ensures.written (h room) c.make_room.ensures.kept ∙ ap (λ (reply : Reply). h room ++ Submit c.args.id reply ∷ []) c.next_reply-reply.ensures.rule_of_admission

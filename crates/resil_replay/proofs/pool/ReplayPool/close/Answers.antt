@@ -1,8 +1,4 @@
-use Rattle.std.proofs.Common.{◌≡◌, refl, Bool, true, false}
-use Rattle.std.specs.Bool.{OnTrue, OnFalse}
-use Rattle.resil_admission.specs.MachineView.{MachineView, with_event}
-use Rattle.resil_rule.specs.declared.event.Event.TheVariants.{Close}
-use Rattle.resil_replay.specs.Pool.{ReplayPoolInvariant}
+use Rattle.resil_replay.proofs.Words.{◌≡◌, refl, Bool, true, false, OnTrue, OnFalse, MachineView, with_event, Close, ReplayPoolInvariant}
 use Rattle.resil_replay.proofs.PlayLaws.{closing-played}
 use Rattle.resil_replay.proofs.PoolLaws.{kept-same}
 use Rattle.resil_replay.proofs.pool.ReplayPool.close.Goals as goal

@@ -1,5 +1,4 @@
-use Rattle.std.proofs.Common.{inl, Some, ◌∙◌, sym, ap, refl}
-use Rattle.resil_rule.specs.declared.event.Event.TheVariants.{Finish}
+use Rattle.resil_replay.proofs.Words.{inl, Some, ◌∙◌, sym, ap, refl, Finish}
 use Rattle.resil_replay.proofs.PoolLaws.{plan-out, finished-kept, left-kept, out-running, refused-idle, idle-where-none}
 use Rattle.resil_replay.proofs.pool.ReplayPool.finish.Goals as goal
 use Rattle.resil_replay.proofs.pool.ReplayPool.finish.Goals.{in-Ok, in-Err}

@@ -1,5 +1,4 @@
-use Rattle.std.proofs.Common.{inl, refl}
-use Rattle.resil_rule.specs.declared.event.Event.TheVariants.{IdleEnd}
+use Rattle.resil_replay.proofs.Words.{inl, refl, IdleEnd}
 use Rattle.resil_replay.proofs.PoolLaws.{kept-same}
 use Rattle.resil_replay.proofs.pool.ReplayPool.idle.Goals as goal
 

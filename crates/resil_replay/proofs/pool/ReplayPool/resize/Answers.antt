@@ -1,6 +1,4 @@
-use Rattle.std.proofs.Common.{inl, refl}
-use Rattle.resil_admission.specs.MachineView.{with_event}
-use Rattle.resil_rule.specs.declared.event.Event.TheVariants.{Resized}
+use Rattle.resil_replay.proofs.Words.{inl, refl, with_event, Resized}
 use Rattle.resil_replay.proofs.PoolLaws.{kept-same}
 use Rattle.resil_replay.proofs.pool.ReplayPool.resize.Goals.{in-Ok, in-Err-CoreOutOfRange, in-Err-MaxOutOfRange, in-Err}
 use Rattle.resil_replay.proofs.pool.ReplayPool.resize.Goals as goal

@@ -1,7 +1,4 @@
-use Rattle.std.proofs.Common.{◌≡◌, ◌∷◌, [], inl, refl, rules}
-use Rattle.resil_admission.specs.MachineView.{with_submission, newly_accepted}
-use Rattle.resil_rule.specs.History.{started}
-use Rattle.resil_rule.specs.declared.event.Event.TheVariants.{Submit}
+use Rattle.resil_replay.proofs.Words.{◌≡◌, ◌∷◌, [], inl, refl, rules, with_submission, newly_accepted, started, Submit}
 use Rattle.resil_replay.proofs.PoolLaws.{plans-grow, kept-same, next-submitted, picked-submitted, submitted-kept, found}
 use Rattle.resil_replay.proofs.pool.ReplayPool.submit.Goals as goal
 

@@ -1,5 +1,4 @@
-use Rattle.std.proofs.Common.{inl, refl}
-use Rattle.resil_rule.specs.declared.event.Event.TheVariants.{Take}
+use Rattle.resil_replay.proofs.Words.{inl, refl, Take}
 use Rattle.resil_replay.proofs.PoolLaws.{picked-taken, taken-kept}
 use Rattle.resil_replay.proofs.pool.ReplayPool.take.Goals as goal
 

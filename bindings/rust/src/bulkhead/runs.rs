@@ -1,0 +1,71 @@
+//! Permits that are held together.
+use super::seats::Place;
+
+/// So many permits at one place.
+#[derive(Clone, Copy)]
+pub(super) struct Run {
+    pub(super) place: Place,
+    pub(super) count: u32,
+}
+
+/// Permits that are held together: so many at each place. Those that one thread takes at once are one run, however many.
+#[derive(Default)]
+pub(super) struct Runs {
+    runs: Vec<Run>,
+    count: u32,
+}
+
+impl Runs {
+    pub(super) fn count(&self) -> u32 {
+        self.count
+    }
+
+    pub(super) fn push(&mut self, run: Run) {
+        self.count += run.count;
+        match self.runs.last_mut() {
+            Some(last) if last.place == run.place => last.count += run.count,
+            _ => self.runs.push(run),
+        }
+    }
+
+    /// At most so many of those that came last.
+    pub(super) fn pop(&mut self, most: u32) -> Option<Run> {
+        let last = self.runs.last_mut()?;
+        let count = last.count.min(most);
+        let place = last.place;
+        last.count -= count;
+        if last.count == 0 {
+            self.runs.pop();
+        }
+        self.count -= count;
+        Some(Run { place, count })
+    }
+
+    /// Parts with so many, at most as many as there are.
+    pub(super) fn split(&mut self, count: u32) -> Runs {
+        let mut parts = Runs::default();
+        while parts.count < count {
+            let Some(run) = self.pop(count - parts.count) else {
+                break;
+            };
+            parts.push(run);
+        }
+        parts
+    }
+
+    pub(super) fn merge(&mut self, others: Runs) {
+        others.runs.into_iter().for_each(|run| self.push(run));
+    }
+
+    pub(super) fn iter(&self) -> impl Iterator<Item = Run> {
+        self.runs.iter().copied()
+    }
+
+    /// The same permits, at what this makes of their places.
+    pub(super) fn map(mut self, place: impl Fn(Place) -> Place) -> Runs {
+        for run in &mut self.runs {
+            run.place = place(run.place);
+        }
+        self
+    }
+}

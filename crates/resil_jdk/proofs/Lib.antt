@@ -1,0 +1,10 @@
+pub mod ConservationLaws
+pub mod FromRuleLaws
+pub mod HistoryLaws
+pub mod JobsLaws
+pub mod LineLaws
+pub mod ReplyLaws
+pub mod StateLaws
+pub mod StepLaws
+pub mod VerdictLaws
+pub mod WorkerLaws

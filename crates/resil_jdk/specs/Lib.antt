@@ -1,0 +1,10 @@
+pub mod Admission
+pub mod Examples
+pub mod FromRule
+pub mod History
+pub mod Jobs
+pub mod Limits
+pub mod RuleInvariant
+pub mod RuleState
+pub mod RuleView
+pub mod Verdict

@@ -1,0 +1,32 @@
+//! The whole rule of the JDK's `ThreadPoolExecutor`, beside that of `resil_rule`.
+//!
+//! `resil_rule` has the rule of our own pools: a core size from 1, a queue with a bound, at most 64 workers. A pool of the JDK may
+//! have no core worker, hand jobs over without a queue, have more workers, begin and cull workers without a job, time out core
+//! workers, remove jobs from its queue, and stop. `JdkEvent` and `JdkLimits` have the words for that; `specs/History.antt` says
+//! what a history of events means, and `specs/Admission.antt` which event may come next. `audit` judges a history by one pass of
+//! `JdkRule`. A history that `resil_rule` has words for is legal by both rules or by none (`legal_alike`).
+//!
+//! The rule is that of the class documentation of `java.util.concurrent.ThreadPoolExecutor`; `JdkRule::next_reply` tells how it
+//! answers a submission. Not of this rule are pools with a queue that isn't first in, first out, with a thread factory that
+//! fails, or with jobs in the queue before the pool is made, and `ScheduledThreadPoolExecutor`.
+#![tactic(auto)]
+
+mod error;
+mod event;
+mod from_rule;
+mod jobs;
+mod laws;
+mod limits;
+mod rule;
+mod verdict;
+
+pub use error::JdkError;
+pub use event::{JdkEvent, JdkReply};
+pub use from_rule::jdk_history;
+pub use laws::{
+    jobs_conserved, legal_alike, running_within_workers, worked_histories, workers_within_opening,
+};
+pub use limits::JdkLimits;
+pub use rule::JdkRule;
+pub use rule::answer::{JdkAnswer, JdkState, rule_at_last};
+pub use verdict::{audit, verdicts_are_one};

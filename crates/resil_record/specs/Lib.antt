@@ -1,0 +1,4 @@
+pub mod Body
+pub mod Event
+pub mod Row
+pub mod Text

@@ -1,7 +1,0 @@
-use Rattle.std.proofs.Common.{take}
-use Rattle.resil_replay.specs.Timed.{AreAscending}
-use Rattle.resil_replay.proofs.timed.first_back.Given as goal
-
--- the times so far ascend
-abbrev pub invariant-loop-index : goal.invariant-loop-index
-invariant-loop-index l = AreAscending (take l.index l.times)
