@@ -32,7 +32,7 @@ impl<R: Clock> WorkAt<&R> for Rest {
 
 /// Ends once two of its kind have come, or after five seconds. It answers whether they have.
 #[derive(Drop)]
-struct Meeting(Arc<AtomicU32>);
+pub(crate) struct Meeting(Arc<AtomicU32>);
 
 impl Answers for Meeting {
     type Output = bool;
@@ -52,7 +52,7 @@ impl<R: Clock> WorkAt<&R> for Meeting {
 }
 
 /// A meeting, submitted.
-fn submitted<R: Abort + Wait>(
+pub(crate) fn submitted<R: Abort + Wait>(
     rt: &R,
     alloc: Global,
     pool: &WorkPool<Meeting>,
@@ -191,4 +191,21 @@ fn pools_end_in_time(rt: HostRuntime) {
             Err(_) => false,
         },
     );
+}
+
+// The same of a pool that is closed behind its rows, here none, while its worker sleeps from about 63 to 127 ms.
+#[test]
+fn held_pools_end_in_time(rt: HostRuntime) {
+    let alloc = rt.alloc();
+    are_in_time(&rt, (12, 0, 118), || {
+        let parts = Mutex::new(passed(&rt, Parts::open(&rt, alloc, (1, 1, 8), 1)));
+        let ended = Ended(AtomicU64::new(0));
+        let close = || {
+            thread::sleep(&rt, Duration::from_millis(100));
+            parts.lock(&rt).close_held(&rt)
+        };
+        let ((), in_order) = thread::join(&rt, || work(&rt, alloc, &parts, &ended), close);
+        let report = parts.into_inner().drained(&rt, alloc);
+        in_order && report.results.is_empty()
+    });
 }

@@ -5,6 +5,8 @@
 #[cfg(test)]
 mod answers;
 #[cfg(test)]
+mod as_long;
+#[cfg(test)]
 mod at_once;
 #[cfg(test)]
 mod batch;

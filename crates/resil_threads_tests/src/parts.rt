@@ -5,6 +5,7 @@ ghost use Rattle.std.specs.Arc.{arc_value};
 
 use crate::shared::{answer, job_of, limits, passed, plan};
 use resil_decor::{Job, Passes, Permitter};
+use resil_pool::close_held;
 use resil_workers::{
     Caller, Closer, Hook, OpenError, Pool, Receipt, Report, ResizeError, SubmitError, Ticket,
     Worker, WorkerEnd, drain, open_pool,
@@ -101,6 +102,11 @@ impl Parts {
     /// Closes the pool.
     pub fn close<R: Wait>(&mut self, rt: &R) {
         self.pool.close(rt, &mut self.closer);
+    }
+
+    /// Closes the pool as one whose rows, here none, were submitted while it was held: whether nothing was submitted.
+    pub fn close_held<R: Wait>(&mut self, rt: &R) -> bool {
+        close_held(rt, &self.pool, &mut self.closer, &[])
     }
 
     /// One more owner of the pool, and its last worker.
