@@ -13,6 +13,7 @@ mod interval;
 mod library;
 mod lock;
 pub mod metrics;
+mod moment;
 mod observer;
 pub mod pass;
 mod record;

@@ -2,13 +2,21 @@
 //!
 //! An event is noted by the call of the rule that makes it. Both lie behind the pool's lock, so their order is that of the rule's
 //! decisions. Each part of a record begins with events that make the state in which the pool was, so it is judged alone.
+#[cfg(test)]
+mod tests;
+
+use crate::moment::Moment;
 use crate::rule::{JobId, Origin, Picked, PoolError, PoolNumbers, PoolRule, Reply};
 use std::collections::{HashMap, VecDeque};
 use std::fmt::{Arguments, Write as _};
+use std::time::{Duration, SystemTime, UNIX_EPOCH};
 use std::{iter, mem};
 
-/// The most events of a part. A line has at most 41 bytes while the pool is younger than 300 years, so a text has less than a mebibyte.
-pub(crate) const MOST_EVENTS: u32 = 25_000;
+/// The most events of a part. A line has at most 41 bytes while the pool is younger than 30 years, so a text has less than 4 MiB.
+pub(crate) const MOST_EVENTS: u32 = 100_000;
+
+/// The longest time, in microseconds, after which a head may say that an idle worker ends: a year.
+const LONGEST_IDLE: u64 = 31_536_000_000_000;
 
 /// How many jobs may run at once. The rule gives each a place below.
 const PLACES: usize = 64;
@@ -22,6 +30,7 @@ enum What {
     Submit(Reply),
     Take,
     Finish,
+    Remove,
     IdleEnd,
     Close,
     Resize(u8, u8),
@@ -66,13 +75,38 @@ pub(crate) fn memory_for(events: usize) -> Result<Vec<Noted>, PoolError> {
     Ok(memory)
 }
 
-/// What the head of a part tells; how many events the part may have, and how many of them make its state.
+/// A moment by two clocks: by that of the record, in microseconds since the opening, and by that of the system.
+#[derive(Clone, Copy)]
+pub(crate) struct Anchor {
+    pub(crate) at: u64,
+    pub(crate) system: SystemTime,
+}
+
+impl Anchor {
+    /// The moment of the calendar when it is this late by the clock of the record; none before 1970 and after 9999.
+    fn moment(&self, at: u64) -> Option<Moment> {
+        let until_this = self.system.duration_since(UNIX_EPOCH).ok()?;
+        let since = Duration::from_micros(at.saturating_sub(self.at));
+        Moment::after_1970(until_this.checked_add(since)?)
+    }
+}
+
+/// What a pool is recorded with: room for so many events, when it was opened, and the keep-alive of its threads.
+pub(crate) struct Plan {
+    pub(crate) events: usize,
+    pub(crate) opened: Anchor,
+    pub(crate) keep_alive: Duration,
+}
+
+/// What the head of a part tells; a moment when it began, or before; how many events it may have, and how many make its state.
 #[derive(Clone, Copy)]
 struct Head {
     number: u64,
     core: u32,
     greatest: u32,
     queue: u32,
+    idle_for: u64,
+    start: Anchor,
     most: usize,
     made: usize,
 }
@@ -85,32 +119,60 @@ pub(crate) struct Part {
 }
 
 impl Part {
-    /// The text of a history, with its head.
+    /// The text of a history, with its head: version 4 where jobs were given back, for which version 3 has no row.
     pub(crate) fn text(&self) -> String {
-        let head = self.head;
-        let (core, max, queue) = (head.core, head.greatest, head.queue);
-        let mut lines = Lines::default();
+        let is_removal = |noted: &Noted| matches!(noted.what, What::Remove);
+        let has_removals = self.events.iter().any(is_removal);
+        let head = self.comments() + &self.keys();
+        let time_out = if has_removals { ",time_out" } else { "" };
+        let mut lines = Lines {
+            text: format!("{head}---\nevent,caller,number,reply,core,max{time_out},at\n"),
+            has_time_out: has_removals,
+            submitted: [0; 2],
+            waiting: VecDeque::new(),
+            running: HashMap::new(),
+        };
         self.events.iter().for_each(|noted| lines.write(*noted));
-        let made = match head.made {
+        lines.text
+    }
+
+    fn comments(&self) -> String {
+        let made = match self.head.made {
             0 => String::new(),
-            made if made > head.most => " Too many jobs waited, so it is empty.".to_owned(),
+            made if made > self.head.most => " Too many jobs waited, so it is empty.".to_owned(),
             made => format!(" The first {made} events make the state in which the pool was."),
         };
         let missed = match self.missed {
             0 => String::new(),
-            missed => format!("\n# The room was full: {missed} events that came then are missing."),
+            missed => {
+                format!("# The room was full: {missed} events that came then are missing.\n")
+            }
         };
-        let comments = format!("# Part {} of a pool's record.{made}{missed}", head.number);
-        let sizes = format!("core = {core}\nmax = {max}\nqueue = {queue}");
-        let head = format!("{comments}\n{sizes}\n---\nevent,caller,number,reply,core,max,at\n");
-        head + &lines.text
+        let number = self.head.number;
+        format!("# Part {number} of a pool's record.{made}\n{missed}")
+    }
+
+    fn keys(&self) -> String {
+        let (core, max, queue) = (self.head.core, self.head.greatest, self.head.queue);
+        let idle_for = self.head.idle_for;
+        let made = match self.head.made {
+            made if (1..=self.head.most).contains(&made) => format!("made = {made}\n"),
+            _ => String::new(),
+        };
+        // Without an event there is none that was first.
+        let first = self.events.first();
+        let began = first.and_then(|first| self.head.start.moment(first.at));
+        let began = began.map_or(String::new(), |began| format!("began = {began}\n"));
+        let sizes = format!("core = {core}\nmax = {max}\nqueue = {queue}\n");
+        format!("{sizes}idle_for = {idle_for}\n{made}{began}")
     }
 }
 
 /// The lines of a text, in which each caller's submissions are numbered from 1.
-#[derive(Default)]
 struct Lines {
     text: String,
+    // Whether each line has a field for the time-out of core workers, which stays empty, before its time: version 4 has.
+    has_time_out: bool,
     submitted: [u64; 2],
     // The numbers of the jobs that wait, oldest first, and of those that run, by their caller and their number in the pool.
     waiting: VecDeque<u64>,
@@ -136,6 +198,10 @@ impl Lines {
                 let number = number.expect("what is finished runs");
                 self.line(at, format_args!("finish,{caller},{number},,,"));
             }
+            What::Remove => {
+                let number = self.waiting.pop_front().expect("what is removed waits");
+                self.line(at, format_args!("remove,{caller},{number},,,"));
+            }
             What::IdleEnd => self.line(at, format_args!("idle,,,,,")),
             What::Close => self.line(at, format_args!("close,,,,,")),
             What::Resize(core, max) => self.line(at, format_args!("resize,,,,{core},{max}")),
@@ -155,7 +221,8 @@ impl Lines {
     }
 
     fn line(&mut self, at: u64, fields: Arguments<'_>) {
-        let _written = writeln!(self.text, "{fields},{at}");
+        let time_out = if self.has_time_out { "," } else { "" };
+        let _written = writeln!(self.text, "{fields}{time_out},{at}");
     }
 }
 
@@ -183,6 +250,27 @@ struct Record {
 }
 
 impl Record {
+    fn new(plan: &Plan, numbers: PoolNumbers) -> Result<Record, PoolError> {
+        let idle_for = u64::try_from(plan.keep_alive.as_micros()).unwrap_or(u64::MAX);
+        let events = memory_for(plan.events)?;
+        Ok(Record {
+            at: 0,
+            running: [0; PLACES],
+            missed: 0,
+            head: Head {
+                number: 1,
+                core: numbers.core,
+                greatest: numbers.max,
+                queue: numbers.capacity,
+                idle_for: idle_for.min(LONGEST_IDLE),
+                start: plan.opened,
+                most: events.capacity(),
+                made: 0,
+            },
+            events,
+        })
+    }
+
     #[inline]
     fn note(&mut self, job: u64, what: What) {
         if self.events.len() < self.events.capacity() {
@@ -192,66 +280,55 @@ impl Record {
         }
     }
 
-    /// The events that make the state of a pool, of an open one of its core size and the greatest size at the opening; at most one more
-    /// than a part may have.
-    fn made(&self, numbers: PoolNumbers, is_closed: bool) -> Vec<Noted> {
+    /// The events that make the state of a pool, of an open one of its core size and the greatest size at the opening.
+    fn made(&self, numbers: PoolNumbers, is_closed: bool) -> impl Iterator<Item = Noted> + use<> {
         let (workers, waiting) = (numbers.workers, numbers.waiting);
         let (core, max) = (numbers.core, numbers.max);
         let mut jobs = self.running.to_vec();
         jobs.retain(|job| *job > 0);
         jobs.sort_unstable();
         let (at, idle) = (self.at, u64::from(workers - numbers.running));
-        let of = |job: u64, what: What| noted(at, SUBMITTERS, job, what);
-        let one = |is_so: bool, what: What| is_so.then(|| of(0, what));
-        let each_idle = |what: What| (1..=idle).map(move |job| noted(at, STAND_INS, job, what));
+        let of = move |job: u64, what: What| noted(at, SUBMITTERS, job, what);
+        let one = move |is_so: bool, what: What| is_so.then(|| of(0, what));
+        let each_idle =
+            move |what: What| (1..=idle).map(move |job| noted(at, STAND_INS, job, what));
         // A worker comes by a submission below the core size, and jobs wait where there are as many as that.
         let is_sized = workers > core || (workers < core && waiting > 0);
         let all = self.head.greatest;
         let (starts, waits) = (What::Submit(Reply::Core), What::Submit(Reply::Queued));
         one(is_sized, resized(workers, all))
             .into_iter()
-            .chain(jobs.into_iter().map(|job| of(job, starts)))
+            .chain(jobs.into_iter().map(move |job| of(job, starts)))
             .chain(each_idle(starts))
             .chain(iter::repeat_n(of(0, waits), waiting as usize))
             .chain(each_idle(What::Finish))
             .chain(one(is_sized || max < all, resized(core, max)))
             .chain(one(is_closed, What::Close))
-            .take(self.head.most + 1)
-            .collect()
     }
 }
 
 /// The rule of a pool with the record that it has where it is recorded: each call that makes an event notes it.
 pub(crate) struct RecordedRule {
     rule: PoolRule,
+    // How many jobs the rule has in its queue still that were given back.
+    removed: u32,
     record: Option<Box<Record>>,
 }
 
 impl RecordedRule {
-    /// A rule to which nothing has happened, with the memory for a record of so many events.
+    /// A rule to which nothing has happened, with the memory for its record.
     ///
     /// # Errors
     ///
     /// `Memory` where memory runs out.
-    pub(crate) fn new(mut rule: PoolRule, events: Option<usize>) -> Result<Self, PoolError> {
-        let memory = events.map(memory_for).transpose()?;
+    pub(crate) fn new(mut rule: PoolRule, plan: Option<&Plan>) -> Result<Self, PoolError> {
         let numbers = rule.numbers();
-        let record = memory.map(|events| Record {
-            at: 0,
-            running: [0; PLACES],
-            missed: 0,
-            head: Head {
-                number: 1,
-                core: numbers.core,
-                greatest: numbers.max,
-                queue: numbers.capacity,
-                most: events.capacity(),
-                made: 0,
-            },
-            events,
-        });
-        let record = record.map(Box::new);
-        Ok(RecordedRule { rule, record })
+        let record = plan.map(|plan| Record::new(plan, numbers)).transpose()?;
+        Ok(RecordedRule {
+            rule,
+            removed: 0,
+            record: record.map(Box::new),
+        })
     }
 
     /// Begins a turn, whose events have this time in microseconds, or that of the turn before where it is later.
@@ -262,21 +339,24 @@ impl RecordedRule {
         }
     }
 
-    /// What was recorded up to here, where the pool is recorded. The next part goes on in this memory.
-    pub(crate) fn begin_part(&mut self, mut memory: Vec<Noted>) -> Option<Part> {
+    /// What was recorded up to here, where the pool is recorded. The next part goes on in this memory, and begins at this moment or a
+    /// little later.
+    pub(crate) fn begin_part(&mut self, mut memory: Vec<Noted>, start: Anchor) -> Option<Part> {
+        let numbers = self.numbers();
+        let is_closed = self.rule.is_closed();
         let record = self.record.as_mut()?;
-        let numbers = self.rule.numbers();
-        let mut made = record.made(numbers, self.rule.is_closed());
+        let mut made = record.made(numbers, is_closed);
+        let most = record.head.most;
+        memory.extend(made.by_ref().take(most));
         let next = Head {
             number: record.head.number + 1,
             core: numbers.core,
-            made: made.len(),
+            start,
+            made: memory.len() + usize::from(made.next().is_some()),
             ..record.head
         };
-        if made.len() > next.most {
+        if next.made > most {
             memory = Vec::new();
-        } else {
-            memory.append(&mut made);
         }
         Some(Part {
             head: mem::replace(&mut record.head, next),
@@ -322,6 +402,25 @@ impl RecordedRule {
         Ok(())
     }
 
+    /// Takes down that the oldest job of the queue was given back. The pool is closed. The rule has no such event: it keeps the job until
+    /// [`finish_removed`](Self::finish_removed).
+    pub(crate) fn remove(&mut self, job: u64) {
+        self.removed += 1;
+        self.note(job, What::Remove);
+    }
+
+    /// Has the rule pick and finish what was given back, as far as it has idle workers. Nobody runs that, so it isn't noted.
+    pub(crate) fn finish_removed(&mut self) {
+        while self.removed > 0 {
+            let Some(picked) = self.rule.pick() else {
+                return;
+            };
+            let finished = self.rule.finish(&picked);
+            finished.expect("what was picked is finished once");
+            self.removed -= 1;
+        }
+    }
+
     pub(crate) fn resize(&mut self, core: u32, max: u32) -> Result<(), PoolError> {
         self.rule.resize(core, max)?;
         self.note(0, resized(core, max));
@@ -342,7 +441,13 @@ impl RecordedRule {
         }
     }
 
+    /// The numbers, in which a job that was given back is finished.
     pub(crate) fn numbers(&mut self) -> PoolNumbers {
-        self.rule.numbers()
+        let numbers = self.rule.numbers();
+        PoolNumbers {
+            waiting: numbers.waiting - self.removed,
+            finished: numbers.finished + u64::from(self.removed),
+            ..numbers
+        }
     }
 }

@@ -119,13 +119,17 @@ impl ThreadPool {
     }
 
     /// What was [recorded](ThreadPoolBuilder::record) since the opening or the last call, as the text of a history with its head, which
-    /// the program's `judge`, `stats` and `timeline` read; none where the pool isn't recorded, or memory for what comes then runs out.
-    /// It is below a mebibyte.
+    /// the program's `judge`, `stats` and `timeline` read; none if the pool isn't recorded, or if there is no memory for what comes
+    /// then. It is below 4 MiB.
+    ///
+    /// The head has the sizes, the keep-alive in microseconds as `idle_for`, of a year at most, and as `began` when the first event
+    /// was, in UTC by the system's clock. The text is version 3, with times, and version 4 if it has jobs that
+    /// [`close_now`](ThreadPool::close_now) gave back: version 3 has no row for them.
     ///
     /// The record begins anew with it: the next text begins with events that make the state in which the pool was, all at the time of
-    /// this call, and says how many they are. So each text is judged alone, and a wait or a run across this moment is cut. All
-    /// submissions are those of caller 1, numbered anew in each text; each thread that was idle at its beginning has a submission of
-    /// caller 2 with its finish. Where more jobs wait than the record has room for, it is empty up to the next call.
+    /// this call, and its head says how many they are, as `made`. So each text is judged alone, and a wait or a run across this moment
+    /// is cut. All submissions are those of caller 1, numbered anew in each text; each thread that was idle at its beginning has a
+    /// submission of caller 2 with its finish. If more jobs wait than the record has room for, it is empty up to the next call.
     ///
     /// The last events of a pool come by `close`, `join` and then this. Its text is written by this thread, without the lock.
     ///

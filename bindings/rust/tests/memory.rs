@@ -1,16 +1,10 @@
 //! A pool keeps nothing of the jobs that it has run. No other test runs in this process.
 #![cfg(target_os = "linux")]
+mod common;
 
+use common::resident;
 use resil::ThreadPool;
 use std::error::Error;
-
-// The memory that this process has now, in KiB, without what is mapped from files.
-fn resident() -> Result<u64, Box<dyn Error>> {
-    let status = std::fs::read_to_string("/proc/self/status")?;
-    let line = status.lines().find(|line| line.starts_with("RssAnon:"));
-    let number = line.and_then(|line| line.split_whitespace().nth(1));
-    Ok(number.ok_or("there is no RssAnon")?.parse()?)
-}
 
 // Runs so many times fifty jobs, and then tells the memory.
 fn after_rounds(pool: &ThreadPool, count: u64) -> Result<u64, Box<dyn Error>> {

@@ -10,6 +10,8 @@ const SMALL: usize = 60;
 thread_local! {
     // How many larger pieces this thread still gets before one is refused; none is where it is zero.
     static UNTIL_REFUSED: Cell<u32> = const { Cell::new(0) };
+    // The largest piece that this thread has got.
+    static LARGEST: Cell<usize> = const { Cell::new(0) };
 }
 
 /// The system's memory, of which a thread may be refused a piece.
@@ -25,6 +27,7 @@ unsafe impl GlobalAlloc for Refusing {
                 return ptr::null_mut();
             }
         }
+        LARGEST.set(LARGEST.get().max(layout.size()));
         // SAFETY: as is asked of the caller.
         unsafe { System.alloc(layout) }
     }
@@ -81,4 +84,25 @@ fn a_pool_has_room_for_its_ring_queue_and_threads() {
     // That of a record is asked for before these.
     let refused = without(1, || ThreadPool::builder(8, 8).record(9).open().err());
     assert_eq!(refused, Some(PoolError::Memory));
+}
+
+#[test]
+fn the_memory_of_a_record_is_taken_at_the_opening() -> Result<(), PoolError> {
+    let builder = ThreadPool::builder(1, 1).record(100_000);
+    LARGEST.set(0);
+    let pool = builder.open()?;
+    // 24 bytes an event.
+    assert_eq!(LARGEST.replace(0), 2_400_000);
+    pool.close();
+    for _ in 0..100_000 {
+        assert!(pool.submit(|| ()).is_err());
+    }
+    assert!(LARGEST.get() < 1_000, "{} bytes", LARGEST.get());
+    // The closing was one of them.
+    let text = pool.history().unwrap_or_default();
+    assert!(text.contains("# The room was full: 1 events that came then are missing."));
+    // Where there is no memory for what comes then, the record goes on.
+    assert_eq!(without(1, || pool.history()), None);
+    assert!(pool.history().is_some());
+    Ok(())
 }

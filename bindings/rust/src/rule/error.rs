@@ -7,7 +7,7 @@ use crate::texts::error_texts;
 pub enum PoolError {
     /// The pool's name has a byte 0, which no thread's name may have.
     NulInName,
-    /// The record of a pool isn't for 1 to 25,000 events.
+    /// The record of a pool isn't for 1 to 100,000 events.
     RecordOutOfRange,
     /// The core size isn't from 1 to 64.
     CoreOutOfRange,
@@ -29,7 +29,7 @@ pub enum PoolError {
 
 error_texts! { PoolError {
     NulInName => "the name has a byte 0",
-    RecordOutOfRange => "the record is not for 1 to 25000 events",
+    RecordOutOfRange => "the record is not for 1 to 100000 events",
     CoreOutOfRange => "the core size is not from 1 to 64",
     MaxOutOfRange => "the greatest size is not from the core size to the largest one allowed",
     QueueOutOfRange => "the queue capacity is not from 1 to 65536",

@@ -7,7 +7,7 @@ use super::inbox::{Inbox, Ring};
 use super::inside::Caller;
 use super::joins::{Joins, Threads};
 use super::task::Work;
-use crate::record::{Noted, Part, RecordedRule};
+use crate::record::{Anchor, Noted, Part, RecordedRule};
 use crate::rule::{JobId, Origin, Picked, PoolError, PoolNumbers, Reply};
 use std::collections::VecDeque;
 use std::mem;
@@ -34,9 +34,8 @@ pub(super) struct Book {
     pub(super) inbox: Inbox,
     by_lock: bool,
     submitted: u64,
-    // The jobs that wait in the rule's queue, and how many more are in there that were given back.
+    // The jobs that wait.
     queue: VecDeque<Queued>,
-    given_back: u32,
     // Jobs that were picked for threads that are about to start, and those of them whose thread couldn't be started.
     firsts: VecDeque<Job>,
     orphans: VecDeque<Job>,
@@ -88,7 +87,6 @@ impl Book {
             by_lock,
             submitted: 0,
             queue: room(capacity)?,
-            given_back: 0,
             firsts: room(max)?,
             orphans: room(max)?,
             running: 0,
@@ -119,8 +117,8 @@ impl Book {
     }
 
     /// What was recorded up to here, where the pool is recorded.
-    pub(super) fn begin_part(&mut self, memory: Vec<Noted>) -> Option<Part> {
-        self.rule.begin_part(memory)
+    pub(super) fn begin_part(&mut self, memory: Vec<Noted>, start: Anchor) -> Option<Part> {
+        self.rule.begin_part(memory, start)
     }
 
     /// Submits a worker's share of a task, by its number. Where a thread is to start for it, it is picked as the first job of
@@ -214,7 +212,7 @@ impl Book {
     /// Picks the job that is to run next. Where nothing waits, that may be the first of a thread that is still to
     /// start.
     pub(super) fn pick(&mut self) -> Option<Job> {
-        self.finish_given_back();
+        self.rule.finish_removed();
         if let Some(orphan) = self.orphans.pop_front() {
             return Some(orphan);
         }
@@ -266,14 +264,15 @@ impl Book {
         }
         // SAFETY: the rule was given the number of a task, of which it got a share, by each submission that it
         // accepted, and gives each of these to one pick: that is proved of it. What was given back was in its queue when
-        // that was the last of it, and is picked by `finish_given_back`.
+        // that was the last of it, and is picked by `finish_removed`.
         let work = unsafe { Work::of(picked.work) };
         Some(Job { work, picked })
     }
 
     /// Finishes a job that was picked.
     pub(super) fn finish(&mut self, picked: &Picked) {
-        self.finish_by_rule(picked);
+        let finished = self.rule.finish(picked);
+        finished.expect("what was picked is finished once");
         self.running -= 1;
         self.joins.count(picked.id.number);
     }
@@ -292,11 +291,6 @@ impl Book {
         });
     }
 
-    fn finish_by_rule(&mut self, picked: &Picked) {
-        let finished = self.rule.finish(picked);
-        finished.expect("what was picked is finished once");
-    }
-
     /// Takes back all jobs that have no thread. The pool is closed.
     pub(super) fn take_back(&mut self) -> Vec<Work> {
         let mut works = Vec::with_capacity(self.orphans.len() + self.queue.len());
@@ -305,26 +299,15 @@ impl Book {
             works.push(orphan.work);
         }
         for queued in mem::take(&mut self.queue) {
-            self.given_back += 1;
+            self.rule.remove(queued.number);
             self.joins.count(queued.number);
             // SAFETY: it has waited in the rule's queue with the share of its task. The pool is closed, so nothing comes
             // behind it, and what the rule picks from here on was given back and isn't made a `Work` again.
             works.push(unsafe { Work::of(queued.work) });
         }
-        self.finish_given_back();
+        self.rule.finish_removed();
         self.end_missing();
         works
-    }
-
-    // Has the rule finish what was given back, as far as it has idle workers.
-    fn finish_given_back(&mut self) {
-        while self.given_back > 0 {
-            let Some(picked) = self.rule.pick() else {
-                return;
-            };
-            self.finish_by_rule(&picked);
-            self.given_back -= 1;
-        }
     }
 
     pub(super) fn resize(&mut self, core: u32, max: u32) -> Result<(), PoolError> {
@@ -344,12 +327,7 @@ impl Book {
     /// The numbers, in which a job that was given back is finished.
     pub(super) fn numbers(&mut self) -> PoolNumbers {
         self.catch_up();
-        let numbers = self.rule.numbers();
-        PoolNumbers {
-            waiting: numbers.waiting - self.given_back,
-            finished: numbers.finished + u64::from(self.given_back),
-            ..numbers
-        }
+        self.rule.numbers()
     }
 
     /// Whether the rule lets an idle worker end after a while: where it is above the core size and nothing waits.

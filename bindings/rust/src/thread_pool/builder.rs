@@ -3,12 +3,12 @@ use super::ThreadPool;
 use super::book::Book;
 use super::crew::{Crew, Kind, Recorded};
 use crate::observer::{Observer, Watch};
-use crate::record::{MOST_EVENTS, RecordedRule};
+use crate::record::{Anchor, MOST_EVENTS, Plan, RecordedRule};
 use crate::rule::{PoolError, PoolRule, QUEUE};
 use std::fmt;
 use std::panic::{RefUnwindSafe, UnwindSafe};
 use std::sync::Arc;
-use std::time::{Duration, Instant};
+use std::time::{Duration, Instant, SystemTime};
 
 // How long an idle thread above the core size stays, where nothing else is said: Resilience4j's `keepAliveDuration`.
 const KEEP_ALIVE: Duration = Duration::from_millis(20);
@@ -78,14 +78,15 @@ impl ThreadPoolBuilder {
         self
     }
 
-    /// Has the pool record what happens, for [`history`](ThreadPool::history): up to so many events at a time, 1 to 25,000, for which
-    /// the memory is taken at the opening, 24 bytes each. Nothing is recorded where this isn't called.
+    /// Has the pool record what happens, for [`history`](ThreadPool::history): up to this many events at a time, 1 to 100,000. Their
+    /// memory is taken when the pool is opened, 24 bytes each. Without this call nothing is recorded.
     ///
     /// An event is noted while the pool's lock is held, by the call of the rule that makes it, so the order is that of the
-    /// decisions: each submission with its reply, also where it is refused, each take from the queue, the finish of each job, also of
-    /// one that panicked or was given back, each idle end, each resize and the closing. Its time is read before the lock is taken,
-    /// in microseconds since the opening, and never goes back. Where there are more events than that the record ends until the
-    /// next call of `history`, whose text says how many are missing; the pool goes on.
+    /// decisions: each submission with its reply, refused ones included, each take from the queue, the finish of each job, also of
+    /// one that panicked, each removal of a job that [`close_now`](ThreadPool::close_now) gives back, each idle end, each resize and
+    /// the closing. Its time is read before the lock is taken, in microseconds since the opening, and never goes back. If there are
+    /// more events than that, the record ends until the next call of `history`, whose text says how many are missing; the pool goes
+    /// on.
     ///
     /// ```
     /// let pool = resil::ThreadPool::builder(1, 1).record(1_000).open()?;
@@ -130,15 +131,22 @@ impl ThreadPoolBuilder {
         let rule = PoolRule::builder(self.core, self.max)
             .queue(self.queue)
             .open()?;
-        let events = self.record.map(|events| events as usize);
-        let book = Book::new(RecordedRule::new(rule, events)?, self.kind.by_lock)?;
+        let plan = self.record.map(|events| Plan {
+            events: events as usize,
+            opened: Anchor {
+                at: 0,
+                system: SystemTime::now(),
+            },
+            keep_alive: self.kind.keep_alive,
+        });
+        let recorded = plan.as_ref().map(|plan| Recorded {
+            opened: Instant::now(),
+            events: plan.events,
+        });
+        let book = Book::new(RecordedRule::new(rule, plan.as_ref())?, self.kind.by_lock)?;
         let watch = self.observer.map(|observer| {
             let own = observer.of_pool(&self.kind.name);
             Arc::new(Watch::new(&self.kind.name, observer, own))
-        });
-        let recorded = events.map(|events| Recorded {
-            opened: Instant::now(),
-            events,
         });
         let crew = Crew::new(book, self.kind, recorded);
         Ok(ThreadPool::new(Arc::new(crew), watch))

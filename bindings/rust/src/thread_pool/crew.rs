@@ -9,13 +9,13 @@ use super::refused::{Refusal, Refused};
 use super::task::{Function, HandOut, Made, Worker};
 use super::unstarted::Unstarted;
 use crate::lock::{locked, sleep};
-use crate::record::memory_for;
+use crate::record::{Anchor, memory_for};
 use crate::rule::{Picked, PoolError, PoolNumbers, Reply};
 use std::io;
 use std::sync::atomic::{AtomicBool, Ordering};
 use std::sync::{Arc, Condvar, Mutex, MutexGuard};
 use std::thread::{self, JoinHandle};
-use std::time::{Duration, Instant};
+use std::time::{Duration, Instant, SystemTime};
 
 /// What starts a thread.
 pub(super) type Start = fn(thread::Builder, Box<dyn FnOnce() + Send>) -> io::Result<JoinHandle<()>>;
@@ -160,7 +160,9 @@ impl Crew {
     /// The text of what was recorded up to here, where the pool is recorded.
     pub(super) fn history(&self) -> Option<String> {
         let memory = memory_for(self.recorded.as_ref()?.events).ok()?;
-        let part = self.lock().begin_part(memory);
+        let system = SystemTime::now();
+        let at = self.now()?;
+        let part = self.lock().begin_part(memory, Anchor { at, system });
         part.map(|part| part.text())
     }
 

@@ -28,6 +28,14 @@ pub fn until(mut is_so: impl FnMut() -> bool) -> bool {
     true
 }
 
+/// The memory that this process has now, in KiB, without what is mapped from files. Linux says it.
+pub fn resident() -> Result<u64, Box<dyn Error>> {
+    let status = std::fs::read_to_string("/proc/self/status")?;
+    let line = status.lines().find(|line| line.starts_with("RssAnon:"));
+    let number = line.and_then(|line| line.split_whitespace().nth(1));
+    Ok(number.ok_or("there is no RssAnon")?.parse()?)
+}
+
 /// A job that ends once its gate is dropped.
 pub type Gated = (Sender<()>, JobHandle<()>);
 

@@ -6,7 +6,7 @@ use resil::{ThreadPool, Unstarted};
 use std::error::Error;
 use std::sync::Arc;
 use std::sync::atomic::{AtomicU64, Ordering};
-use std::time::Duration;
+use std::time::{Duration, SystemTime};
 use std::{env, fs, panic, thread};
 
 /// How many loads go at once.
@@ -41,15 +41,18 @@ impl Random {
 struct Counted {
     submitted: AtomicU64,
     refused: AtomicU64,
-    // How many jobs ran, and how many came back and were dropped.
+    // How many jobs ran, how many came back, and how many of these were dropped.
     ran: AtomicU64,
+    back: AtomicU64,
     dropped: AtomicU64,
 }
 
-/// A load: its pool, the greatest size, and the texts so far.
+/// A load: when it was opened, its pool, the greatest size, the keep-alive in microseconds, and what its callers have counted.
 struct Load {
+    opened: SystemTime,
     pool: Arc<ThreadPool>,
     max: u32,
+    idle_for: u64,
     counted: Arc<Counted>,
 }
 
@@ -57,13 +60,18 @@ impl Load {
     fn open(random: &mut Random) -> Result<Load, Box<dyn Error>> {
         let core = 1 + random.below(6);
         let max = core + random.below(5);
-        let room = [25_000, 25_000, 25_000, 400, 50][random.below(5) as usize];
+        let room = [100_000, 25_000, 25_000, 400, 50][random.below(5) as usize];
         let most = [40, 40, 400][random.below(3) as usize];
         let pool = ThreadPool::builder(core, max).queue(1 + random.below(most));
-        let pool = super::opened(pool.keep_alive(random.micros(3_000)).record(room))?;
+        let idle_for = u64::from(random.below(3_000));
+        let pool = pool.keep_alive(Duration::from_micros(idle_for));
+        // A head cuts its moment to the microsecond.
+        let opened = SystemTime::now() - Duration::from_micros(1);
         Ok(Load {
-            pool: Arc::new(pool),
+            opened,
+            pool: Arc::new(super::opened(pool.record(room))?),
             max,
+            idle_for,
             counted: Arc::default(),
         })
     }
@@ -118,9 +126,9 @@ impl Load {
         }
         match random.below(5) {
             0 => self.pool.close(),
-            1 => self.pool.close_now().into_iter().for_each(Unstarted::run),
+            1 => self.take_back().into_iter().for_each(Unstarted::run),
             2 => {
-                let dropped = self.pool.close_now().len() as u64;
+                let dropped = self.take_back().len() as u64;
                 self.counted.dropped.store(dropped, Ordering::SeqCst);
             }
             _ => {}
@@ -129,6 +137,12 @@ impl Load {
             texts.extend(self.pool.history());
         }
         Ok(texts)
+    }
+
+    fn take_back(&self) -> Vec<Unstarted> {
+        let back = self.pool.close_now();
+        self.counted.back.store(back.len() as u64, Ordering::SeqCst);
+        back
     }
 
     // The texts of a load, in their order.
@@ -153,6 +167,10 @@ impl Load {
         let times: Vec<_> = texts.iter().flat_map(|text| &text.times).collect();
         assert!(times.is_sorted(), "a time goes back");
         for text in &texts {
+            assert_eq!(text.idle_for, self.idle_for);
+            let is_in_time = |began| self.opened <= began && began <= SystemTime::now();
+            assert_eq!(text.began.map(is_in_time), text.times.first().map(|_| true));
+            assert_eq!(text.version == 4, text.count("remove", "") > 0);
             let made = &text.times[..text.made];
             assert!(
                 made.first() == made.last(),
@@ -182,7 +200,11 @@ impl Load {
             assert_eq!(submitted, self.counted.submitted.load(Ordering::SeqCst));
             assert_eq!(refused, self.counted.refused.load(Ordering::SeqCst));
             assert_eq!(sum("submit", "full,,") + sum("submit", "closed,,"), refused);
-            assert_eq!(sum("finish", ""), finished);
+            // What came back is removed, and nobody takes or finishes it.
+            let back = self.counted.back.load(Ordering::SeqCst);
+            assert_eq!(sum("remove", ""), back);
+            assert_eq!(sum("take", ""), sum("submit", "queued,,") - back);
+            assert_eq!(sum("finish", ""), finished - back);
         }
         Ok(())
     }

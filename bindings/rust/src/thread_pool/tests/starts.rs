@@ -188,6 +188,40 @@ fn a_submitter_that_ends_a_job_calls_a_thread_that_held_back() -> Result<(), Box
     Ok(())
 }
 
+// The second job has a worker by the rule, so it is finished there; the third one waits.
+#[test]
+fn what_is_given_back_without_a_thread_is_finished_in_the_record() -> Result<(), Box<dyn Error>> {
+    let pool = builder(2, 2).queue(1).record(10).open()?;
+    allow(1);
+    let ((open, closed), (tell, told)) = (gate(), gate());
+    let first = pool.submit(move || {
+        let _heard = tell.send(());
+        closed.recv()
+    })?;
+    told.recv()?;
+    let _others = [pool.submit(|| ())?, pool.submit(|| ())?];
+    assert_eq!(pool.close_now().len(), 2);
+    drop(open);
+    assert!(first.wait()?.is_err());
+    pool.join();
+    let text = pool.history().ok_or("it isn't recorded")?;
+    let events = text.lines().filter_map(|line| line.rsplit_once(",,"));
+    let events: Vec<_> = events.map(|(event, _at)| event).collect();
+    let wanted = [
+        "submit,1,1,core,,",
+        "submit,1,2,core,,",
+        "submit,1,3,queued,,",
+        "close,,,,,",
+        "finish,1,2,,,",
+        "remove,1,3,,,",
+        "idle,,,,,",
+        "finish,1,1,,,",
+        "idle,,,,,",
+    ];
+    assert_eq!(events, wanted);
+    Ok(())
+}
+
 // A thread of a closed pool ends while a submitter runs a job in the place of the one worker.
 #[test]
 fn a_submitter_is_the_last_of_a_closed_pool() -> Result<(), Box<dyn Error>> {
