@@ -2,13 +2,13 @@
 // says what is compared.
 import { spawnSync } from "child_process";
 import { readFileSync } from "fs";
-import { heads, log as logOf, times } from "./page_texts.mjs";
+import { files, heads, log as logOf, moments, times } from "./page_texts.mjs";
 const [page, cases, resil, lookBuilt] = process.argv.slice(2);
 const html = readFileSync(page, "utf8");
 const part = (id) => new RegExp(`<script[^>]* id="${id}">([^<]*)<`).exec(html)[1];
 const code = (id) => new RegExp(`<script id="${id}">([^]*?)</script>`).exec(html)[1];
-const { load, answer, commands, held, look, carry, headOf, headSaid, drawnLoad, recordsOf, text, bytes, sizes } = new Function(`${code("calls")}${code("logic")}
-  return { load, answer, commands, held: () => wasm.memory.buffer.byteLength, look, carry, headOf, headSaid, drawnLoad, recordsOf, text, bytes, sizes };`)();
+const { load, answer, commands, held, look, carry, headOf, headSaid, drawnLoad, recordsOf, recorderOf, inOrder, addressOf, unitOf, text, bytes, sizes } = new Function(`${code("calls")}${code("logic")}
+  return { load, answer, commands, held: () => wasm.memory.buffer.byteLength, look, carry, headOf, headSaid, drawnLoad, recordsOf, recorderOf, inOrder, addressOf, unitOf, text, bytes, sizes };`)();
 await load(part("module"));
 
 let state = 11;
@@ -92,8 +92,38 @@ const other = look(bytes(`core = 1\nmax = [1, 2]\ntakes = 7\n---\n${times}`));
 want("a log for other pools", [other.isLoad, other.said.pools.join(" "), other.said.idleFor, other.said.takes, other.verdict.status].join("; "), "true; 1,1,100 1,2,100; 20000; 7; 0");
 const many = drawnLoad(1000, 3, 20), count = many.trim().split("\n").length - 1, ran = carry(bytes(`core = 2\nmax = [2, 4]\n---\n${many}`), 1);
 const [, shown, all] = /first (\d+) of (\d+) jobs/.exec(ran.line) ?? [0, count, count];
-want("a load of some 20,000 jobs", [ran.verdict.status, ran.chosen, Number(all) === count, shown > 8000 && shown <= count, /^<svg/.test(ran.picture)].join(), "0,1,true,true,true");
+want("a load of some 20,000 jobs", [ran.verdict.status, ran.chosen, Number(all) === count, shown > 8000 && shown <= count, /^<svg/.test(ran.picture.svg)].join(), "0,1,true,true,true");
 want("the pool that its picture is of", ran.line, /^of 2 pools the picture is of number 2: core = 2, max = 4, queue = 100\n/);
 const long = look(bytes(`core = 1\nmax = 1\n---\n${jobs.toString().slice(head.length)}`));
 want("rows whose history is too long", [long.verdict.status, long.more > 0, text(long.verdict.output)].join(), /^0,(true|false),legal\n$/);
 want("the longest load", carry(bytes(`core = 1\nmax = 1\n---\n${drawnLoad(1e9, 1e6, 60)}`), 0).table.split("\n")[1].split(",")[3], "50000");
+
+// What the page needs to read a picture, the order of files, the address, and units.
+const { picture: read, replies } = look(bytes(moments));
+want("what a picture is read by", JSON.stringify([read.values, read.most, read.times, replies.count]), '[[1,2,2],2,["70","29870"],12]');
+const stopped = look(bytes(`core = 1\nmax = 1\n---\n${times}take,1,2,,,,11\n`));
+want("the times before a fault", JSON.stringify([stopped.fault, stopped.picture.times]), '[5,["0","10"]]');
+const { picture: drawn } = carry(bytes("core = 1\nmax = 1\nqueue = [1, 2]\n---\nat,takes\n7,10\n8,10\n9,10\n"), 1);
+want("what a load's picture is read by", JSON.stringify([drawn.values, drawn.most, drawn.times]), '[[1,1,2],2,["7","37"]]');
+const described = files.map(([name, whole]) => {
+  const [first, last] = [/core,,,(\d+)/, /(\d+)\n$/].map((pattern) => Number(pattern.exec(whole)[1]));
+  return { name, ...recorderOf(whole.split("---\n")[0]), span: last - first };
+});
+want("files of two records", inOrder(described).map(({ name, notes }) => [name, ...notes].join(": ")).join("; "),
+  "orders-00001.csv; orders-00002.csv; orders-00004.csv: comes after a missing file: orders-00003.csv: begins 5 s after the end of orders-00002.csv; " +
+  "mails-00001.csv: is of another record: mails 7 2, not orders 7 1");
+const nameless = ["x-10.csv", "x-9.csv", "x-2.csv"].map((name) => ({ name, record: "", began: NaN, span: NaN }));
+want("files by their names", inOrder(nameless).map(({ name, notes }) => [name, ...notes].join(": ")).join("; "), "x-2.csv; x-9.csv: comes after a missing file: x-3.csv to x-8.csv; x-10.csv");
+want("a recorder's head", JSON.stringify(recorderOf('core = 1\nidle_for = 5\nrecord = "a 1"\r\nbegan = 2026-11-30T07:05:25Z\n')), JSON.stringify({ record: "a 1", began: Date.UTC(2026, 10, 30, 7, 5, 25), idleFor: "5" }));
+for (const [hash, fields, told] of [
+  ["#core=2&max=4,8&queue=50&idle_for=0&rate=1.5&mean=0&seconds=60", "core=2;max=4,8;queue=50;idle_for=0;rate=1.5;mean=0;seconds=60", ""],
+  ["#core=65&max=0&queue=65537&idle_for=31536000000001&rate=0&mean=-1&seconds=61", "", "core max queue idle_for rate mean seconds"],
+  ["#core=1,2,3,4,5,6,7,8,9&queue=1.5&mean=x&seconds=&rate=1e3&idle_for=1,2&what=1", "", "core queue mean seconds rate idle_for what"],
+  ["#core=4,8&max=2,3&queue=1&queue=2", "queue=1", "queue core"],
+  ["", "", ""],
+]) {
+  const address = addressOf(hash);
+  want(`the address ${hash}`, [...address.fields].map((field) => field.join("=")).join(";"), fields);
+  want(`what is told of ${hash}`, address.told.map((line) => /^\w+/.exec(line)[0]).join(" "), told);
+}
+want("units", [["core", "1"], ["most_workers", "2"], ["wait_p99", "5600"], ["run_most", ""], ["verdict", "legal"], ["resizes", "3"]].map((it) => unitOf(...it)).join("; "), "1 job; 2 workers; 5.6 ms; ; legal; 3");

@@ -1,11 +1,11 @@
 // node check_page_browser.mjs PAGE FOLDER CHROMIUM: drives the page's own script in a browser, through its fields, files, drops and pastes, and
 // writes a line 'passed', or what has failed, for each thing that the page must show. With a further word, a folder, it leaves pictures of the
-// page there. What is wanted is worked out from docs/FORMATS.md.
+// page there; with more words it makes only these checks, as in `checkLooks`. What is wanted is worked out from docs/FORMATS.md.
 import { spawn } from "child_process";
 import { writeFileSync } from "fs";
 import { pathToFileURL } from "url";
-import { heads, log, times } from "./page_texts.mjs";
-const [page, folder, chromium, pictures] = process.argv.slice(2);
+import { files, heads, log, moments, times } from "./page_texts.mjs";
+const [page, folder, chromium, pictures, ...some] = process.argv.slice(2);
 const words = ["--headless=new", "--no-sandbox", "--disable-gpu", "--no-first-run", "--remote-debugging-pipe", `--user-data-dir=${folder}/browser`];
 const browser = spawn(chromium, [...words, "about:blank"], { stdio: ["ignore", "ignore", "ignore", "pipe", "pipe"] });
 const answers = new Map();
@@ -55,6 +55,20 @@ const open = async (whole) => {
 const type = async (id, value) => {
   const greyed = await run(`const field = by("${id}") ?? by("sizes").elements.${id}; field.value = ${JSON.stringify(value)}; field.dispatchEvent(new Event("input", { bubbles: true })); return document.querySelectorAll(".old").length;`);
   return { ...(await shown()), greyed };
+};
+const press = async (key, code) => {
+  for (const type of ["keyDown", "keyUp"]) await send("Input.dispatchKeyEvent", { type, key, code: key, windowsVirtualKeyCode: code, text: key === "Enter" && type === "keyDown" ? "\r" : undefined });
+};
+const keys = { Enter: 13, Tab: 9, End: 35, Home: 36, ArrowLeft: 37, ArrowRight: 39, ArrowDown: 40, PageUp: 33 };
+const pressed = async (...names) => {
+  for (const name of names) await press(name, keys[name]);
+};
+// The page as it is opened at an address.
+const visit = async (hash = "") => {
+  await send("Page.navigate", { url: "about:blank" });
+  await send("Page.navigate", { url: pathToFileURL(page).href + hash });
+  for (let i = 0; i < 600 && !(await run('return document.readyState === "complete" && typeof by === "function"').catch(() => false)); i++) await new Promise((done) => setTimeout(done, 100));
+  return shown();
 };
 const want = (name, got, wanted) => {
   for (const [key, value] of Object.entries(wanted)) mark(value instanceof RegExp ? value.test(got[key]) : got[key] === value, `${name}: ${key} is ${JSON.stringify(got[key])}, not ${value}`);
@@ -141,54 +155,196 @@ async function checkLoads() {
   await run('Object.assign(by("sizes").elements.rate, { value: "10" }); Object.assign(by("sizes").elements.seconds, { value: "60" })');
   want("long jobs", await type("mean", "1000000"), { isCarried: true });
   await run('by("sizes").elements.queue.value = "1, 2, 3, 4, 5, 6, 7, 8"; by("sizes").elements.max.value = "1, 2, 3, 4, 5, 6, 7, 8"; by("sizes").elements.rate.value = "800"; by("sizes").elements.mean.value = "9"; by("sizes").elements.core.dispatchEvent(new Event("input", { bubbles: true }))');
-  const stopped = await run(`for (let i = 0; i < 600; i++) { await new Promise((done) => setTimeout(done, 20)); const stop = by("simulated").querySelector("button"); if (stop) { stop.click(); break; } }
-    await new Promise((done) => setTimeout(done, 50)); return by("simulated").textContent;`);
+  const [stopped, ...told] = await run(`const told = [];
+    for (let i = 0; i < 600; i++) { await new Promise((done) => setTimeout(done, 20)); const stop = by("simulated").querySelector("button"); if (stop) told.push(by("simulated").firstChild.data); if (/pool \\d/.test(told.at(-1))) { stop.click(); break; } }
+    await new Promise((done) => setTimeout(done, 50)); return [by("simulated").textContent, ...told];`);
   mark(stopped === "It was broken off.", `work isn't broken off: ${stopped}`);
+  mark(/^At work for \d+\.\d s: pool \d+ of 64\. $/.test(told.at(-1)), `it isn't said how far the work is: ${told}`);
   await run('document.querySelectorAll(".old").forEach((it) => it.classList.remove("old"))');
   want("work after that", await type("seconds", "1"), { isCarried: true, pools: 64 });
 }
 
+const events = Array.from({ length: 5000 }, (_, i) => `submit,1,${i + 1},${i < 2 ? "core" : i < 102 ? "queued" : "full"},,,${i * 40}\n`).join("");
+const logs = {
+  small: moments, large: `core = 2\nmax = 2\nname = "orders"\n---\nevent,caller,number,reply,core,max,at\n${events}`, illegal: `core = 1\nmax = 1\nqueue = 1\n---\n${log(1)}`,
+  load: `core = [1, 2]\nmax = [2, 3]\nqueue = 3\nidle_for = 500\n---\nat,takes\n${Array.from({ length: 60 }, (_, i) => `${i * 100},${(i * 97) % 400}\n`).join("")}`,
+};
+
 async function checkLooks() {
   const looks = [["wide", 1280, 900, "light"], ["dark", 1280, 900, "dark"], ["narrow", 400, 850, "light"]];
-  const events = Array.from({ length: 5000 }, (_, i) => `submit,1,${i + 1},${i < 2 ? "core" : i < 102 ? "queued" : "full"},,,${i * 40}\n`).join("");
-  const logs = { small: "core = 1\nmax = 1\n---\n" + times, large: `core = 2\nmax = 2\nname = "orders"\n---\nevent,caller,number,reply,core,max,at\n${events}`, illegal: `core = 1\nmax = 1\nqueue = 1\n---\n${log(1)}` };
   for (const [what, whole] of Object.entries(logs)) {
     for (const [name, width, height, scheme] of looks) {
       await send("Emulation.setDeviceMetricsOverride", { width, height, deviceScaleFactor: 1, mobile: false });
       await send("Emulation.setEmulatedMedia", { features: [{ name: "prefers-color-scheme", value: scheme }] });
       const { wide } = await open(whole);
       mark(wide <= width, `${what}, ${name}: it is ${wide} wide`);
-      const top = await run('scrollTo(0, 0); return by("picture").getBoundingClientRect().top');
+      const top = await run(`scrollTo(0, 0); const id = "${what === "load" ? "simulated-picture" : "picture"}"; point(id, 300); return by(id).getBoundingClientRect().top`);
       mark(top < height, `${what}, ${name}: the picture begins at ${top}`);
       if (pictures) writeFileSync(`${pictures}/${what}-${name}.png`, Buffer.from((await send("Page.captureScreenshot", { captureBeyondViewport: name !== "wide" })).data, "base64"));
     }
   }
 }
 
-async function checkKeys() {
-  const press = async (key, code) => {
-    for (const type of ["keyDown", "keyUp"]) await send("Input.dispatchKeyEvent", { type, key, code: key, windowsVirtualKeyCode: code, text: key === "Enter" && type === "keyDown" ? "\r" : undefined });
+// What is said at the cursor of a picture.
+const cursor = (id = "picture") => run(`return by("${id}-at").textContent`);
+const focus = (id) => run(`by("${id}").focus()`);
+
+async function checkCursor() {
+  const steps = [
+    ["0 µs", "0 waiting, 1 worker; jobs that run: 1.1"],
+    ["400 µs", "1 waiting, 1 worker; jobs that run: 1.1"],
+    ["900 µs", "2 waiting, 1 worker; jobs that run: 1.1"],
+    ["1.5 ms", "2 waiting, 2 workers; jobs that run: 1.1, 2.2"],
+    ["1.6 ms", "2 waiting, 2 workers; jobs that run: 1.1, 2.2; job 1.3 is refused: full"],
+    ["5 ms", "1 waiting, 2 workers; jobs that run: 2.1, 2.2"],
+    ["6.5 ms", "0 waiting, 2 workers; jobs that run: 1.2, 2.1"],
+    ["9 ms", "0 waiting, 2 workers; jobs that run: 1.2"],
+    ["9.8 ms", "0 waiting, 2 workers; no job runs"],
+    ["29.8 ms", "0 waiting, 1 worker; no job runs"],
+  ];
+  await open(moments);
+  await focus("picture");
+  await pressed("Home");
+  for (const [when, what] of steps) {
+    const said = await cursor();
+    mark(said === `At ${when}: ${what}.`, `at the cursor by keys is ${said}, not ${when}: ${what}`);
+    await pressed("ArrowRight");
+  }
+  mark(await run('return by("picture").getAttribute("aria-valuetext") === by("picture-at").textContent'), "the cursor isn't said to who can't see it");
+  await pressed("Home", "ArrowRight", "ArrowRight", "ArrowLeft");
+  mark(/^At 400 µs:/.test(await cursor()), `the cursor doesn't go back: ${await cursor()}`);
+  const where = async (ms) => run(`by("picture").scrollIntoView(); const { left, top, width, height } = by("picture").firstChild.getBoundingClientRect(), box = by("picture").firstChild.viewBox.baseVal, scale = Math.min(width / box.width, height / box.height);
+    return { x: left + (width - box.width * scale) / 2 + (92 + 680 * ${ms} / 29.8) * scale, y: top + height / 2 };`);
+  for (const [ms, said] of [[7, /^At 7(\.0\d)? ms: 0 waiting, 2 workers; jobs that run: 1\.2, 2\.1\.$/], [1.61, /^At 1\.6 ms: 2 waiting, .*; job 1\.3 is refused: full\.$/], [29.8, /^At 29\.8 ms: 0 waiting, 1 worker; no job runs\.$/]]) {
+    await send("Input.dispatchMouseEvent", { type: "mouseMoved", ...(await where(ms)) });
+    mark(said.test(await cursor()), `at the cursor by the pointer, at ${ms} ms, is ${await cursor()}`);
+  }
+  const clock = await run('pictures.picture.began = Date.UTC(2026, 10, 30, 7, 5, 25); point("picture", 0, 3); return by("picture-at").textContent');
+  mark(/^At 1\.5 ms, 2026-11-30T07:05:25\.001Z: 2 waiting/.test(clock), `the clock at the cursor: ${clock}`);
+  await run('grey("verdict"); document.querySelectorAll("[role=group] button")[0].click()');
+  await shown();
+  await focus("picture");
+  for (const [key, said] of [["Home", "After event 1 of 4: 0 waiting, 1 worker; jobs that run: 1.1."], ["ArrowRight", "After event 2 of 4: 1 waiting, 1 worker; jobs that run: 1.1."],
+    ["ArrowRight", "After event 3 of 4: 1 waiting, 2 workers; jobs that run: 1.1, 1.3."], ["PageUp", "After event 4 of 4: 1 waiting, 2 workers; jobs that run: 1.1, 1.3; job 1.4 is refused: full."]]) {
+    await pressed(key);
+    mark((await cursor()) === said, `at the cursor without times is ${await cursor()}, not ${said}`);
+  }
+  await open(`core = 1\nmax = 1\nqueue = 60000\n---\nevent,caller,number\nsubmit,1,1\nsubmit,1,2\nsubmit,1,3\n`);
+  await focus("picture");
+  await pressed("End");
+  mark((await cursor()) === "After event 3 of 3: 2 waiting, 1 worker; jobs that run: 1.1.", `at the cursor under a queue that is out of sight is ${await cursor()}`);
+  await open(logs.large);
+  await focus("picture");
+  await pressed("Home");
+  const gathered = "From 0 µs to 572 µs: at most 13 waiting, 2 workers; refused by a full queue 0, by a closed pool 0.";
+  mark((await cursor()) === gathered, `at the cursor of a gathered picture is ${await cursor()}`);
+  await open(`core = 1\nmax = 1\nqueue = [1, 2]\n---\nat,takes\n7,10\n8,10\n9,10\n`);
+  await focus("simulated-picture");
+  await pressed("Home");
+  mark((await cursor("simulated-picture")) === "At 0 µs: 0 waiting, 1 worker; jobs that run: 1.1.", `at the cursor of a load is ${await cursor("simulated-picture")}`);
+}
+
+// What is shown first, with its units.
+async function checkOrder() {
+  await send("Emulation.setDeviceMetricsOverride", { width: 400, height: 850, deviceScaleFactor: 1, mobile: false });
+  await open(moments);
+  const order = ["verdict", "picture", "picture-at", "numbers", "history", "limits", "rows", "sizes", "simulated", "simulated-picture", "pools"];
+  const tops = await run(`scrollTo(0, 0); return ${JSON.stringify(order)}.map((id) => by(id)?.getBoundingClientRect().top ?? 0)`);
+  mark(tops.every((top, index) => index === 0 || top > tops[index - 1]), `the order of what is shown: ${tops}`);
+  await send("Emulation.setDeviceMetricsOverride", { width: 1280, height: 900, deviceScaleFactor: 1, mobile: false });
+  const { wide, top } = await run('const box = by("picture").getBoundingClientRect(); return { wide: box.width, top: box.top }');
+  mark(wide > 1200 && top < 300, `the picture is ${wide} wide, and begins at ${top}`);
+  const numbers = await run('return [...by("numbers").tBodies[0].rows].map((row) => [...row.cells].slice(1).map((cell) => cell.textContent).join(" "))');
+  for (const line of ["submissions  5 jobs", "core  1 job", "most_workers  2 workers", "wait_median  0 µs", "wait_most  5.6 ms", "run_most  5 ms", "refused 1 1 job", "verdict  legal"]) mark(numbers.includes(line), `the numbers have no ${line}: ${numbers}`);
+}
+
+async function checkFiles() {
+  for (const [name, whole] of files) writeFileSync(`${folder}/${name}`, whole);
+  const texts = Object.fromEntries(files), { root } = await send("DOM.getDocument"), { nodeId } = await send("DOM.querySelector", { nodeId: root.nodeId, selector: "#file" });
+  const seenFiles = async (code) => {
+    await run(`seen = {}; grey("verdict"); ${code}`);
+    return { ...(await shown()), ...(await run('return { hidden: by("files").hidden, names: [...by("which").options].map((it) => it.text.split(",")[0]).join(), chosen: by("which").selectedIndex, notes: by("notes").innerText, first: by("which").options[0]?.text }')) };
   };
-  await run('seen = {}; document.activeElement.blur(); scrollTo(0, 0)');
+  await run('seen = {}; grey("verdict")');
+  await send("DOM.setFileInputFiles", { nodeId, files: files.map(([name]) => `${folder}/${name}`) });
+  want("files of two records", await seenFiles("") , {
+    hidden: false, names: "orders-00001.csv,orders-00002.csv,orders-00004.csv,mails-00001.csv", chosen: 0, verdict: /^legal/, whole: texts["orders-00001.csv"], first: "orders-00001.csv, from 2026-11-30T07:05:00.000Z, 10 s",
+    notes: "orders-00004.csv comes after a missing file: orders-00003.csv.\norders-00004.csv begins 5 s after the end of orders-00002.csv.\nmails-00001.csv is of another record: mails 7 2, not orders 7 1.",
+  });
+  want("the next file", await seenFiles('by("next").click()'), { chosen: 1, whole: texts["orders-00002.csv"], verdict: /^legal/ });
+  await focus("which");
+  await run('seen = {}; grey("verdict")');
+  await pressed("ArrowDown");
+  want("a file by keys", await seenFiles(""), { chosen: 2, whole: texts["orders-00004.csv"] });
+  want("the file before", await seenFiles('by("previous").click()'), { chosen: 1, whole: texts["orders-00002.csv"] });
+  await run(`seen = {}; grey("verdict"); const data = new DataTransfer();
+    for (const name of ["x-10.csv", "x-9.csv", "x-7.csv"]) data.items.add(new File([${JSON.stringify(moments)}], name));
+    document.body.dispatchEvent(new DragEvent("drop", { dataTransfer: data, bubbles: true, cancelable: true }));`);
+  want("files that are dropped", await seenFiles(""), { names: "x-7.csv,x-9.csv,x-10.csv", notes: "x-9.csv comes after a missing file: x-8.csv.", picture: "12" });
+  want("one file", { ...(await open(moments)), hidden: await run('return by("files").hidden') }, { hidden: true, verdict: "legal" });
+}
+
+async function checkAddress() {
+  const fields = () => run('return { fields: [...sizes, "idle_for", "rate", "mean", "seconds"].map((key) => by("sizes").elements[key].value).join("; "), told: by("address").hidden ? "" : by("address").textContent, hash: location.hash }');
+  want("an address", { ...(await visit("#core=2&max=4,8&queue=50&idle_for=7&rate=200&mean=10&seconds=2")), ...(await fields()) }, { fields: "2; 4, 8; 50; 7; 200; 10; 2", told: "", pools: 2, isCarried: true, verdict: "legal" });
+  const wrong = await visit("#core=99&max=2.5&queue=5&frob=1&seconds=61&mean=x");
+  want("bad values", { ...wrong, ...(await fields()) }, { fields: "1; 2; 5; 20000; 100; 30; 10", pools: 1, isCarried: true, hash: "#core=1&max=2&queue=5&idle_for=20000&rate=100&mean=30&seconds=10" });
+  for (const [index, line] of ["core=99", "max=2.5", "frob=1", "seconds=61", "mean=x"].entries())
+    mark((await fields()).told.split("\n")[index]?.startsWith(`The address has ${line}: `), `what is told of ${line}: ${(await fields()).told}`);
+  await type("rate", "300");
+  want("a field that was touched", await fields(), { hash: "#core=1&max=2&queue=5&idle_for=20000&rate=300&mean=30&seconds=10" });
+  await run('grey("simulated"); location.hash = "#core=3&max=3"');
+  want("an address that changes", { ...(await shown()), ...(await fields()) }, { fields: "3; 3; 5; 20000; 300; 30; 10", isCarried: true, told: "" });
+  await open(moments);
+  want("a log", await fields(), { hash: "", fields: "1; 2; 2, 4, 8; 20000; 300; 30; 10" });
+  want("no address", { ...(await visit()), ...(await fields()) }, { hash: "", told: "", isCarried: true });
+}
+
+async function checkSaved() {
+  await open(moments);
+  const saved = await run(`const kept = [], make = URL.createObjectURL;
+    URL.createObjectURL = (blob) => (kept.push(blob), make(blob));
+    HTMLAnchorElement.prototype.click = function () { kept.push(this.download); };
+    point("picture", 300);
+    by("save").click();
+    URL.createObjectURL = make;
+    navigator.clipboard.writeText = async (text) => { kept.push(text); };
+    for (const id of ["copy", "copy-numbers", "copy-pools"]) by(id).click();
+    await new Promise((done) => setTimeout(done, 50));
+    return [await kept[0].text(), ...kept.slice(1), by("copy").textContent];`);
+  mark(saved[0].startsWith("<svg xmlns") && saved[0].endsWith("</svg>\n") && !saved[0].includes("cursor"), `the saved picture: ${saved[0].slice(0, 80)}`);
+  const begins = ["resil.svg", "event,caller,number,reply,core,max,at\n", "name,caller,value\n", "core,max,queue,submitted,", "Copied"];
+  for (const [index, front] of begins.entries()) mark(saved[index + 1]?.startsWith(front), `what is saved or copied: ${saved[index + 1]?.slice(0, 80)}, not ${front}`);
+}
+
+// From the opened page to an example, along its picture, and to the table of a load, without a pointer.
+async function checkKeys() {
+  await visit();
   const stops = [];
   for (let i = 0; i < 40 && stops.at(-1) !== "copy-pools"; i++) {
-    await press("Tab", 9);
+    await pressed("Tab");
     stops.push(await run('return document.activeElement.id || document.activeElement.name || document.activeElement.textContent.slice(0, 20)'));
   }
-  for (const stop of ["file", "core", "max", "queue", "save", "copy", "rows", "idle_for", "seconds", "copy-pools"]) mark(stops.includes(stop), `Tab doesn't reach ${stop}: ${stops}`);
-  await run('document.querySelectorAll("[role=group] button")[2].focus(); grey("verdict")');
-  await press("Enter", 13);
-  want("Enter", await shown(), { verdict: /^illegal 3\n/ });
+  const order = ["file", "picture", "save", "copy", "copy-numbers", "core", "max", "queue", "rows", "idle_for", "seconds", "simulated-picture", "copy-pools"];
+  mark(order.every((stop, index) => stops.includes(stop) && (index === 0 || stops.indexOf(stop) > stops.indexOf(order[index - 1]))), `Tab goes to ${stops}`);
+  await visit();
+  await pressed("Tab", "Tab");
+  await run('seen = {}; grey("verdict")');
+  await pressed("Enter");
+  want("Enter", await shown(), { verdict: "legal", picture: "12" });
+  while ((await run("return document.activeElement.id")) !== "picture") await pressed("Tab");
+  await pressed("Home", "ArrowRight", "End");
+  mark(/^At 29\.8 ms: 0 waiting, 1 worker;/.test(await cursor()), `the picture by keys: ${await cursor()}`);
 }
 
 try {
   const { targetInfos } = await send("Target.getTargets"), { targetId } = targetInfos.find(({ type }) => type === "page");
   ({ sessionId: session } = await send("Target.attachToTarget", { targetId, flatten: true }));
   await send("Page.enable");
-  await send("Page.navigate", { url: pathToFileURL(page).href });
-  for (let i = 0; i < 600 && !(await run('return document.readyState === "complete" && typeof by === "function"').catch(() => false)); i++) await new Promise((done) => setTimeout(done, 100));
-  want("the first example", await shown(), { verdict: "legal", picture: "4", fields: "1,2,1" });
-  for (const check of [checkHeads, checkWays, checkCommands, checkErrors, checkLoads, checkLooks, checkKeys]) await check();
+  want("the first example", await visit(), { verdict: "legal", picture: "4", fields: "1,2,1" });
+  const checks = [checkHeads, checkWays, checkCommands, checkErrors, checkLoads, checkLooks, checkOrder, checkCursor, checkFiles, checkAddress, checkSaved, checkKeys];
+  for (const check of checks.filter(({ name }) => !some.length || some.includes(name)))
+    await check().catch((error) => mark(false, `${check.name} broke off: ${error.stack}`));
 } catch (error) {
   mark(false, `the browser broke off: ${error.stack}`);
 }

@@ -16,3 +16,19 @@ export const heads = [
   ['core = 1\nname = """two\nlines"""\nmax = 1\n', 1, "1,1,100", "two\nlines"],
   ["core = 1\r\nmax = 1\r\nkeep_alive = 5\r\n[permits]\r\na = 1\r\n", 1, "1,1,100"],
 ];
+
+// A log with times in microseconds, of a pool of one to two workers and two places, which has each kind of mark.
+export const moments =
+  "core = 1\nmax = 2\nqueue = 2\n---\nevent,caller,number,reply,core,max,at\nsubmit,1,1,core,,,70\nsubmit,2,1,queued,,,470\nsubmit,1,2,queued,,,970\n" +
+  "submit,2,2,extra,,,1570\nsubmit,1,3,full,,,1670\nfinish,1,1,,,,5070\ntake,2,1,,,,5070\nfinish,2,2,,,,6570\ntake,1,2,,,,6570\nfinish,2,1,,,,9070\n" +
+  "finish,1,2,,,,9870\nidle,,,,,,29870\n";
+
+// Files of two records, each with its name and its text, not in their order: of `orders` number 3 isn't there, and nothing is recorded for 5 s before number 4.
+const part = (name, record, began, last) =>
+  [name, `core = 1\nmax = 1\nqueue = 100\nrecord = "${record}"\nbegan = 2026-11-30T07:05:${began}Z\n---\nevent,caller,number,reply,core,max,at\nsubmit,1,1,core,,,500\nfinish,1,1,,,,${last}\n`];
+export const files = [
+  part("orders-00004.csv", "orders 7 1", "20.000001", 1000500),
+  part("mails-00001.csv", "mails 7 2", "01", 500),
+  part("orders-00002.csv", "orders 7 1", "10.5", 4500500),
+  part("orders-00001.csv", "orders 7 1", "00", 10000500),
+];
