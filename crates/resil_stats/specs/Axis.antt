@@ -1,5 +1,5 @@
 -- Where the moments of a history stand in its picture, which of them share a column, and how far its ticks are apart. Times are in microseconds.
-use Rattle.std.specs.Prelude.{ℕ, ◌≡◌, ◌≢◌, ◌≤◌, ◌<◌, ◌⊎◌, ◌+◌, ◌-◌, ◌*◌, ◌/◌, ◌∷◌, [], Contains, List, max, min, slice_index}
+use Rattle.std.specs.Prelude.{ℕ, ◌≡◌, ◌≢◌, ◌≤◌, ◌<◌, ◌⊎◌, ◌+◌, ◌-◌, ◌*◌, ◌/◌, ◌∷◌, [], Contains, List, if◌then◌else◌, max, min, nat_le, slice_index}
 use Rattle.resil_stats.specs.declared.axis.Period.{Period}
 
 -- from the first of so many events to the last one
@@ -27,6 +27,10 @@ span_length period = (period.last - period.first) / 350 + 1
 abbrev pub span_of : Period → ℕ → ℕ
 span_of period time = (time - period.first) / span_length period
 
+-- where the column of the span ends in which a moment lies, in hundredths of a pixel: at 772 pixels where all moments are one
+abbrev pub column_end : Period → ℕ → ℕ
+column_end period time = min 78600 (9200 + 68000 * (span_of period time * span_length period + span_length period) / max 1 (period.last - period.first))
+
 -- The events behind the first so many, up to an end, are those in a row that lie in one span.
 pub record IsSpanEnd (times : List ℕ) (count done end : ℕ) : Type 0 where
   pub shared : (i : ℕ) → done ≤ i → i < end → span_of (period_of times count) (slice_index times i) ≡ span_of (period_of times count) (slice_index times done)
@@ -34,16 +38,31 @@ pub record IsSpanEnd (times : List ℕ) (count done end : ℕ) : Type 0 where
 
 -- ---- Ticks.
 
--- the distances that ticks may have: 1, 2 and 5 times a power of ten up to 20 s, then 30 s, and whole minutes and hours
+-- the distances that ticks may have: 1, 2 and 5 times a power of ten up to 20 s, then 30 s, whole minutes and hours, and 1, 2 and 5 times a power of ten days
 abbrev pub tick_steps : List ℕ
 tick_steps =
     1 ∷ 2 ∷ 5 ∷ 10 ∷ 20 ∷ 50 ∷ 100 ∷ 200 ∷ 500
     ∷ 1000 ∷ 2000 ∷ 5000 ∷ 10000 ∷ 20000 ∷ 50000 ∷ 100000 ∷ 200000 ∷ 500000
     ∷ 1000000 ∷ 2000000 ∷ 5000000 ∷ 10000000 ∷ 20000000 ∷ 30000000
     ∷ 60000000 ∷ 120000000 ∷ 300000000 ∷ 600000000 ∷ 900000000 ∷ 1800000000
-    ∷ 3600000000 ∷ 7200000000 ∷ 10800000000 ∷ 21600000000 ∷ 43200000000 ∷ 86400000000 ∷ []
+    ∷ 3600000000 ∷ 7200000000 ∷ 10800000000 ∷ 21600000000 ∷ 43200000000
+    ∷ 86400000000 ∷ 172800000000 ∷ 432000000000 ∷ 864000000000 ∷ 1728000000000 ∷ 4320000000000
+    ∷ 8640000000000 ∷ 17280000000000 ∷ 43200000000000 ∷ 86400000000000 ∷ 172800000000000 ∷ 432000000000000
+    ∷ 864000000000000 ∷ 1728000000000000 ∷ 4320000000000000 ∷ 8640000000000000 ∷ 17280000000000000 ∷ 43200000000000000
+    ∷ 86400000000000000 ∷ 172800000000000000 ∷ 432000000000000000 ∷ 864000000000000000 ∷ 1728000000000000000 ∷ 4320000000000000000 ∷ []
 
 -- How far the ticks of a period of this length are apart: the widest distance at which there are five or more, which is four steps; 1 µs where there is none.
 pub record IsTickStep (long step : ℕ) : Type 0 where
   pub known : (step ≡ 1) ⊎ (Contains tick_steps step × (4 * step ≤ long))
   pub widest : (other : ℕ) → Contains tick_steps other → 4 * other ≤ long → other ≤ step
+
+-- The unit in which ticks are written that are this far apart in a period of this length: days, hours and minutes for ticks of that distance or more, and for
+-- closer ones the widest of a second, a millisecond and a microsecond that the period is as long as.
+abbrev pub tick_unit : ℕ → ℕ → ℕ
+tick_unit long step =
+    if nat_le 86400000000 step then 86400000000
+    else if nat_le 3600000000 step then 3600000000
+    else if nat_le 60000000 step then 60000000
+    else if nat_le 1000000 long then 1000000
+    else if nat_le 1000 long then 1000
+    else 1

@@ -35,6 +35,10 @@ abbrev pub name_line : List ℕ → List ℕ
 name_line name =
     if length name == 0 then [] else codes "<text x=\"6\" y=\"2\" font-size=\"17\" font-weight=\"bold\">" ++ flat_map xml_letter (chars name) ++ codes "</text>\n"
 
+-- The style of each picture: for dark ground a colour in place of each that is drawn with. It refers to nothing outside.
+abbrev pub style : List ℕ
+style = codes "<style>@media (prefers-color-scheme: dark) {\n[fill=\"#fff\"]{fill:#0d1117}[fill=\"#222\"]{fill:#e6edf3}\n[fill=\"#666\"]{fill:#9198a1}[fill=\"#f3f3f1\"]{fill:#161b22}[fill=\"#0072b2\"]{fill:#58a6ff}\n[fill=\"#e08a00\"]{fill:#9a5b00}[fill=\"#b4e0fa\"]{fill:#1f4a6b}[fill=\"#bcd7e8\"]{fill:#26394d}\n[fill=\"#7a4f00\"]{fill:#d29922}[fill=\"#7b3294\"]{fill:#d2a8ff}[fill=\"#a3142a\"]{fill:#ff7b72}\n[fill=\"#888\"]{fill:#6e7681}[stroke=\"#fff\"]{stroke:#0d1117}[stroke=\"#222\"]{stroke:#e6edf3}\n[stroke=\"#666\"]{stroke:#9198a1}[stroke=\"#e3e3e3\"]{stroke:#2b313a}[stroke=\"#0072b2\"]{stroke:#58a6ff}\n[stroke=\"#1c5f85\"]{stroke:#79c0ff}[stroke=\"#7a4f00\"]{stroke:#d29922}[stroke=\"#7b3294\"]{stroke:#d2a8ff}\n[stroke=\"#a3142a\"]{stroke:#ff7b72}[stroke=\"#888\"]{stroke:#6e7681}\n}</style>\n"
+
 -- ---- Elements.
 
 -- the class of a bar, by how its job started
@@ -106,9 +110,9 @@ IsRestDrawn picture text = (picture.columns.items ≡ [] → IsEachDrawn picture
 abbrev pub IsAddition : (List ℕ → Type 0) → List ℕ → List ℕ → Type 0
 IsAddition known old new = (part : List ℕ) × (new ≡ old ++ part) × known part
 
--- the text of a picture: it begins with the number of the events that are drawn, and with the name once the page is laid out
+-- the text of a picture: it begins with the number of the events that are drawn, and with the style and the name once the page is laid out
 abbrev pub IsSvgOf : List ℕ → Picture → List ℕ → Type 0
-IsSvgOf name picture text = (page : List ℕ) × (rest : List ℕ) × (text ≡ opening (length picture.levels.items) ++ (page ++ (name_line name ++ rest))) × IsRestDrawn picture rest
+IsSvgOf name picture text = (page : List ℕ) × (rest : List ℕ) × (text ≡ opening (length picture.levels.items) ++ (page ++ (style ++ (name_line name ++ rest)))) × IsRestDrawn picture rest
 
 -- the text of the picture, with a name, under some limits of a history, whose events may have times
 abbrev pub IsHistorySvg : List ℕ → Sizes → List Event → Option (List ℕ) → List ℕ → Type 0

@@ -3,7 +3,7 @@
 //! All is reckoned in whole microseconds, and in 128 bits where 64 are too few.
 
 ghost use Rattle.std.specs.Prelude.{ℕ, ◌≡◌, ◌≤◌, ◌<◌, ◌⊎◌, ◌-◌, ◌*◌};
-ghost use Rattle.resil_stats.specs.Axis.{IsSpanEnd, IsSpanLength, IsTickStep, period_of, span_length, span_of, x_at};
+ghost use Rattle.resil_stats.specs.Axis.{IsSpanEnd, IsSpanLength, IsTickStep, column_end, period_of, span_length, span_of, tick_unit, x_at};
 
 use crate::spans::time_at;
 
@@ -14,23 +14,78 @@ pub(crate) struct Period {
     pub last: u64,
 }
 
-// An hour, in microseconds.
-const HOUR: u64 = 3_600_000_000;
+// The units of ticks, in microseconds.
+pub(crate) const MILLISECOND: u64 = 1000;
 
-const HOURS_3: u64 = 3 * HOUR;
+pub(crate) const SECOND: u64 = 1_000_000;
 
-const HOURS_6: u64 = 6 * HOUR;
+pub(crate) const MINUTE: u64 = 60_000_000;
 
-const HOURS_12: u64 = 12 * HOUR;
+pub(crate) const HOUR: u64 = 3_600_000_000;
 
-const HOURS_24: u64 = 24 * HOUR;
+pub(crate) const DAY: u64 = 86_400_000_000;
 
-// The distances that ticks may have, in microseconds.
-const TICK_STEPS: [u64; 36] = [
-    1, 2, 5, 10, 20, 50, 100, 200, 500, 1000, 2000, 5000, 10000, 20000, 50000, 100000, 200000,
-    500000, 1000000, 2000000, 5000000, 10000000, 20000000, 30000000, 60000000, 120000000,
-    300000000, 600000000, 900000000, 1800000000, HOUR, 7200000000, HOURS_3, HOURS_6, HOURS_12,
-    HOURS_24,
+// The distances that ticks may have, in microseconds: the last ones are days.
+const TICK_STEPS: [u64; 59] = [
+    1,
+    2,
+    5,
+    10,
+    20,
+    50,
+    100,
+    200,
+    500,
+    1000,
+    2000,
+    5000,
+    10_000,
+    20_000,
+    50_000,
+    100_000,
+    200_000,
+    500_000,
+    1_000_000,
+    2_000_000,
+    5_000_000,
+    10_000_000,
+    20_000_000,
+    30_000_000,
+    60_000_000,
+    120_000_000,
+    300_000_000,
+    600_000_000,
+    900_000_000,
+    1_800_000_000,
+    3_600_000_000,
+    7_200_000_000,
+    10_800_000_000,
+    21_600_000_000,
+    43_200_000_000,
+    86_400_000_000,
+    172_800_000_000,
+    432_000_000_000,
+    864_000_000_000,
+    1_728_000_000_000,
+    4_320_000_000_000,
+    8_640_000_000_000,
+    17_280_000_000_000,
+    43_200_000_000_000,
+    86_400_000_000_000,
+    172_800_000_000_000,
+    432_000_000_000_000,
+    864_000_000_000_000,
+    1_728_000_000_000_000,
+    4_320_000_000_000_000,
+    8_640_000_000_000_000,
+    17_280_000_000_000_000,
+    43_200_000_000_000_000,
+    86_400_000_000_000_000,
+    172_800_000_000_000_000,
+    432_000_000_000_000_000,
+    864_000_000_000_000_000,
+    1_728_000_000_000_000_000,
+    4_320_000_000_000_000_000,
 ];
 
 /// The period of so many events.
@@ -98,6 +153,18 @@ impl Period {
         (start, start.saturating_add(long))
     }
 
+    /// Where the column of the span ends in which a moment lies, in hundredths of a pixel: also if no time is as late.
+    pub(crate) fn column_end(self, time: u64) -> u32
+        ensures end { result ≡ column_end self time }
+        ensures one_moment { self.last ≡ self.first → time ≡ self.first → result ≡ 77200 }
+    {
+        let long = self.span_length();
+        let before = self.span_of(time).saturating_mul(long);
+        let along = 68_000 * (u128::from(before) + u128::from(long));
+        let end = 9200 + along / u128::from(self.length().max(1));
+        end.min(78_600) as u32
+    }
+
     /// How far ticks are apart, in microseconds.
     pub(crate) fn tick_step(self) -> u64
         ensures { IsTickStep (self.last - self.first) result }
@@ -107,6 +174,26 @@ impl Period {
             widest = wider(self.length(), widest, step);
         }
         widest
+    }
+
+    /// The unit of ticks that are this far apart, in microseconds: of ticks closer than a second one in which the whole period
+    /// isn't a fraction.
+    pub(crate) fn tick_unit(self, step: u64) -> u64
+        ensures { result ≡ tick_unit (self.last - self.first) step }
+    {
+        if step >= DAY {
+            DAY
+        } else if step >= HOUR {
+            HOUR
+        } else if step >= MINUTE {
+            MINUTE
+        } else if self.length() >= SECOND {
+            SECOND
+        } else if self.length() >= MILLISECOND {
+            MILLISECOND
+        } else {
+            1
+        }
     }
 }
 

@@ -1,4 +1,4 @@
-//! The text of a picture: one SVG, with no script, no style sheet and no reference outside of it.
+//! The text of a picture: one SVG, with no script and no reference outside of it. Its one style gives colours for dark ground.
 //!
 //! Each number that is written comes from the picture; where it stands is computed from it in whole hundredths of a
 //! pixel. `elements` has the elements of bars, refusals and columns, of which clauses say how they begin. What stands
@@ -29,7 +29,7 @@ use crate::Picture;
 use crate::results::Outcomes;
 use bands::write_bands;
 use elements::push_elements;
-use frame::{ending_text, ground_text, opening_text, push_name, write_frame};
+use frame::{ending_text, ground_text, opening_text, push_name, push_style, write_frame};
 use jobs::{write_labels, write_rows, write_running};
 use over::write_over;
 use page::Page;
@@ -148,7 +148,7 @@ fn push_rest(text: &mut String, sheet: &Sheet, picture: &Picture) -> Result<(), 
 }
 
 /// The text of a picture, laid out by the times of its events where they have some, with the results of its jobs. It begins with
-/// the number of the events that are drawn, and with a name where that isn't empty; each bar and each refusal has an element, in
+/// the number of the events that are drawn, then the style, and a name where that isn't empty; each bar and each refusal has an element, in
 /// their order, or each column where there are columns.
 ///
 /// # Errors
@@ -173,6 +173,7 @@ pub fn svg_text(
     };
     let mut text = opening_text(alloc, picture.levels.len())?;
     push_part(&mut text, ground_text(&sheet, picture, name))?;
+    push_style(&mut text)?;
     push_name(&mut text, name)?;
     match push_rest(&mut text, &sheet, picture) {
         Ok(()) => Ok(text.into_bytes()),

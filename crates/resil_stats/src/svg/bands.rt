@@ -2,9 +2,11 @@
 //! the core size and the greatest size. Their outlines are lines of level and upright pieces, which go from the left end
 //! of the axis to the right one.
 
+ghost use Rattle.std.specs.Prelude.{◌≡◌, ◌≤◌, ◌+◌};
+
 use super::Draft;
 use super::page::{
-    CLOSED, CORE, DEPTH, EXTRA, GREY, INK, LEFT, Pixels, QUEUED, REFUSED, RIGHT, SIZE, Scale, TINT,
+    CLOSED, CORE, DEPTH, EXTRA, GREY, INK, LEFT, Pixels, QUEUED, REFUSED, RIGHT, SIZE, Scale,
     WORKERS,
 };
 use super::sheet::{Measure, Sheet};
@@ -67,9 +69,20 @@ pub(crate) fn write_area(
     line!(draft; r#"V{bottom}H{LEFT}Z" fill="{fill}"/>"#);
 }
 
-/// Writes a number of a scale in the gutter, behind a word.
+// How many digits a number has: eight of those that have more.
+fn digits(number: usize) -> usize {
+    let bounds = [10, 100, 1000, 10_000, 100_000, 1_000_000, 10_000_000];
+    let passed = bounds.iter().filter(|bound| number >= **bound);
+    passed.count().saturating_add(1)
+}
+
+/// Writes a number of a scale in the gutter, behind a word. The gutter has room for eight letters; more of them are drawn closer.
 pub(crate) fn write_number(draft: &mut Draft, word: &str, number: usize, y: Pixels, fill: &str) {
-    line!(draft; r#"<text x="86" y="{y}" fill="{fill}" text-anchor="end">{word}{number}</text>"#);
+    put!(draft; r#"<text x="86" y="{y}" fill="{fill}" text-anchor="end""#);
+    if word.len().saturating_add(digits(number)) > 8 {
+        put!(draft; r#" textLength="80" lengthAdjust="spacingAndGlyphs""#);
+    }
+    line!(draft; ">{word}{number}</text>");
 }
 
 /// Writes the greatest number of a scale, hanging from its line, and the 0 on the other one.
@@ -88,12 +101,12 @@ fn write_refused(draft: &mut Draft, sheet: &Sheet) {
     if most > 0 {
         let top = scale.top;
         line!(draft; r#"<path d="M{LEFT} {top}H{RIGHT}" fill="none" stroke="{CLOSED}" stroke-dasharray="2 3"/>"#);
-        write_number(draft, "", most, scale.bottom.and(2), GREY);
+        write_number(draft, "most ", most, scale.bottom.and(2), GREY);
     }
 }
 
 // Writes the depth of the queue. A capacity above four times the most that waits is out of sight, and the scale then goes up to
-// twice that. Where the queue is full, a tint goes through the refusals, and an edge lies on the capacity.
+// twice that. Where the queue is full, an edge lies on the capacity. The band of the refusals shows nothing of it.
 fn write_queue(draft: &mut Draft, sheet: &Sheet, picture: &Picture) {
     let capacity = picture.limits.queue() as usize;
     let most = picture.stats.most.waiting;
@@ -106,24 +119,31 @@ fn write_queue(draft: &mut Draft, sheet: &Sheet, picture: &Picture) {
     write_area(draft, sheet, &scale, Measure::Waiting, QUEUED);
     write_line(draft, sheet, &scale, Measure::Waiting, 0);
     if most >= capacity {
-        let is_full = Measure::IsFull(capacity);
-        let tint = Scale::between(Pixels(600), Pixels(3200), 1);
-        write_area(draft, sheet, &tint, is_full, TINT);
         let edge = Scale::between(Pixels(3000), Pixels(3400), 1);
-        write_area(draft, sheet, &edge, is_full, REFUSED);
+        write_area(draft, sheet, &edge, Measure::IsFull(capacity), REFUSED);
     }
     if greatest == capacity {
         let top = scale.top;
         line!(draft; r#"<path class="capacity" d="M{LEFT} {top}H{RIGHT}" fill="none" stroke="{REFUSED}" stroke-dasharray="5 3"/>"#);
-        write_ends(draft, &scale, "", capacity, REFUSED);
+        write_ends(draft, &scale, "full ", capacity, REFUSED);
     } else if most > 0 {
-        write_number(draft, "", most, scale.y(most).and(20), GREY);
+        write_number(draft, "most ", most, scale.y(most).and(20), GREY);
         write_number(draft, "", 0, scale.bottom, GREY);
     }
 }
 
+// Where the label of the core size is, in hundredths of a pixel: at its line, but below the label of the greatest size and in
+// the band of the workers.
+fn core_label(line: u32) -> u32
+    ensures below { 16500 ≤ result }
+    ensures within { result ≤ 19800 }
+    ensures beside { 15900 ≤ line → line ≤ 19200 → result ≡ line + 600 }
+{
+    line.saturating_add(600).max(16_500).min(19_800)
+}
+
 // Writes the number of workers, orange above the core size, and the lines of their sizes, which step at a resize. In the gutter
-// are those at the opening, the core size where it has room between the greatest one and the 0.
+// are those at the opening. The 0 has its label where that of the core size leaves room for it.
 fn write_workers(draft: &mut Draft, sheet: &Sheet, picture: &Picture) {
     let core = picture.limits.core() as usize;
     let max = picture.limits.max() as usize;
@@ -133,10 +153,11 @@ fn write_workers(draft: &mut Draft, sheet: &Sheet, picture: &Picture) {
     write_line(draft, sheet, &scale, Measure::Workers, 0);
     write_line(draft, sheet, &scale, Measure::CoreSize, core);
     write_line(draft, sheet, &scale, Measure::GreatestSize, max);
-    write_ends(draft, &scale, "max ", max, SIZE);
-    let base = scale.y(core).and(6);
-    if base.0 >= scale.top.and(31).0 && base.and(16).0 <= scale.bottom.0 {
-        write_number(draft, "core ", core, base, CORE);
+    write_number(draft, "max ", max, scale.top.and(15), SIZE);
+    let base = Pixels(core_label(scale.y(core).0));
+    write_number(draft, "core ", core, base, CORE);
+    if base.and(16).0 <= scale.bottom.0 {
+        write_number(draft, "", 0, scale.bottom, GREY);
     }
 }
 

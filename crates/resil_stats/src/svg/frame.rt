@@ -1,16 +1,20 @@
 //! What stands around the bands: the title, the first illegal event, the legend, the grid with its axis, the last lines.
 
 ghost use Rattle.std.specs.Prelude.{◌≡◌, ◌++◌, IfOk, OnOk, string_bytes};
-ghost use Rattle.resil_stats.specs.Svg.{name_line, opening, xml_letter};
+ghost use Rattle.resil_stats.specs.Svg.{name_line, opening, style, xml_letter};
 
 use super::Draft;
 use super::jobs::JobName;
 use super::page::{CORE, EXTRA, GREY, GRID, INK, PAPER, Page, Pixels, QUEUED, REFUSED};
 use super::sheet::Sheet;
+use crate::axis::{DAY, HOUR, MILLISECOND, MINUTE, SECOND};
 use crate::{Illegal, Picture, column_width};
 use resil_input::answer::{InWords, reply_name};
 use resil_rule::{Event, Verdict};
 use std::alloc::{AllocError, Global};
+
+// From so many days on labels of ticks are wide.
+const MANY_DAYS: u64 = 10_000 * DAY;
 
 // The ending of the noun behind a number.
 fn plural(number: usize) -> &'static str {
@@ -43,6 +47,27 @@ pub(crate) fn ground_text(
     line!(draft; r#" viewBox="0 {top} 800 {height}" width="800" height="{height}" font-family="sans-serif" font-size="16" fill="{INK}">"#);
     line!(draft; r#"<rect{y} width="800" height="{height}" fill="{PAPER}"/>"#);
     draft.finish()
+}
+
+/// Adds the style: a dark colour for each of `page`, where whoever looks at the picture prefers dark ground.
+/// Errors: `AllocError` when out of memory.
+pub(crate) fn push_style(text: &mut String) -> Result<(), AllocError>
+    ensures { OnOk result (string_bytes text.new ≡ string_bytes text.old ++ style) }
+{
+    text.push_str(
+        r##"<style>@media (prefers-color-scheme: dark) {
+[fill="#fff"]{fill:#0d1117}[fill="#222"]{fill:#e6edf3}
+[fill="#666"]{fill:#9198a1}[fill="#f3f3f1"]{fill:#161b22}[fill="#0072b2"]{fill:#58a6ff}
+[fill="#e08a00"]{fill:#9a5b00}[fill="#b4e0fa"]{fill:#1f4a6b}[fill="#bcd7e8"]{fill:#26394d}
+[fill="#7a4f00"]{fill:#d29922}[fill="#7b3294"]{fill:#d2a8ff}[fill="#a3142a"]{fill:#ff7b72}
+[fill="#888"]{fill:#6e7681}[stroke="#fff"]{stroke:#0d1117}[stroke="#222"]{stroke:#e6edf3}
+[stroke="#666"]{stroke:#9198a1}[stroke="#e3e3e3"]{stroke:#2b313a}[stroke="#0072b2"]{stroke:#58a6ff}
+[stroke="#1c5f85"]{stroke:#79c0ff}[stroke="#7a4f00"]{stroke:#d29922}[stroke="#7b3294"]{stroke:#d2a8ff}
+[stroke="#a3142a"]{stroke:#ff7b72}[stroke="#888"]{stroke:#6e7681}
+}</style>
+"##,
+    )?;
+    Ok(())
 }
 
 // Adds a character as XML has it. Errors: `AllocError` when out of memory.
@@ -123,8 +148,8 @@ fn write_illegal(draft: &mut Draft, illegal: Illegal) {
     line!(draft; ": {answer}</text>");
 }
 
-// Writes the legend: one meaning a colour, in all bands, with how many jobs started so and were refused. The signs of refusals
-// are crosses and diamonds, ticks, or areas.
+// Writes the legend: one meaning a colour, in all bands, with how many jobs started so, then how many were refused, then the sign
+// of a full queue. The signs of refusals are crosses and diamonds, ticks, or areas.
 fn write_legend(draft: &mut Draft, page: &Page, picture: &Picture) {
     let counts = picture.stats.counts;
     let (core, extra, taken) = (counts.core, counts.extra, counts.taken);
@@ -136,10 +161,11 @@ fn write_legend(draft: &mut Draft, page: &Page, picture: &Picture) {
     } else {
         ("|", "&#305;")
     };
-    put!(draft; r#"<text x="6" y="78"><tspan fill="{CORE}">&#9632;</tspan> core starts {core}<tspan dx="10" fill="{EXTRA}">&#9632;</tspan> extra starts {extra}"#);
-    put!(draft; r#"<tspan dx="10" fill="{QUEUED}">&#9632;</tspan> taken {taken}<tspan dx="10" fill="{REFUSED}">&#9644;</tspan> queue full"#);
-    put!(draft; r#"<tspan dx="10">refused:</tspan><tspan dx="6" fill="{REFUSED}" font-weight="bold">{cross}</tspan> full {full}"#);
-    line!(draft; r#"<tspan dx="10" fill="{GREY}" font-weight="bold">{diamond}</tspan> closed {closed}</text>"#);
+    put!(draft; r#"<text x="6" y="78">starts: <tspan fill="{CORE}">&#9632;</tspan> core {core}<tspan dx="10" fill="{EXTRA}">&#9632;</tspan> extra {extra}"#);
+    put!(draft; r#"<tspan dx="10" fill="{QUEUED}">&#9632;</tspan> taken {taken}<tspan dx="10">&#183;</tspan><tspan dx="10">refused: </tspan>"#);
+    put!(draft; r#"<tspan fill="{REFUSED}" font-weight="bold">{cross}</tspan> full {full}"#);
+    put!(draft; r#"<tspan dx="10" fill="{GREY}" font-weight="bold">{diamond}</tspan> closed {closed}<tspan dx="10">&#183;</tspan>"#);
+    line!(draft; r#"<tspan dx="10" fill="{REFUSED}">&#9644;</tspan> queue full</text>"#);
 }
 
 // The distance of the lines of the grid, in events: one of 1, 2, 5, 10 and so on, with ten lines at most.
@@ -175,38 +201,56 @@ fn write_places(draft: &mut Draft, page: &Page, events: usize) {
     }
 }
 
-// So many µs in the unit in which ticks are told that are as far apart, and the unit's name.
-fn in_unit(step: u64) -> (u64, &'static str) {
-    match step {
-        0..1000 => (step, "&#181;s"),
-        1000..1_000_000 => (step / 1000, "ms"),
-        1_000_000..60_000_000 => (step / 1_000_000, "s"),
-        60_000_000..3_600_000_000 => (step / 60_000_000, "min"),
-        _ => (step / 3_600_000_000, "h"),
+// The name of a unit of ticks, which is so many microseconds.
+fn unit_name(unit: u64) -> &'static str {
+    match unit {
+        DAY => "d",
+        HOUR => "h",
+        MINUTE => "min",
+        SECOND => "s",
+        MILLISECOND => "ms",
+        _ => "&#181;s",
     }
 }
 
-// Writes the ticks of an axis of times, nine at most, with how long after the first event they are; what has no room has no label. There
+// Writes the label of a tick that is so long after the first event, in a unit: with a tenth where it is no whole number.
+fn write_tick_label(draft: &mut Draft, place: (Pixels, Pixels), after: u64, unit: u64) {
+    let ((center, base), name) = (place, unit_name(unit));
+    let number = after.checked_div(unit).unwrap_or(0);
+    let rest = after.checked_rem(unit).unwrap_or(0);
+    let tenth = rest.saturating_mul(10).checked_div(unit).unwrap_or(0);
+    put!(draft; r#"<text x="{center}" y="{base}" fill="{GREY}" text-anchor="middle">{number}"#);
+    if tenth > 0 {
+        put!(draft; ".{tenth}");
+    }
+    line!(draft; " {name}</text>");
+}
+
+// Writes the ticks of an axis of times, ten at most, with how long after the first event they are; what has no room has no label. There
 // is none where all times are one.
 fn write_ticks(draft: &mut Draft, page: &Page) {
     let (period, end) = (page.period, page.bands_end());
     let step = period.tick_step();
-    let (apart, unit) = in_unit(step);
+    let unit = period.tick_unit(step);
     let base = end.and(20);
+    // A label at the right end stays on the page; one of very many days is wide.
+    let (wide, last) = if step < MANY_DAYS {
+        (68, 76_500)
+    } else {
+        (112, 74_400)
+    };
     let mut room = Pixels(0);
-    for count in 0..9 {
+    for count in 0..10 {
         let after = step.saturating_mul(count);
         if period.length() == 0 || after > period.length() {
             return;
         }
         let x = Pixels(period.x_of(period.first.saturating_add(after)));
         line!(draft; r#"<path d="M{x} 104V{end}" stroke="{GRID}"/>"#);
-        // A label at the right end stays on the page.
-        let center = Pixels(x.0.min(76_500));
+        let center = Pixels(x.0.min(last));
         if center.0 >= room.0 {
-            let number = apart.saturating_mul(count);
-            line!(draft; r#"<text x="{center}" y="{base}" fill="{GREY}" text-anchor="middle">{number} {unit}</text>"#);
-            room = center.and(68);
+            write_tick_label(draft, (center, base), after, unit);
+            room = center.and(wide);
         }
     }
 }

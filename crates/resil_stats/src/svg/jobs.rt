@@ -66,7 +66,7 @@ pub(crate) fn write_running(draft: &mut Draft, sheet: &Sheet, picture: &Picture)
         write_area(draft, sheet, &scale, Measure::Running(start), fill);
         line!(draft; "</g>");
     }
-    write_ends(draft, &scale, "", most, GREY);
+    write_ends(draft, &scale, "most ", most, GREY);
 }
 
 /// Writes what came of a job, behind these words, where it is known and there is room for this many letters.

@@ -10,7 +10,8 @@ use crate::spans::time_at;
 use crate::{Column, Picture};
 use std::fmt;
 
-// The colours. Each has one meaning in all bands; those of bars differ in grey, and for the colour-blind, too.
+// The colours on light ground; the style of `frame` has a dark one for each. Each has one meaning in all bands; those of bars
+// differ in grey, and for the colour-blind, too.
 pub(crate) const CORE: &str = "#0072b2";
 
 pub(crate) const EXTRA: &str = "#e08a00";
@@ -28,8 +29,6 @@ pub(crate) const RESIZE: &str = "#7b3294";
 pub(crate) const REFUSED: &str = "#a3142a";
 
 pub(crate) const CLOSED: &str = "#888";
-
-pub(crate) const TINT: &str = "#f1dcdf";
 
 pub(crate) const INK: &str = "#222";
 
@@ -186,12 +185,12 @@ impl<'a> Page<'a> {
 
     /// Where a column begins and ends on the axis.
     pub(crate) fn ends(&self, column: &Column) -> (Pixels, Pixels) {
-        match self.span(column) {
-            Some((start, end)) => (
+        match (self.time(column.from), self.span(column)) {
+            (Some(time), Some((start, _))) => (
                 Pixels(self.period.x_of(start)),
-                Pixels(self.period.x_of(end)),
+                Pixels(self.period.column_end(time)),
             ),
-            None => (self.x(column.from), self.x(column.to.saturating_add(1))),
+            _ => (self.x(column.from), self.x(column.to.saturating_add(1))),
         }
     }
 
