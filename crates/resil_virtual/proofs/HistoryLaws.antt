@@ -1,26 +1,26 @@
 -- A history that goes on by an event with its time.
-use Rattle.std.proofs.Common.{inl, inr, ◌⊎◌, ◌≡◌, ◌≤◌, ◌<◌, ◌+◌, ◌==◌, ◌&&◌, ◌∷◌, [], ◌++◌, ◌∙◌, ℕ, zero, suc, Bool, true, false, cond, All, List, Option, Some, None, filter, length, slice_index, refl, sym, ap, subst, arith, append_assoc, append-nil}
-use Rattle.std.specs.List.{list_any}
-use Rattle.std.specs.Option.{IfSome}
-use Rattle.std.proofs.lemmas.Bool.{or_left, or_right}
-use Rattle.std.proofs.lemmas.Grind.{common_steps}
+use Rattle.std.proofs.Common.{◌≡◌, ◌≤◌, ◌<◌, ◌+◌, ◌==◌, ◌&&◌, ◌∷◌, [], ◌++◌, ◌∙◌, ℕ, zero, suc, Bool, true, false, not, cond, All, List, Option, Some, None, filter, length, map, slice_get, slice_index, take, refl, sym, ap, subst, arith, append_assoc, append-nil}
+use Rattle.std.specs.List.{filter_map, remove}
+use Rattle.std.specs.Option.{option_map_or}
+use Rattle.std.proofs.lemmas.Bool.{cases_Bool}
 use Rattle.std.proofs.lemmas.List.{map-append}
-use Rattle.std.proofs.lemmas.List.Elements.{All-weaker, filter_map-append}
-use Rattle.std.proofs.lemmas.List.Folds.{list_any-append}
+use Rattle.std.proofs.lemmas.List.Elements.{All-head, All-tail, All-weaker, filter-append, filter_map-append}
 use Rattle.resil_rule.specs.Limits.{Sizes}
-use Rattle.resil_rule.specs.History.{last_size, running, submissions, waiting, workers}
-use Rattle.resil_rule.specs.RuleView.{RuleView, ids_of}
-use Rattle.resil_rule.specs.RuleState.{IsStateOf}
+use Rattle.resil_rule.specs.History.{finished, finished_id, is_among, is_same_id, last_size, submissions, times}
 use Rattle.resil_rule.specs.declared.event.Id.{Id}
 use Rattle.resil_rule.specs.declared.event.Event.{Event}
 use Rattle.resil_rule.specs.declared.event.Event.TheVariants.{Submit, Take, Finish, IdleEnd, Close, Resized}
+use Rattle.resil_rule.proofs.IdLaws.{same_id-self}
+use Rattle.resil_rule.proofs.TimesLaws.{among-last}
+use Rattle.resil_rule.proofs.UnpickedLaws.{filtered-more, filtered-same}
 use Rattle.resil_virtual.specs.Load.{of_caller}
 use Rattle.resil_rule.specs.Timed.{AreAscending, events_in, times_in}
 use Rattle.resil_rule.specs.declared.timed.Timed.{Timed}
 use Rattle.resil_virtual.specs.declared.arrival.Arrival.{Arrival}
 use Rattle.resil_virtual.specs.declared.due.Running.{Running}
-use Rattle.resil_virtual.specs.Simulated.{AreNext, FellIdle, IsNext, begins, has_begun, last_at, submissions_at, submissions_of, submitted_at}
-use Rattle.resil_virtual.specs.Pool.{IsQuiet, IsRunning, MayEnd}
+use Rattle.resil_virtual.specs.Due.{begun_id, finish_from, finish_of, finishes, idle_after, idle_from, idle_next, is_to_come, last_at, next_due, submissions_at, submissions_of, submitted_at}
+use Rattle.resil_virtual.specs.Simulated.{GoesOn, OneHistory}
+use Rattle.resil_virtual.specs.Pool.{AreDue, finish_at}
 
 -- ---- The last event.
 
@@ -29,44 +29,14 @@ last-pushed other [] at = refl
 last-pushed other (t ∷ times) at = last-pushed t times at
 
 module _ (h : List Timed) (t : Timed) where
+  times-are : times_in (h ++ t ∷ []) ≡ times_in h ++ t.at ∷ []
+  times-are = map-append (λ timed. timed.at) h (t ∷ [])
+
   pub last-is : last_at (h ++ t ∷ []) ≡ t.at
-  last-is = ap (last_size 0) (map-append (λ timed. timed.at) h (t ∷ [])) ∙ last-pushed 0 (times_in h) t.at
+  last-is = ap (last_size 0) times-are ∙ last-pushed 0 (times_in h) t.at
 
   pub events-are : events_in (h ++ t ∷ []) ≡ events_in h ++ t.event ∷ []
   events-are = map-append (λ timed. timed.event) h (t ∷ [])
-
-  -- what began stays begun, and what the event begins has begun at its time
-  pub begun-kept : (id : Id) (at : ℕ) → has_begun h id at ≡ true → has_begun (h ++ t ∷ []) id at ≡ true
-  begun-kept id at was = list_any-append (λ timed. begins id timed.event && (timed.at == at)) h (t ∷ []) ∙ or_left _ _ was
-
-  pub begun-now : (id : Id) → begins id t.event ≡ true → has_begun (h ++ t ∷ []) id t.at ≡ true
-  begun-now id is =
-      let here : list_any (λ timed. begins id timed.event && (timed.at == t.at)) (t ∷ []) ≡ true = rw is (grind (arith, common_steps)) in
-      list_any-append (λ timed. begins id timed.event && (timed.at == t.at)) h (t ∷ []) ∙ or_right _ _ here
-
-  pub fell-kept : (limits : Sizes) (at : ℕ) → FellIdle limits h at → FellIdle limits (h ++ t ∷ []) at
-  fell-kept limits at fell = record {
-    before = fell.before;
-    id = fell.id;
-    after = fell.after ++ t ∷ [];
-    is = ap (λ (h : List Timed). h ++ t ∷ []) fell.is ∙ append_assoc fell.before (record { event = Finish fell.id; at = at } ∷ fell.after) (t ∷ []);
-    none_waits = fell.none_waits;
-    spare = fell.spare;
-  }
-
-  running-kept : (arrivals : List Arrival) (place : Option Running) → IfSome place (IsRunning arrivals h) → IfSome place (IsRunning arrivals (h ++ t ∷ []))
-  running-kept arrivals None is = tt
-  running-kept arrivals (Some job) is = (is.0, is.1, begun-kept job.id is.0 is.2, is.3, is.4)
-
-  pub jobs-kept : (arrivals : List Arrival) (places : List (Option Running)) → All (λ place. IfSome place (IsRunning arrivals h)) places → All (λ place. IfSome place (IsRunning arrivals (h ++ t ∷ []))) places
-  jobs-kept arrivals places all = All-weaker (λ place. IfSome place (IsRunning arrivals h)) (λ place. IfSome place (IsRunning arrivals (h ++ t ∷ []))) (running-kept arrivals) places all
-
-  may-kept : (limits : Sizes) (idle_for : ℕ) (worker : Option ℕ) → IfSome worker (MayEnd limits idle_for h) → IfSome worker (MayEnd limits idle_for (h ++ t ∷ []))
-  may-kept limits idle_for None is = tt
-  may-kept limits idle_for (Some end) is = (is.0, fell-kept limits is.0 is.1, is.2)
-
-  pub ends-kept : (limits : Sizes) (idle_for : ℕ) (idle : List (Option ℕ)) → All (λ worker. IfSome worker (MayEnd limits idle_for h)) idle → All (λ worker. IfSome worker (MayEnd limits idle_for (h ++ t ∷ []))) idle
-  ends-kept limits idle_for idle all = All-weaker (λ worker. IfSome worker (MayEnd limits idle_for h)) (λ worker. IfSome worker (MayEnd limits idle_for (h ++ t ∷ []))) (may-kept limits idle_for) idle all
 
   -- an event that is no submission adds none
   pub no-submission : submitted_at t ≡ None → submissions_at (h ++ t ∷ []) ≡ submissions_at h
@@ -75,7 +45,7 @@ module _ (h : List Timed) (t : Timed) where
   pub one-submission : (s : Id × ℕ) → submitted_at t ≡ Some s → submissions_at (h ++ t ∷ []) ≡ submissions_at h ++ s ∷ []
   one-submission s is = filter_map-append submitted_at h (t ∷ []) ∙ rw is refl
 
--- one time before those that ascend
+-- one time before those that ascend, and one after them
 pub ascending-more : (t u : ℕ) (times : List ℕ) → t ≤ u → AreAscending (u ∷ times) → AreAscending (t ∷ u ∷ times)
 ascending-more t u times le rest = go
   where
@@ -85,22 +55,134 @@ ascending-more t u times le rest = go
         let same : suc (k + 1) ≡ suc k + 1 = omega arith in
         subst (λ n. slice_index (u ∷ times) k ≤ slice_index (t ∷ u ∷ times) n) same (rest k (omega (arith, within)))
 
-module _ (limits : Sizes) (idle_for : ℕ) (arrivals : List Arrival) where
-  pushed : (before h : List Timed) (t : Timed) → AreNext limits idle_for arrivals before h → IsNext limits idle_for arrivals (before ++ h) t → AreNext limits idle_for arrivals before (h ++ t ∷ [])
-  pushed before [] t are is = (rw append-nil at is, tt)
-  pushed before (e ∷ h) t are is = (are.0, pushed (before ++ e ∷ []) h t are.1 (rw append_assoc is))
+ascending-rest : (t : ℕ) (times : List ℕ) → AreAscending (t ∷ times) → AreAscending times
+ascending-rest t times all k within =
+    let same : suc k + 1 ≡ suc (k + 1) = omega arith in
+    subst (λ n. slice_index times k ≤ slice_index (t ∷ times) n) same (all (suc k) (omega (arith, within)))
 
-  pub next-pushed : (h : List Timed) (t : Timed) → AreNext limits idle_for arrivals [] h → IsNext limits idle_for arrivals h t → AreNext limits idle_for arrivals [] (h ++ t ∷ [])
-  next-pushed h t are is = pushed [] h t are is
+ascending-last : (other : ℕ) (times : List ℕ) (at : ℕ) → last_size other times ≤ at → AreAscending times → AreAscending (times ++ at ∷ [])
+ascending-last other [] at le all = λ k within. absurd (omega (arith, within))
+ascending-last other (t ∷ []) at le all = ascending-more t at [] le (λ k within. absurd (omega (arith, within)))
+ascending-last other (t ∷ u ∷ times) at le all =
+    let two : t ≤ u = all 0 (omega arith) in
+    ascending-more t u (times ++ at ∷ []) two (ascending-last t (u ∷ times) at le (ascending-rest t (u ∷ times) all))
 
-  -- no time goes back
-  ascending-behind : (before h : List Timed) → AreNext limits idle_for arrivals before h → AreAscending (times_in h)
-  ascending-behind before [] are = λ k within. absurd (omega (arith, within))
-  ascending-behind before (t ∷ []) are = λ k within. absurd (omega (arith, within))
-  ascending-behind before (t ∷ u ∷ h) are = ascending-more t.at u.at (times_in h) (rw (last-is before t) at are.1.0.time) (ascending-behind (before ++ t ∷ []) (u ∷ h) are.1)
+pub ascending-pushed : (h : List Timed) (t : Timed) → last_at h ≤ t.at → AreAscending (times_in h) → AreAscending (times_in (h ++ t ∷ []))
+ascending-pushed h t le all = subst AreAscending (sym (times-are h t)) (ascending-last 0 (times_in h) t.at le all)
 
-  pub ascending-times : (h : List Timed) → AreNext limits idle_for arrivals [] h → AreAscending (times_in h)
-  ascending-times h are = ascending-behind [] h are
+-- ---- The jobs that run.
+
+filter-both : {X : Type 0} (p q r : X → Bool) → ((x : X) → p x ≡ (q x && r x)) → (xs : List X) → filter p xs ≡ filter r (filter q xs)
+filter-both p q r is [] = refl
+filter-both p q r is (x ∷ xs) = let rest = filter-both p q r is xs in let here = is x in grind (arith, rest, here, cases_Bool (p x), cases_Bool (q x), cases_Bool (r x))
+
+-- whether it isn't the finish of a job
+abbrev pub is_of_other : Id → Timed → Bool
+is_of_other id finish = not (option_map_or (λ x. is_same_id id x) (finished_id finish.event) false)
+
+module _ (arrivals : List Arrival) (h : List Timed) (t : Timed) where
+  abbrev done : List Id
+  done = finished (events_in h)
+
+  same-done : finished_id t.event ≡ None → finished (events_in (h ++ t ∷ [])) ≡ done
+  same-done none = ap finished (events-are h t) ∙ filtered-same finished_id (events_in h) t.event none
+
+  more-done : (id : Id) → finished_id t.event ≡ Some id → finished (events_in (h ++ t ∷ [])) ≡ done ++ id ∷ []
+  more-done id is = ap finished (events-are h t) ∙ filtered-more finished_id (events_in h) t.event id is
+
+  pub finishes-begun : (id : Id) → begun_id t.event ≡ Some id → finished_id t.event ≡ None → is_among id done ≡ false → finishes arrivals (h ++ t ∷ []) ≡ finishes arrivals h ++ finish_from arrivals t.at id ∷ []
+  finishes-begun id is none fresh =
+      let one : filter_map (finish_of arrivals) (t ∷ []) ≡ finish_from arrivals t.at id ∷ [] = rw is refl in
+      let passes : filter (is_to_come done) (finish_from arrivals t.at id ∷ []) ≡ finish_from arrivals t.at id ∷ [] = rw fresh refl in
+      ap (λ (ids : List Id). filter (is_to_come ids) (filter_map (finish_of arrivals) (h ++ t ∷ []))) (same-done none)
+      ∙ ap (filter (is_to_come done)) (filter_map-append (finish_of arrivals) h (t ∷ []) ∙ ap (λ (more : List Timed). filter_map (finish_of arrivals) h ++ more) one)
+      ∙ filter-append (is_to_come done) (filter_map (finish_of arrivals) h) (finish_from arrivals t.at id ∷ [])
+      ∙ ap (λ (more : List Timed). finishes arrivals h ++ more) passes
+
+  begins-none : begun_id t.event ≡ None → filter_map (finish_of arrivals) (h ++ t ∷ []) ≡ filter_map (finish_of arrivals) h
+  begins-none none =
+      let no : filter_map (finish_of arrivals) (t ∷ []) ≡ [] = rw none refl in
+      filter_map-append (finish_of arrivals) h (t ∷ []) ∙ ap (λ (more : List Timed). filter_map (finish_of arrivals) h ++ more) no ∙ append-nil _
+
+  pub finishes-same : begun_id t.event ≡ None → finished_id t.event ≡ None → finishes arrivals (h ++ t ∷ []) ≡ finishes arrivals h
+  finishes-same none same =
+      ap (λ (ids : List Id). filter (is_to_come ids) (filter_map (finish_of arrivals) (h ++ t ∷ []))) (same-done same) ∙ ap (filter (is_to_come done)) (begins-none none)
+
+  still : (id : Id) (f : Timed) → is_to_come (done ++ id ∷ []) f ≡ (is_to_come done f && is_of_other id f)
+  still id f = go (finished_id f.event) refl
+    where
+      go : (o : Option Id) → finished_id f.event ≡ o → is_to_come (done ++ id ∷ []) f ≡ (is_to_come done f && is_of_other id f)
+      go None is = rw is refl
+      go (Some x) is = rw (is, among-last x id done) (grind (arith, cases_Bool (is_among x done), cases_Bool (is_same_id id x)))
+
+  pub finishes-done : (id : Id) → begun_id t.event ≡ None → finished_id t.event ≡ Some id → finishes arrivals (h ++ t ∷ []) ≡ filter (is_of_other id) (finishes arrivals h)
+  finishes-done id none is =
+      ap (λ (ids : List Id). filter (is_to_come ids) (filter_map (finish_of arrivals) (h ++ t ∷ []))) (more-done id is)
+      ∙ ap (filter (is_to_come (done ++ id ∷ []))) (begins-none none)
+      ∙ filter-both (is_to_come (done ++ id ∷ [])) (is_to_come done) (is_of_other id) (still id) (filter_map (finish_of arrivals) h)
+
+-- the jobs without the one that is finished
+filter-all : {X : Type 0} (p : X → Bool) (xs : List X) → All (λ x. p x ≡ true) xs → filter p xs ≡ xs
+filter-all p [] all = refl
+filter-all {X} p (x ∷ xs) all = rw (All-head (λ x. p x ≡ true) x xs all) (ap (λ (ys : List X). x ∷ ys) (filter-all p xs (All-tail (λ x. p x ≡ true) x xs all)))
+
+-- one that is alone in a list
+filter-alone : {X : Type 0} (p : X → Bool) (xs : List X) (i : ℕ) (x : X) → slice_get xs i ≡ Some x → p x ≡ false → All (λ y. p y ≡ true) (remove xs i) → filter p xs ≡ remove xs i
+filter-alone p [] i x is fails all = absurd (cc is)
+filter-alone p (y ∷ xs) zero x is fails all = let same : y ≡ x = cc is in rw (same, fails) (filter-all p xs all)
+filter-alone {X} p (y ∷ xs) (suc i) x is fails all =
+    rw (All-head (λ y. p y ≡ true) y (remove xs i) all) (ap (λ (ys : List X). y ∷ ys) (filter-alone p xs i x is fails (All-tail (λ y. p y ≡ true) y (remove xs i) all)))
+
+filter-mapped : {X Y : Type 0} (f : X → Y) (p : Y → Bool) (xs : List X) → filter p (map f xs) ≡ map f (filter (λ x. p (f x)) xs)
+filter-mapped f p [] = refl
+filter-mapped f p (x ∷ xs) = let rest = filter-mapped f p xs in grind (arith, rest, cases_Bool (p (f x)))
+
+pub others-are : (running : List Running) (place : ℕ) (job : Running) → slice_get running place ≡ Some job → All (λ other. is_same_id job.slot.id other.slot.id ≡ false) (remove running place)
+    → filter (is_of_other job.slot.id) (map finish_at running) ≡ map finish_at (remove running place)
+others-are running place job there apart =
+    filter-mapped finish_at (is_of_other job.slot.id) running
+    ∙ ap (map finish_at) (filter-alone (λ other. is_of_other job.slot.id (finish_at other)) running place job there (rw (same_id-self job.slot.id) refl)
+    (All-weaker (λ other. is_same_id job.slot.id other.slot.id ≡ false) (λ other. is_of_other job.slot.id (finish_at other) ≡ true) (λ other is. rw is refl) (remove running place) apart))
+
+-- ---- What was due.
+
+module _ (limits : Sizes) (idle_for : ℕ) where
+  from-pushed : (before : List Timed) (idle : List (Option ℕ)) (h : List Timed) (t : Timed) → idle_from limits idle_for before idle (h ++ t ∷ []) ≡ idle_next limits idle_for (before ++ h) (idle_from limits idle_for before idle h) t
+  from-pushed before idle [] t = ap (λ (b : List Timed). idle_next limits idle_for b idle t) (sym (append-nil before))
+  from-pushed before idle (e ∷ h) t = from-pushed (before ++ e ∷ []) (idle_next limits idle_for before idle e) h t
+      ∙ ap (λ (b : List Timed). idle_next limits idle_for b (idle_from limits idle_for (before ++ e ∷ []) (idle_next limits idle_for before idle e) h) t) (append_assoc before (e ∷ []) h)
+
+  pub idle-pushed : (h : List Timed) (t : Timed) → idle_after limits idle_for (h ++ t ∷ []) ≡ idle_next limits idle_for h (idle_after limits idle_for h) t
+  idle-pushed h t = from-pushed [] [] h t
+
+  module _ (arrivals : List Arrival) where
+    due-pushed : (before h : List Timed) (t : Timed) → AreDue limits idle_for arrivals before h → next_due limits idle_for arrivals (before ++ h) ≡ Some t → AreDue limits idle_for arrivals before (h ++ t ∷ [])
+    due-pushed before [] t are is = (subst (λ (b : List Timed). next_due limits idle_for arrivals b ≡ Some t) (append-nil before) is, tt)
+    due-pushed before (e ∷ h) t are is =
+        (are.0, due-pushed (before ++ e ∷ []) h t are.1 (subst (λ (b : List Timed). next_due limits idle_for arrivals b ≡ Some t) (sym (append_assoc before (e ∷ []) h)) is))
+
+    pub next-pushed : (h : List Timed) (t : Timed) → AreDue limits idle_for arrivals [] h → next_due limits idle_for arrivals h ≡ Some t → AreDue limits idle_for arrivals [] (h ++ t ∷ [])
+    next-pushed h t are is = due-pushed [] h t are is
+
+    all-done : (before h : List Timed) → AreDue limits idle_for arrivals before h → next_due limits idle_for arrivals (before ++ h) ≡ None → GoesOn limits idle_for arrivals before h
+    all-done before [] are is = subst (λ (b : List Timed). next_due limits idle_for arrivals b ≡ None) (append-nil before) is
+    all-done before (e ∷ h) are is =
+        (are.0, all-done (before ++ e ∷ []) h are.1 (subst (λ (b : List Timed). next_due limits idle_for arrivals b ≡ None) (sym (append_assoc before (e ∷ []) h)) is))
+
+    pub goes-on : (h : List Timed) → AreDue limits idle_for arrivals [] h → next_due limits idle_for arrivals h ≡ None → GoesOn limits idle_for arrivals [] h
+    goes-on h are is = all-done [] h are is
+
+    same-events : (before h k : List Timed) → GoesOn limits idle_for arrivals before h → GoesOn limits idle_for arrivals before k → h ≡ k
+    same-events before [] [] ends stops = refl
+    same-events before [] (u ∷ k) ends goes = absurd (cc (ends, goes.0))
+    same-events before (t ∷ h) [] goes ends = absurd (cc (ends, goes.0))
+    same-events before (t ∷ h) (u ∷ k) goes too =
+        let same : t ≡ u = cc (goes.0, too.0) in
+        let rest = same-events (before ++ t ∷ []) h k goes.1 (subst (λ (x : Timed). GoesOn limits idle_for arrivals (before ++ x ∷ []) k) (sym same) too.1) in
+        cc (same, rest)
+
+pub one-history : OneHistory
+one-history limits idle_for arrivals h k is too = same-events limits idle_for arrivals [] h k is.goes_on too.goes_on
 
 -- ---- The submissions of a caller.
 
@@ -129,15 +211,8 @@ caller-jobs caller (a ∷ arrivals) = one-if (a.id.caller == caller) _ _ ∙ ap 
 pub caller-count : (caller : ℕ) (h : List Timed) (arrivals : List Arrival) → submissions_at h ≡ submissions_of arrivals → length (submissions (events_in h) caller) ≡ length (of_caller caller arrivals)
 caller-count caller h arrivals same = caller-pairs caller h ∙ ap (λ (ss : List (Id × ℕ)). length (filter (λ s. s.0.caller == caller) ss)) same ∙ caller-jobs caller arrivals
 
--- ---- A quiet rule.
-
-module _ (v : RuleView ℕ) (events : List Event) (state : IsStateOf events v) where
-  pub none-waits : v.waiting ≡ [] → waiting events ≡ []
-  none-waits none = sym state.waiting_is ∙ ap ids_of none
-
-  -- where no job could begin, none waits beside an idle worker
-  pub served-quiet : IsQuiet v → (waiting events ≡ []) ⊎ (workers events ≤ length (running events))
-  served-quiet quiet = elim quiet.queued [
-    | inl none ↦ inl (none-waits none)
-    | inr few ↦ (let runs = state.numbers.running_are in let works = state.numbers.workers_are in inr (omega (arith, few, runs, works)))
-  ]
+-- the next job after the first ones
+pub next-taken : (arrivals : List Arrival) (next : ℕ) → slice_get arrivals (length (submissions_of (take next arrivals))) ≡ slice_get arrivals next
+next-taken [] next = refl
+next-taken (a ∷ arrivals) zero = refl
+next-taken (a ∷ arrivals) (suc next) = next-taken arrivals next

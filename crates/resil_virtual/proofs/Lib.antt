@@ -1,4 +1,5 @@
-mod DueLaws
 mod ListLaws
+pub mod DueNowLaws
+pub mod FirstLaws
 pub mod HistoryLaws
 mod PoolLaws

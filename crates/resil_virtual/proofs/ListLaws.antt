@@ -1,7 +1,7 @@
 -- Lists that lose an item, or whose items pass a test.
-use Rattle.std.proofs.Common.{◌≡◌, ◌≤◌, ◌+◌, ◌∷◌, [], ℕ, zero, suc, Bool, true, cond, All, List, Some, drop, filter, length, slice_get, slice_set, take, subst, arith}
-use Rattle.std.specs.List.{list_any, remove}
-use Rattle.std.proofs.lemmas.List.Elements.{All-append, All-drop, All-get_or, All-take}
+use Rattle.std.proofs.Common.{◌≡◌, ◌≤◌, ◌∷◌, [], ◌++◌, ℕ, zero, suc, Bool, true, false, All, List, Some, drop, filter, find, length, map, slice_get, slice_set, take, refl, subst, arith}
+use Rattle.std.specs.List.{remove}
+use Rattle.std.proofs.lemmas.List.Elements.{All-append, All-cons, All-drop, All-get_or, All-head, All-nil, All-tail, All-take}
 use Rattle.std.proofs.lemmas.Option.{get_or_from_slice_get, slice_get_within}
 use Rattle.std.proofs.lemmas.Bool.{cases_Bool}
 
@@ -13,23 +13,63 @@ module _ {X : Type 0} where
   pub all-removed : (P : X → Type 0) (xs : List X) (i : ℕ) → All P xs → All P (remove xs i)
   all-removed P xs i all = All-append P (take i xs) (drop (suc i) xs) (All-take P i xs all) (All-drop P (suc i) xs all)
 
-  -- how many items pass a test, once one of them is gone, or is another one
-  pub count-removed : (p : X → Bool) (xs : List X) (i : ℕ) (x : X) → slice_get xs i ≡ Some x → length (filter p (remove xs i)) + cond (p x) 1 0 ≡ length (filter p xs)
-  count-removed p [] i x is = absurd (cc is)
-  count-removed p (y ∷ xs) zero x is = let same : y ≡ x = cc is in rw same (grind (arith, cases_Bool (p x)))
-  count-removed p (y ∷ xs) (suc i) x is = let rest = count-removed p xs i x is in grind (arith, rest, cases_Bool (p y))
+  -- two truths of each item give a third one
+  pub all-two : (P Q R : X → Type 0) → ((x : X) → P x → Q x → R x) → (xs : List X) → All P xs → All Q xs → All R xs
+  all-two P Q R both xs ps qs k d within = both _ (ps k d within) (qs k d within)
 
-  pub count-set : (p : X → Bool) (xs : List X) (i : ℕ) (x y : X) → slice_get xs i ≡ Some x → length (filter p (slice_set xs i y)) + cond (p x) 1 0 ≡ length (filter p xs) + cond (p y) 1 0
-  count-set p [] i x y is = absurd (cc is)
-  count-set p (z ∷ xs) zero x y is = let same : z ≡ x = cc is in rw same (grind (arith, cases_Bool (p x), cases_Bool (p y)))
-  count-set p (z ∷ xs) (suc i) x y is = let rest = count-set p xs i x y is in grind (arith, rest, cases_Bool (p z))
+  -- what is true of two lists together is true of each
+  pub all-left : (P : X → Type 0) (xs ys : List X) → All P (xs ++ ys) → All P xs
+  all-left P [] ys all = All-nil P
+  all-left P (x ∷ xs) ys all = All-cons P x xs (All-head P x (xs ++ ys) all) (all-left P xs ys (All-tail P x (xs ++ ys) all))
+
+  pub all-right : (P : X → Type 0) (xs ys : List X) → All P (xs ++ ys) → All P ys
+  all-right P [] ys all = all
+  all-right P (x ∷ xs) ys all = all-right P xs ys (All-tail P x (xs ++ ys) all)
+
+  -- how many items pass a test, once one of them is gone
+  pub count-removed : (p : X → Bool) (xs : List X) (i : ℕ) → length (filter p (remove xs i)) ≤ length (filter p xs)
+  count-removed p [] zero = omega arith
+  count-removed p [] (suc i) = omega arith
+  count-removed p (y ∷ xs) zero = grind (arith, cases_Bool (p y))
+  count-removed p (y ∷ xs) (suc i) = let rest = count-removed p xs i in grind (arith, rest, cases_Bool (p y))
 
   pub count-few : (p : X → Bool) (xs : List X) → length (filter p xs) ≤ length xs
   count-few p [] = omega arith
   count-few p (x ∷ xs) = let rest = count-few p xs in grind (arith, rest, cases_Bool (p x))
 
-  -- an item that passes is there
-  pub any-at : (p : X → Bool) (xs : List X) (i : ℕ) (x : X) → slice_get xs i ≡ Some x → p x ≡ true → list_any p xs ≡ true
-  any-at p [] i x is passes = absurd (cc is)
-  any-at p (y ∷ xs) zero x is passes = let same : y ≡ x = cc is in rw same (grind (arith, passes))
-  any-at p (y ∷ xs) (suc i) x is passes = let rest = any-at p xs i x is passes in grind (arith, rest, cases_Bool (p y))
+  pub none-passes : (p : X → Bool) (xs : List X) → length (filter p xs) ≡ 0 → All (λ x. p x ≡ false) xs
+  none-passes p [] none = All-nil (λ x. p x ≡ false)
+  none-passes p (x ∷ xs) none =
+      let here : p x ≡ false = grind (arith, none, cases_Bool (p x)) in
+      let rest : length (filter p xs) ≡ 0 = grind (arith, none, cases_Bool (p x)) in
+      All-cons (λ x. p x ≡ false) x xs here (none-passes p xs rest)
+
+  -- and how many of the first ones
+  pub count-taken : (p : X → Bool) (xs : List X) (n m : ℕ) → n ≤ m → length (filter p (take n xs)) ≤ length (filter p (take m xs))
+  count-taken p xs zero m less = omega arith
+  count-taken p xs (suc n) zero less = absurd (omega (arith, less))
+  count-taken p [] (suc n) (suc m) less = omega arith
+  count-taken p (x ∷ xs) (suc n) (suc m) less = let rest = count-taken p xs n m (omega (arith, less)) in grind (arith, rest, cases_Bool (p x))
+
+  -- the first one that passes
+  pub find-first : (p : X → Bool) (xs : List X) (i : ℕ) (x : X) → slice_get xs i ≡ Some x → p x ≡ true → All (λ y. p y ≡ false) (take i xs) → find p xs ≡ Some x
+  find-first p [] i x is passes before = absurd (cc is)
+  find-first p (y ∷ xs) zero x is passes before = let same : y ≡ x = cc is in rw (same, passes) refl
+  find-first p (y ∷ xs) (suc i) x is passes before = rw (All-head (λ y. p y ≡ false) y (take i xs) before) (find-first p xs i x is passes (All-tail (λ y. p y ≡ false) y (take i xs) before))
+
+  -- an item that is replaced, and another one
+  pub set-there : (xs : List X) (i : ℕ) (x y : X) → slice_get xs i ≡ Some x → slice_get (slice_set xs i y) i ≡ Some y
+  set-there [] i x y is = absurd (cc is)
+  set-there (z ∷ xs) zero x y is = refl
+  set-there (z ∷ xs) (suc i) x y is = set-there xs i x y is
+
+  pub set-other : (xs : List X) (i j : ℕ) (x y z : X) → slice_get xs i ≡ Some x → slice_get xs j ≡ Some z → (x ≡ z → ⊥) → slice_get (slice_set xs i y) j ≡ Some z
+  set-other [] i j x y z is other apart = absurd (cc is)
+  set-other (w ∷ xs) zero zero x y z is other apart = absurd (apart (cc (is, other)))
+  set-other (w ∷ xs) zero (suc j) x y z is other apart = other
+  set-other (w ∷ xs) (suc i) zero x y z is other apart = other
+  set-other (w ∷ xs) (suc i) (suc j) x y z is other apart = set-other xs i j x y z is other apart
+
+pub all-mapped : {X Y : Type 0} (f : X → Y) (P : Y → Type 0) (xs : List X) → All P (map f xs) → All (λ x. P (f x)) xs
+all-mapped f P [] all = All-nil (λ x. P (f x))
+all-mapped f P (x ∷ xs) all = All-cons (λ x. P (f x)) x xs (All-head P (f x) (map f xs) all) (all-mapped f P xs (All-tail P (f x) (map f xs) all))

@@ -1,3 +1,5 @@
+pub mod Due
+pub mod Examples
 pub mod Load
 pub mod Pool
 pub mod Simulated

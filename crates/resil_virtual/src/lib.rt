@@ -1,7 +1,8 @@
 //! A pool in virtual time: what a load would come to on sizes that nobody has tried.
 //!
 //! A load is known: when jobs come, and how long each runs. The rule of admission is proved, so it is carried out over the load, with no
-//! thread and no clock, and what happens is written as a history with times. `specs/Simulated.antt` says what such a history is.
+//! thread and no clock, and what happens is written as a history with times. `specs/Due.antt` says what is due next, and
+//! `specs/Simulated.antt` that it happens until nothing is due.
 #![tactic(auto)]
 
 ghost use Rattle.std.specs.Prelude.{IfOk};
@@ -10,9 +11,11 @@ ghost use Rattle.resil_virtual.specs.Simulated.{IsSimulated};
 
 mod arrival;
 mod due;
+mod laws;
 mod pool;
 
 pub use arrival::Arrival;
+pub use laws::{one_history, worked_loads};
 use pool::Pool;
 use resil_rule::{Limits, Timed};
 use std::alloc::{AllocError, Global};

@@ -1,11 +1,11 @@
-use Rattle.std.proofs.Common.{◌≡◌, ◌≤◌, All, Some, None, slice_get, take}
-use Rattle.std.specs.Option.{IfNone, IfSome}
+use Rattle.std.proofs.Common.{◌≡◌, option_map, take}
+use Rattle.std.specs.Option.{IfSome}
+use Rattle.resil_virtual.specs.Due.{EndsFirst, earliest, ends_of}
 use Rattle.resil_virtual.proofs.due.first_end.Given as goal
 
 -- the first so far
 abbrev pub invariant-loop-place : goal.invariant-loop-place
 invariant-loop-place l = record {
-  there : IfSome l.first (λ first. slice_get l.idle first.0 ≡ Some (Some first.1));
-  first : IfSome l.first (λ first. All (λ worker. IfSome worker (λ end. first.1 ≤ end)) (take l.place l.idle));
-  none : IfNone l.first (All (λ worker. worker ≡ None) (take l.place l.idle));
+  there : IfSome l.first (λ first. EndsFirst l.idle first.0 first.1);
+  first : option_map (λ first. first.1) l.first ≡ earliest (λ end. end) (ends_of (take l.place l.idle));
 }

@@ -1,6 +1,6 @@
 use Rattle.std.proofs.Common.{◌≡◌, ◌≤◌}
 use Rattle.resil_virtual.specs.Pool.{IsPool, left, to_begin}
-use Rattle.resil_virtual.specs.Simulated.{last_at}
+use Rattle.resil_virtual.specs.Due.{last_at}
 use Rattle.resil_virtual.proofs.pool.Pool.begin_all.Given as goal
 
 abbrev pub invariant-loop : goal.invariant-loop

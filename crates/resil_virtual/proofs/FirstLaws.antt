@@ -1,0 +1,160 @@
+-- The first of what is due.
+use Rattle.std.proofs.Common.{inl, inr, ◌⊎◌, ◌≡◌, ◌≤◌, ◌<◌, ◌∷◌, [], ◌++◌, ◌∙◌, ℕ, zero, suc, Bool, true, false, All, List, Option, Some, None, map, nat_lt, option_map, slice_get, take, refl, sym, ap, subst, arith}
+use Rattle.std.specs.List.{remove}
+use Rattle.std.specs.Option.{IfSome}
+use Rattle.std.proofs.lemmas.Grind.{common_steps}
+use Rattle.std.proofs.lemmas.List.Elements.{All-cons, All-head, All-nil, All-tail, All-weaker}
+use Rattle.resil_virtual.specs.Due.{EndsFrom, earliest, ends_at, ends_of, sooner, still_ends, without_first}
+
+-- a number is below another one, or it isn't
+pub lt-cases : (n m : ℕ) → ((nat_lt n m ≡ true) × (n < m)) ⊎ ((nat_lt n m ≡ false) × (m ≤ n))
+lt-cases n m = grind (arith, common_steps)
+
+module _ {X : Type 0} (at : X → ℕ) where
+  some-sooner : (x y : X) → ((at y < at x) × (sooner at (Some x) (Some y) ≡ Some y)) ⊎ ((at x ≤ at y) × (sooner at (Some x) (Some y) ≡ Some x))
+  some-sooner x y = elim (lt-cases (at y) (at x)) [ inl is ↦ inl (is.1, rw is.0 refl) | inr is ↦ inr (is.1, rw is.0 refl) ]
+
+  pub none-other : (a : Option X) → sooner at a None ≡ a
+  none-other None = refl
+  none-other (Some x) = refl
+
+  sooner-three : (x y z : X) → sooner at (Some x) (sooner at (Some y) (Some z)) ≡ sooner at (sooner at (Some x) (Some y)) (Some z)
+  sooner-three x y z = elim (some-sooner y z) [
+    | inl zy ↦ (elim (some-sooner x y) [
+      | inl yx ↦ (elim (some-sooner x z) [ inl zx ↦ rw (zy.1, yx.1, zx.1) (sym zy.1) | inr xz ↦ absurd (omega (arith, zy.0, yx.0, xz.0)) ])
+      | inr xy ↦ rw (zy.1, xy.1) refl
+    ])
+    | inr yz ↦ (elim (some-sooner x y) [
+      | inl yx ↦ rw (yz.1, yx.1) (sym yz.1)
+      | inr xy ↦ (elim (some-sooner x z) [ inl zx ↦ absurd (omega (arith, yz.0, xy.0, zx.0)) | inr xz ↦ rw (yz.1, xy.1, xz.1) refl ])
+    ])
+  ]
+
+  pub sooner-assoc : (a b c : Option X) → sooner at a (sooner at b c) ≡ sooner at (sooner at a b) c
+  sooner-assoc None b c = refl
+  sooner-assoc (Some x) None c = refl
+  sooner-assoc (Some x) (Some y) None = sym (none-other (sooner at (Some x) (Some y)))
+  sooner-assoc (Some x) (Some y) (Some z) = sooner-three x y z
+
+  pub earliest-append : (xs ys : List X) → earliest at (xs ++ ys) ≡ sooner at (earliest at xs) (earliest at ys)
+  earliest-append [] ys = refl
+  earliest-append (x ∷ xs) ys = ap (sooner at (Some x)) (earliest-append xs ys) ∙ sooner-assoc (Some x) (earliest at xs) (earliest at ys)
+
+  -- one of the two
+  pub either : (P : X → Type 0) (a b : Option X) → IfSome a P → IfSome b P → IfSome (sooner at a b) P
+  either P None b pa pb = pb
+  either P (Some x) None pa pb = pa
+  either P (Some x) (Some y) pa pb = elim (some-sooner x y) [ inl is ↦ rw is.1 pb | inr is ↦ rw is.1 pa ]
+
+  -- none is before it
+  least-tail : (x : X) (xs : List X) (e : Option X) → earliest at xs ≡ e → ((t : X) → e ≡ Some t → All (λ y. at t ≤ at y) xs) → (e ≡ None → xs ≡ []) → (t : X) → sooner at (Some x) e ≡ Some t → All (λ y. at t ≤ at y) (x ∷ xs)
+  least-tail x xs None is all none t first = let same : x ≡ t = cc first in All-cons (λ y. at t ≤ at y) x xs (rw same (omega arith)) (rw (none refl) (All-nil (λ y. at t ≤ at y)))
+  least-tail x xs (Some y) is all none t first = elim (some-sooner x y) [
+    | inl yx ↦ (let same : y ≡ t = cc (sym yx.1 ∙ first) in rw (← same) (All-cons (λ z. at y ≤ at z) x xs (omega (arith, yx.0)) (all y refl)))
+    | inr xy ↦ (let same : x ≡ t = cc (sym xy.1 ∙ first) in rw (← same) (All-cons (λ z. at x ≤ at z) x xs (omega arith) (All-weaker (λ z. at y ≤ at z) (λ z. at x ≤ at z) (λ z le. omega (arith, le, xy.0)) xs (all y refl))))
+  ]
+
+  pub none-due : (xs : List X) → earliest at xs ≡ None → xs ≡ []
+  none-due [] is = refl
+  none-due (x ∷ xs) is = go (earliest at xs) is
+    where
+      go : (e : Option X) → sooner at (Some x) e ≡ None → x ∷ xs ≡ []
+      go None is = absurd (cc is)
+      go (Some y) is = elim (some-sooner x y) [ inl yx ↦ absurd (cc (sym yx.1 ∙ is)) | inr xy ↦ absurd (cc (sym xy.1 ∙ is)) ]
+
+  pub least : (xs : List X) (t : X) → earliest at xs ≡ Some t → All (λ y. at t ≤ at y) xs
+  least [] t is = All-nil (λ y. at t ≤ at y)
+  least (x ∷ xs) t is = least-tail x xs (earliest at xs) refl (least xs) (none-due xs) t is
+
+  -- one of them
+  among-tail : (P : X → Type 0) (x : X) (xs : List X) (e : Option X) → P x → IfSome e P → (t : X) → sooner at (Some x) e ≡ Some t → P t
+  among-tail P x xs None px pe t is = let same : x ≡ t = cc is in subst P same px
+  among-tail P x xs (Some y) px pe t is = elim (some-sooner x y) [
+    | inl yx ↦ (let same : y ≡ t = cc (sym yx.1 ∙ is) in subst P same pe)
+    | inr xy ↦ (let same : x ≡ t = cc (sym xy.1 ∙ is) in subst P same px)
+  ]
+
+  some-of : (P : X → Type 0) (e : Option X) → ((t : X) → e ≡ Some t → P t) → IfSome e P
+  some-of P None all = tt
+  some-of P (Some t) all = all t refl
+
+  among : (P : X → Type 0) (xs : List X) → All P xs → (t : X) → earliest at xs ≡ Some t → P t
+  among P [] all t is = absurd (cc is)
+  among P (x ∷ xs) all t is = among-tail P x xs (earliest at xs) (All-head P x xs all) (some-of P (earliest at xs) (among P xs (All-tail P x xs all))) t is
+
+  -- one that is before none of the others, and that is first
+  pub first-is : (x : X) (xs : List X) → All (λ y. at x ≤ at y) xs → earliest at (x ∷ xs) ≡ Some x
+  first-is x xs all = go (earliest at xs) (some-of (λ y. at x ≤ at y) (earliest at xs) (among (λ y. at x ≤ at y) xs all))
+    where
+      go : (e : Option X) → IfSome e (λ y. at x ≤ at y) → sooner at (Some x) e ≡ Some x
+      go None le = refl
+      go (Some y) le = elim (some-sooner x y) [ inl yx ↦ absurd (omega (arith, yx.0, le)) | inr xy ↦ xy.1 ]
+
+-- what comes first, seen otherwise
+module _ {X Y : Type 0} (f : X → Y) (at : X → ℕ) (to : Y → ℕ) (same : (x : X) → to (f x) ≡ at x) where
+  pub sooner-map : (a b : Option X) → option_map f (sooner at a b) ≡ sooner to (option_map f a) (option_map f b)
+  sooner-map None b = refl
+  sooner-map (Some x) None = refl
+  sooner-map (Some x) (Some y) = elim (some-sooner at x y) [
+    | inl yx ↦ (elim (some-sooner to (f x) (f y)) [ inl is ↦ rw (yx.1, is.1) refl | inr is ↦ (let l = same x in let r = same y in absurd (omega (arith, l, r, yx.0, is.0))) ])
+    | inr xy ↦ (elim (some-sooner to (f x) (f y)) [ inl is ↦ (let l = same x in let r = same y in absurd (omega (arith, l, r, xy.0, is.0))) | inr is ↦ rw (xy.1, is.1) refl ])
+  ]
+
+  pub earliest-map : (xs : List X) → earliest to (map f xs) ≡ option_map f (earliest at xs)
+  earliest-map [] = refl
+  earliest-map (x ∷ xs) = ap (sooner to (Some (f x))) (earliest-map xs) ∙ sym (sooner-map (Some x) (earliest at xs))
+
+-- ---- Idle workers.
+
+-- ends and those who have them
+pub ends-all : (n : ℕ) (idle : List (Option ℕ)) → All (λ end. n ≤ end) (ends_of idle) → EndsFrom n idle
+ends-all n [] all = All-nil (λ worker. IfSome worker (λ end. n ≤ end))
+ends-all n (None ∷ idle) all = All-cons (λ worker. IfSome worker (λ end. n ≤ end)) None idle tt (ends-all n idle all)
+ends-all n (Some end ∷ idle) all =
+    All-cons (λ worker. IfSome worker (λ end. n ≤ end)) (Some end) idle (All-head (λ end. n ≤ end) end (ends_of idle) all) (ends-all n idle (All-tail (λ end. n ≤ end) end (ends_of idle) all))
+
+pub ends-each : (n : ℕ) (idle : List (Option ℕ)) → EndsFrom n idle → All (λ end. n ≤ end) (ends_of idle)
+ends-each n [] all = All-nil (λ end. n ≤ end)
+ends-each n (None ∷ idle) all = ends-each n idle (All-tail (λ worker. IfSome worker (λ end. n ≤ end)) None idle all)
+ends-each n (Some end ∷ idle) all =
+    All-cons (λ end. n ≤ end) end (ends_of idle) (All-head (λ worker. IfSome worker (λ end. n ≤ end)) (Some end) idle all) (ends-each n idle (All-tail (λ worker. IfSome worker (λ end. n ≤ end)) (Some end) idle all))
+
+-- an end before all of some is none of them
+other-end : (n m : ℕ) → n < m → (worker : Option ℕ) → IfSome worker (λ end. m ≤ end) → ends_at n worker ≡ false
+other-end n m less None is = refl
+other-end n m less (Some end) is = grind (arith, common_steps, is, less)
+
+pub none-at : (n m : ℕ) → n < m → (idle : List (Option ℕ)) → EndsFrom m idle → All (λ worker. ends_at n worker ≡ false) idle
+none-at n m less idle all = All-weaker (λ worker. IfSome worker (λ end. m ≤ end)) (λ worker. ends_at n worker ≡ false) (other-end n m less) idle all
+
+pub none-of : (n : ℕ) (idle : List (Option ℕ)) → ends_of idle ≡ [] → All (λ worker. ends_at n worker ≡ false) idle
+none-of n [] none = All-nil (λ worker. ends_at n worker ≡ false)
+none-of n (None ∷ idle) none = All-cons (λ worker. ends_at n worker ≡ false) None idle refl (none-of n idle none)
+none-of n (Some end ∷ idle) none = absurd (cc none)
+
+-- those whose time is over stay
+same-end : (at : ℕ) (worker : Option ℕ) → IfSome worker (λ end. at ≤ end) → still_ends at worker ≡ worker
+same-end at None is = refl
+same-end at (Some end) is = elim (lt-cases end at) [ inl over ↦ absurd (omega (arith, over.1, is)) | inr ahead ↦ rw ahead.0 refl ]
+
+pub all-still : (at : ℕ) (idle : List (Option ℕ)) → EndsFrom at idle → map (still_ends at) idle ≡ idle
+all-still at [] all = refl
+all-still at (worker ∷ idle) all =
+    let first = same-end at worker (All-head (λ worker. IfSome worker (λ end. at ≤ end)) worker idle all) in
+    let rest = all-still at idle (All-tail (λ worker. IfSome worker (λ end. at ≤ end)) worker idle all) in
+    ap (λ (w : Option ℕ). w ∷ map (still_ends at) idle) first ∙ ap (λ (ws : List (Option ℕ)). worker ∷ ws) rest
+
+one-still : (at : ℕ) (worker : Option ℕ) → IfSome (still_ends at worker) (λ end. at ≤ end)
+one-still at None = tt
+one-still at (Some end) = elim (lt-cases end at) [ inl over ↦ rw over.0 tt | inr ahead ↦ rw ahead.0 ahead.1 ]
+
+pub still-from : (at : ℕ) (idle : List (Option ℕ)) → EndsFrom at (map (still_ends at) idle)
+still-from at [] = All-nil (λ worker. IfSome worker (λ end. at ≤ end))
+still-from at (worker ∷ idle) = All-cons (λ worker. IfSome worker (λ end. at ≤ end)) (still_ends at worker) (map (still_ends at) idle) (one-still at worker) (still-from at idle)
+
+-- the first of those that pass is gone
+pub without-is : {X : Type 0} (p : X → Bool) (xs : List X) (i : ℕ) (x : X) → slice_get xs i ≡ Some x → p x ≡ true → All (λ y. p y ≡ false) (take i xs) → without_first p xs ≡ remove xs i
+without-is p [] i x is passes before = absurd (cc is)
+without-is p (y ∷ xs) zero x is passes before = let same : y ≡ x = cc is in rw (same, passes) refl
+without-is {X} p (y ∷ xs) (suc i) x is passes before =
+    rw (All-head (λ y. p y ≡ false) y (take i xs) before) (ap (λ (ys : List X). y ∷ ys) (without-is p xs i x is passes (All-tail (λ y. p y ≡ false) y (take i xs) before)))
