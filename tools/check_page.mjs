@@ -28,12 +28,12 @@ function compare(words, input, name) {
   const { status, output, said } = answer(words, input);
   const told = ran.stderr.toString();
   mark(ran.status === status && ran.stdout.equals(output) && told === said, `${words}, ${name}: ${status} not ${ran.status}; ${said} not ${told}`);
-  if (words === "stats" || words === "simulate") compareHead(words, input, ran, name);
+  if (words === "timeline" || words === "simulate") compareHead(words, input, ran, name);
 }
 
 // What is said of a head: it is refused as the program refuses it, and of a load it has the pools of the table.
 function compareHead(words, input, ran, name) {
-  const said = answer(words === "stats" ? "head" : "load head", input), line = ran.stdout.toString(), isRefused = /^refused (input|head) /.test(line);
+  const said = answer(words === "timeline" ? "head" : "load head", input), line = ran.stdout.toString(), isRefused = /^refused (input|head) /.test(line);
   const pools = (csv) => csv.trim().split("\n").slice(1).map((row) => row.split(",").slice(0, 3).join()).join(" ");
   mark(isRefused ? said.status === 1 && text(said.output) === line : said.status === 0, `the head of ${words}, ${name}: ${said.status}, ${text(said.output)}`);
   if (words === "simulate" && ran.status === 0) mark(pools(text(said.output)) === pools(line), `the pools of ${name}: ${text(said.output)}`);

@@ -86,10 +86,10 @@ fn a_greater_size_calls_those_that_held_back() -> Checked {
     pool.resize(1, 1)?;
     let waiting = all_gated(&pool, 4)?;
     first.into_iter().try_for_each(end)?;
-    let numbers = pool.numbers();
-    assert_eq!((numbers.running, numbers.waiting), (1, 3));
+    let numbers = || pool.numbers();
+    assert!(until(|| (numbers().running, numbers().waiting) == (1, 3)));
     pool.resize(4, 4)?;
-    assert!(until(|| pool.numbers().running == 4));
+    assert!(until(|| numbers().running == 4));
     waiting.into_iter().try_for_each(end)?;
     Ok(())
 }

@@ -1,8 +1,9 @@
 -- What the head of an input says, as text, and why it says nothing.
 use Rattle.std.specs.Prelude.{ℕ, ◌≡◌, ◌++◌, ◌∷◌, [], List, Option, map}
 use Rattle.std.specs.Fmt.{decimal}
-use Rattle.resil_heads.specs.History.{history_head_of, named_keys}
+use Rattle.resil_heads.specs.History.{history_head_of}
 use Rattle.resil_heads.specs.Parts.{IsPartRefusal, SplitsInto}
+use Rattle.resil_heads.specs.PoolHead.{pool_keys}
 use Rattle.resil_heads.specs.declared.refusal.Refusal.{Refusal}
 use Rattle.resil_input.specs.CsvTable.{record_text, table_text}
 use Rattle.resil_page.specs.declared.head.HeadOf.{HeadOf}
@@ -29,7 +30,7 @@ load_text idle_for takes pools = table_text (load_fields idle_for takes ∷ map 
 
 -- the head of the input says this
 abbrev pub IsHistoryHead : List ℕ → Sizes × List ℕ → Type 0
-IsHistoryHead input said = (body : List ℕ) × SplitsInto (history_head_of named_keys) input said body
+IsHistoryHead input said = (body : List ℕ) × SplitsInto (history_head_of pool_keys) input said body
 
 abbrev pub IsLoadHead : List ℕ → LoadPlan → Type 0
 IsLoadHead input plan = (body : List ℕ) × SplitsInto load_head_of input plan body
@@ -41,5 +42,5 @@ IsHeadText head_of.Load input text = (plan : LoadPlan) × IsLoadHead input plan 
 
 -- why there is none: the input has no head, or its head is refused
 abbrev pub IsHeadRefusal : HeadOf → List ℕ → Refusal → Type 0
-IsHeadRefusal head_of.History input why = IsPartRefusal (history_head_of named_keys) (λ _ _. ⊥) input why
+IsHeadRefusal head_of.History input why = IsPartRefusal (history_head_of pool_keys) (λ _ _. ⊥) input why
 IsHeadRefusal head_of.Load input why = IsPartRefusal load_head_of (λ _ _. ⊥) input why

@@ -7,7 +7,7 @@ ghost use Rattle.resil_page.specs.Head.{IsHeadRefusal, IsHeadText, IsHistoryHead
 ghost use Rattle.resil_simulate.specs.Head.{plan_of};
 
 use resil_heads::history::{HistoryHead, read_head};
-use resil_heads::run::NAMED_KEYS;
+use resil_heads::pool_head::POOL_KEYS;
 use resil_heads::{CommandError, Refusal};
 use resil_input::framing::split_input;
 use resil_rule::Limits;
@@ -72,7 +72,7 @@ fn read_history_head(alloc: Global, input: &[u8]) -> Result<HistoryHead, Command
     ensures { MatchResult result (λ head. IsHistoryHead input.now (head.limits, string_bytes head.name)) (IsError (IsHeadRefusal HeadOf.History input.now)) }
 {
     let (head, _) = split_input(input).ok_or(Refusal::NoBody)?;
-    let said = read_head(alloc, NAMED_KEYS, head)?;
+    let said = read_head(alloc, POOL_KEYS, head)?;
     Ok(said)
 }
 

@@ -3,6 +3,11 @@ pub mod LegalLaws
 pub mod MostLaws
 pub mod CallerLaws
 pub mod TextLaws
+pub mod WholeLaws
+pub mod LoadLaws
+pub mod JdkMostLaws
+pub mod WholeSpanLaws
+pub mod JdkCallerLaws
 pub mod ResultLaws
 pub mod ListLaws
 pub mod PlaceLaws

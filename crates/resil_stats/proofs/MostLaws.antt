@@ -9,15 +9,15 @@ use Rattle.resil_stats.specs.Stats.{AreMost, IsLoadAfter, IsMost}
 use Rattle.resil_stats.specs.declared.stats.Load.{Load}
 
 -- a prefix of the events with one more is one of the events, or all of them
-prefix-push : (k : ℕ) (h : List Event) (e : Event) → (take k (h ++ e ∷ []) ≡ take k h) ⊎ (take k (h ++ e ∷ []) ≡ h ++ e ∷ [])
+prefix-push : {E : Type 0} (k : ℕ) (h : List E) (e : E) → (take k (h ++ e ∷ []) ≡ take k h) ⊎ (take k (h ++ e ∷ []) ≡ h ++ e ∷ [])
 prefix-push k h e = grind (arith, common_steps, take-append-le, take_all)
 
 -- and each prefix of the events is one of the events with one more
-prefix-kept : (k : ℕ) (h : List Event) (e : Event) → (n : ℕ) × (take n (h ++ e ∷ []) ≡ take k h)
+prefix-kept : {E : Type 0} (k : ℕ) (h : List E) (e : E) → (n : ℕ) × (take n (h ++ e ∷ []) ≡ take k h)
 prefix-kept k h e = (min k (length h), take-append-le (min k (length h)) h (e ∷ []) (omega arith) ∙ take_min k h)
 
-module _ (number : List Event → ℕ) where
-  pub most-push : (h : List Event) (e : Event) (most now next : ℕ) → now ≡ number (h ++ e ∷ []) → next ≡ max most now → IsMost number h most → IsMost number (h ++ e ∷ []) next
+module _ {E : Type 0} (number : List E → ℕ) where
+  pub most-push : (h : List E) (e : E) (most now next : ℕ) → now ≡ number (h ++ e ∷ []) → next ≡ max most now → IsMost number h most → IsMost number (h ++ e ∷ []) next
   most-push h e most now next is raised old = record {
     bound = λ k. grind (arith, prefix-push k h e, old.bound k);
     reached = elim (leb_tells now most) [

@@ -2,6 +2,8 @@ pub mod Stats
 pub mod Text
 pub mod Results
 pub mod Spans
+pub mod Whole
+pub mod WholeSpans
 pub mod Bars
 pub mod Marks
 pub mod Depth

@@ -19,7 +19,7 @@ use Rattle.resil_stats.specs.declared.stats.Load.{Load}
 use Rattle.resil_stats.specs.declared.stats.Stats.{Stats}
 
 -- the events of a history that are counted: all of a legal one, those before the first illegal one of another
-abbrev pub legal_part : Verdict → List Event → List Event
+abbrev pub legal_part : {A : Type 0} → Verdict → List A → List A
 legal_part Legal history = history
 legal_part (FirstIllegal position) history = take (position - 1) history
 
@@ -96,7 +96,7 @@ pub record IsLoadAfter (history : List Event) (load : Load) : Type 0 where
   pub workers : load.workers ≡ workers history
 
 -- The greatest of a number over the prefixes of a history, the empty one too: none has more, and one has as much.
-pub record IsMost (number : List Event → ℕ) (history : List Event) (most : ℕ) : Type 0 where
+pub record IsMost {E : Type 0} (number : List E → ℕ) (history : List E) (most : ℕ) : Type 0 where
   pub bound : (count : ℕ) → number (take count history) ≤ most
   pub reached : (count : ℕ) × (number (take count history) ≡ most)
 

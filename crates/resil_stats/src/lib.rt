@@ -23,6 +23,8 @@ mod spans;
 mod stats;
 mod svg;
 mod text;
+mod whole;
+mod whole_spans;
 
 pub use bars::{Bar, Start};
 pub use columns::{Column, Running, column_width};
@@ -34,3 +36,5 @@ pub use spans::{Ranks, Spans, spans_of};
 pub use stats::{CallerStats, Counts, Load, Stats, count, count_legal};
 pub use svg::svg_text;
 pub use text::stats_text;
+pub use whole::{JdkAnswers, JdkCounts, JdkStats, count_jdk};
+pub use whole_spans::{JdkSpans, spans_of_jdk};

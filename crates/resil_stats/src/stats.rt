@@ -97,8 +97,8 @@ pub struct Load {
 }
 
 impl Load {
-    // The greater of each of the numbers.
-    fn max(self, other: Load) -> Load
+    /// The greater of each of the numbers.
+    pub(crate) fn max(self, other: Load) -> Load
         ensures waiting { result.waiting ≡ max self.waiting other.waiting }
         ensures running { result.running ≡ max self.running other.running }
         ensures workers { result.workers ≡ max self.workers other.workers }

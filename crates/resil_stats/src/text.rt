@@ -4,12 +4,13 @@
 //! caller. No name, number or verdict has a comma, a quote or a line end in it, so a record is its
 //! fields with commas between them.
 
-ghost use Rattle.std.specs.Prelude.{◌≡◌, IfOk, OnOk, string_bytes};
+ghost use Rattle.std.specs.Prelude.{◌≡◌, IfOk, OnOk, string_bytes, true};
 ghost use Rattle.resil_input.specs.CsvTable.{record_text, table_text};
-ghost use Rattle.resil_stats.specs.Text.{IsExtended, caller_records, callers_records, span_fields, spans_records, stats_records, stats_text, total_fields, verdict_fields};
+ghost use Rattle.resil_stats.specs.Text.{IsExtended, caller_records, callers_records, span_fields, spans_records, stats_records, stats_text, total_fields, total_records, verdict_fields, whole_records};
 
-use crate::spans::Spans;
-use crate::stats::{CallerStats, Stats};
+use crate::stats::CallerStats;
+use crate::whole::JdkStats;
+use crate::whole_spans::JdkSpans;
 use resil_rule::Verdict;
 use std::alloc::{AllocError, Global};
 use std::collections::BTreeMap;
@@ -43,20 +44,23 @@ fn push_span(
     }
 }
 
-// Writes how long jobs waited and ran, where that is known. Errors: `AllocError` when out of memory.
-fn push_spans(alloc: Global, text: &mut String, spans: Option<Spans>) -> Result<(), AllocError>
+// Writes how long jobs waited and ran, and how long idle workers took to come, where that is known. Errors: `AllocError` when out
+// of memory.
+fn push_spans(alloc: Global, text: &mut String, spans: Option<JdkSpans>) -> Result<(), AllocError>
     ensures { OnOk result (IsExtended (string_bytes text.old) (string_bytes text.new) (table_text (spans_records spans))) }
 {
     let Some(spans) = spans else {
         return Ok(());
     };
-    let (waits, runs) = (spans.waits, spans.runs);
+    let (waits, runs, wakes) = (spans.waits, spans.runs, spans.wakes);
     push_span(alloc, text, "wait_median", waits.median)?;
     push_span(alloc, text, "wait_p99", waits.p99)?;
     push_span(alloc, text, "wait_most", waits.most)?;
     push_span(alloc, text, "run_median", runs.median)?;
     push_span(alloc, text, "run_p99", runs.p99)?;
     push_span(alloc, text, "run_most", runs.most)?;
+    push_span(alloc, text, "wake_median", wakes.median)?;
+    push_span(alloc, text, "wake_p99", wakes.p99)?;
     Ok(())
 }
 
@@ -102,22 +106,17 @@ fn push_verdict(alloc: Global, text: &mut String, verdict: Verdict) -> Result<()
     }
 }
 
-// Writes all numbers. Errors: `AllocError` when out of memory.
-fn push_numbers(
-    alloc: Global,
-    text: &mut String,
-    stats: &Stats,
-    spans: Option<Spans>,
-) -> Result<(), AllocError>
-    ensures { OnOk result (IsExtended (string_bytes text.old) (string_bytes text.new) (table_text (stats_records stats.now spans))) }
+// Writes the numbers of the whole history. Errors: `AllocError` when out of memory.
+fn push_totals(alloc: Global, text: &mut String, stats: &JdkStats) -> Result<(), AllocError>
+    ensures { OnOk result (IsExtended (string_bytes text.old) (string_bytes text.new) (table_text (total_records stats.now))) }
 {
-    let (counts, most) = (stats.counts, stats.most);
-    push_total(alloc, text, "submissions", counts.submissions)?;
-    push_total(alloc, text, "core", counts.core)?;
-    push_total(alloc, text, "queued", counts.queued)?;
-    push_total(alloc, text, "extra", counts.extra)?;
-    push_total(alloc, text, "full", counts.full)?;
-    push_total(alloc, text, "closed", counts.closed)?;
+    let (answers, counts, most) = (stats.answers, stats.counts, stats.most);
+    push_total(alloc, text, "submissions", answers.submissions)?;
+    push_total(alloc, text, "core", answers.core)?;
+    push_total(alloc, text, "queued", answers.queued)?;
+    push_total(alloc, text, "extra", answers.extra)?;
+    push_total(alloc, text, "full", answers.full)?;
+    push_total(alloc, text, "closed", answers.closed)?;
     push_total(alloc, text, "taken", counts.taken)?;
     push_total(alloc, text, "finished", counts.finished)?;
     push_total(alloc, text, "idle_ends", counts.idle_ends)?;
@@ -126,6 +125,54 @@ fn push_numbers(
     push_total(alloc, text, "most_running", most.running)?;
     push_total(alloc, text, "most_workers", most.workers)?;
     push_total(alloc, text, "never_started", stats.never_started)?;
+    push_total(alloc, text, "refused_idle", answers.refused_idle)?;
+    push_total(alloc, text, "extra_idle", answers.extra_idle)?;
+    Ok(())
+}
+
+// Writes what version 4 alone has words for. Errors: `AllocError` when out of memory.
+fn push_own_totals(alloc: Global, text: &mut String, stats: &JdkStats) -> Result<(), AllocError>
+    ensures { OnOk result (IsExtended (string_bytes text.old) (string_bytes text.new) (table_text (whole_records stats.now true))) }
+{
+    let (answers, counts) = (stats.answers, stats.counts);
+    push_total(alloc, text, "first", answers.first)?;
+    push_total(alloc, text, "handed", answers.handed)?;
+    push_total(alloc, text, "started", counts.started)?;
+    push_total(alloc, text, "culled", counts.culled)?;
+    push_total(alloc, text, "removed", counts.removed)?;
+    push_total(alloc, text, "stops", counts.stops)?;
+    push_total(alloc, text, "time_outs", counts.time_outs)?;
+    Ok(())
+}
+
+// Writes what version 4 alone has words for, where the history is in that version. Errors: `AllocError` when out of memory.
+fn push_whole(
+    alloc: Global,
+    text: &mut String,
+    stats: &JdkStats,
+    is_whole: bool,
+) -> Result<(), AllocError>
+    ensures { OnOk result (IsExtended (string_bytes text.old) (string_bytes text.new) (table_text (whole_records stats.now is_whole))) }
+{
+    if is_whole {
+        push_own_totals(alloc, text, stats)
+    } else {
+        Ok(())
+    }
+}
+
+// Writes all numbers. Errors: `AllocError` when out of memory.
+fn push_numbers(
+    alloc: Global,
+    text: &mut String,
+    stats: &JdkStats,
+    spans: Option<JdkSpans>,
+    is_whole: bool,
+) -> Result<(), AllocError>
+    ensures { OnOk result (IsExtended (string_bytes text.old) (string_bytes text.new) (table_text (stats_records stats.now spans is_whole))) }
+{
+    push_totals(alloc, text, stats)?;
+    push_whole(alloc, text, stats, is_whole)?;
     push_spans(alloc, text, spans)?;
     push_callers(alloc, text, &stats.callers)?;
     push_verdict(alloc, text, stats.verdict)?;
@@ -133,18 +180,23 @@ fn push_numbers(
 }
 
 /// The text of the numbers of a history: the header `name,caller,value`, then a record for each
-/// number of the whole history, with an empty caller, and for six spans of time, in microseconds, where they are known; then three
-/// for each caller that submitted, by its number ascending; and at the end the record `verdict,,` with `legal`, or `illegal` and
-/// the position of the first illegal event, from 1.
+/// number of the whole history, with an empty caller, for seven more if it is in version 4, and for eight spans of time, in
+/// microseconds, where they are known; then three for each caller that submitted, by its number ascending; and at the end the
+/// record `verdict,,` with `legal`, or `illegal` and the position of the first illegal event, from 1.
 ///
 /// # Errors
 ///
 /// `AllocError` when out of memory.
-pub fn stats_text(alloc: Global, stats: &Stats, spans: Option<Spans>) -> Result<Vec<u8>, AllocError>
-    ensures { IfOk result (λ text. text.items ≡ stats_text stats.now spans) }
+pub fn stats_text(
+    alloc: Global,
+    stats: &JdkStats,
+    spans: Option<JdkSpans>,
+    is_whole: bool,
+) -> Result<Vec<u8>, AllocError>
+    ensures { IfOk result (λ text. text.items ≡ stats_text stats.now spans is_whole) }
 {
     let mut text = String::from_str(alloc, "name,caller,value\n")?;
-    match push_numbers(alloc, &mut text, stats, spans) {
+    match push_numbers(alloc, &mut text, stats, spans, is_whole) {
         Ok(()) => Ok(text.into_bytes()),
         Err(error) => Err(error),
     }

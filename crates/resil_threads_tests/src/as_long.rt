@@ -23,7 +23,11 @@ const TRIALS: u32 = 4;
 /// Whether a wait that began then has ended by six times its time. Asserts that it has lasted that long.
 fn has_ended_in_time<R: Abort + Clock>(rt: &R, start: Instant) -> bool {
     let took = start.elapsed(rt).expect(rt, "a clock");
-    assert_that(rt, took >= Duration::from_millis(LONGEST), "a wait that lasts");
+    assert_that(
+        rt,
+        took >= Duration::from_millis(LONGEST),
+        "a wait that lasts",
+    );
     took < Duration::from_millis(6 * LONGEST)
 }
 
@@ -65,7 +69,11 @@ fn wait_for_both<R: Abort + Clock + Wait>(
     let pending = wait_in_vain(rt, submitted(rt, alloc, pool, came));
     join_in_vain(rt, pool);
     came.fetch_add(1, SeqCst);
-    assert_that(rt, matches!(pending.wait(rt), Ok(true)), "an answer at the end");
+    assert_that(
+        rt,
+        matches!(pending.wait(rt), Ok(true)),
+        "an answer at the end",
+    );
 }
 
 #[test]
@@ -106,9 +114,17 @@ fn let_one_end<R: Abort + Clock + Wait>(
         assert_that(rt, matches!(pending.wait(rt), Ok(true)), "three that met");
     }
     let took = time_of_the_second(rt, pool);
-    assert_that(rt, took >= Duration::from_millis(200), "a worker that is kept alive");
+    assert_that(
+        rt,
+        took >= Duration::from_millis(200),
+        "a worker that is kept alive",
+    );
     assert_that(rt, took < Duration::from_secs(8), "a worker that ends");
-    assert_that(rt, pool.numbers(rt).workers == 1, "a core worker that stays");
+    assert_that(
+        rt,
+        pool.numbers(rt).workers == 1,
+        "a core worker that stays",
+    );
 }
 
 #[test]

@@ -10,6 +10,7 @@ use Rattle.resil_jdk.specs.Verdict as whole
 use Rattle.resil_jdk.specs.declared.event.JdkEvent.{JdkEvent}
 use Rattle.resil_heads.specs.PoolHead.{PoolHeadView, pool_head_of}
 use Rattle.resil_heads.specs.declared.error.HeadError.{HeadError}
+use Rattle.resil_heads.specs.declared.pool_head.Uses.{Uses}
 use Rattle.resil_heads.specs.declared.refusal.Refusal.{Refusal}
 use Rattle.resil_input.specs.Framing.{parts_of}
 use Rattle.resil_input.specs.declared.csv_rows.BodyError.{BodyError}
@@ -68,6 +69,10 @@ IsJudgedFrom input said events = (times : Option (List ℕ)) × (results : Optio
 -- the text is the line of the verdict on the history of the input
 abbrev pub IsJudgeText : List ℕ → List ℕ → Type 0
 IsJudgeText input text = (said : PoolHeadView) × (events : AnyEvents) × IsJudgedFrom input said events × IsVerdictText said.limits events text
+
+-- the refusal of the first step that refuses an input of any version, whose head has some values that are used
+abbrev pub IsPoolRefusal : Uses → List ℕ → Refusal → Type 0
+IsPoolRefusal uses input why = IsReadRefusal (pool_head_of uses) IsAnyBody IsAnyBodyError input why
 
 -- the refusal of the first step that refuses the input
 abbrev pub IsJudgeRefusal : List ℕ → Refusal → Type 0

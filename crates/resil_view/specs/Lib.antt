@@ -1,3 +1,4 @@
 pub mod Command
 pub mod Judge
 pub mod Read
+pub mod Numbers

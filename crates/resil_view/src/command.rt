@@ -1,33 +1,28 @@
 //! `judge`, `stats` and `timeline`: what is read of an input, and the text of a view of the history in it.
 //!
-//! A history that is counted or drawn is that of `audit`, which may have times. Its head may be that of a `run`, and the results of a run
+//! A history that is drawn is that of `audit`, which may have times. Its head may be that of a `run`, and the results of a run
 //! may follow it. They are read, and a result that can't be read is refused once the history is read; then a time that goes back is.
-//! `judge` has a module of its own.
+//! `judge` and `stats` have modules of their own.
 
 ghost use Rattle.std.specs.Prelude.{◌≡◌, IfOk, MatchResult, option_map, string_bytes};
 ghost use Rattle.resil_heads.specs.CommandError.{IsError};
-ghost use Rattle.resil_heads.specs.Document.{keys_of};
-ghost use Rattle.resil_heads.specs.History.{history_head_of, named_keys};
+ghost use Rattle.resil_heads.specs.History.{history_head_of};
+ghost use Rattle.resil_heads.specs.PoolHead.{pool_keys};
 ghost use Rattle.resil_replay.specs.Timed.{IsHistoryBody};
-ghost use Rattle.resil_rule.specs.Limits.{Sizes};
-ghost use Rattle.resil_rule.specs.Verdict.{IsVerdict};
-ghost use Rattle.resil_stats.specs.Stats.{legal_part};
 ghost use Rattle.resil_stats.specs.Svg.{IsHistorySvg};
-ghost use Rattle.resil_view.specs.Command.{AreSpansIn, IsNumbersText, IsShownFrom, IsShownRefusal, IsViewRefusal, IsViewText, head_keys};
+ghost use Rattle.resil_view.specs.Command.{IsShownFrom, IsShownRefusal, IsViewRefusal, IsViewText};
 ghost use Rattle.resil_view.specs.Read.{IsReadFrom};
 
 use crate::judge::judge_text;
+use crate::numbers::numbers_text;
 use crate::read::{check_order, known_results, split_body};
-use resil_heads::forms::Key;
 use resil_heads::history::{HistoryHead, read_head};
 use resil_heads::pool_head::POOL_KEYS;
-use resil_heads::run::NAMED_KEYS;
 use resil_heads::{CommandError, Refusal};
 use resil_input::framing::split_input;
 use resil_replay::timed::{History, read_history};
-use resil_rule::{Limits, Verdict};
 use resil_stats::results::JobResult;
-use resil_stats::{Outcomes, Spans, count, picture_of, spans_of, stats_text, svg_text};
+use resil_stats::{Outcomes, picture_of, svg_text};
 use std::alloc::{AllocError, Global};
 
 /// What the words request.
@@ -41,58 +36,19 @@ pub enum View {
     Timeline,
 }
 
-impl View {
-    // The keys of its heads.
-    pub(crate) fn head_keys(self) -> &'static [Key]
-        ensures { keys_of result.now ≡ head_keys self }
-    {
-        match self {
-            View::Judge => POOL_KEYS,
-            View::Stats | View::Timeline => NAMED_KEYS,
-        }
-    }
-}
-
 // What the head says, the history and the text of the results of an input. Errors, in this order: `Refused` as `NoBody`; as
 // `Head`; as `BadHeader` or `BadRow`. `Memory` may come at any step.
 fn read_parts(
     alloc: Global,
     input: &[u8],
 ) -> Result<(HistoryHead, History, Option<&[u8]>), CommandError>
-    ensures { MatchResult result (λ read. IsReadFrom (history_head_of named_keys) IsHistoryBody input.now (read.0.limits, string_bytes read.0.name) read.1.events read.1.times (option_map (λ results. results.now) read.2)) (IsError (IsShownRefusal input.now)) }
+    ensures { MatchResult result (λ read. IsReadFrom (history_head_of pool_keys) IsHistoryBody input.now (read.0.limits, string_bytes read.0.name) read.1.events read.1.times (option_map (λ results. results.now) read.2)) (IsError (IsShownRefusal input.now)) }
 {
     let (head, body) = split_input(input).ok_or(Refusal::NoBody)?;
-    let said = read_head(alloc, NAMED_KEYS, head)?;
+    let said = read_head(alloc, POOL_KEYS, head)?;
     let (history, results) = split_body(body);
     let history = read_history(alloc, history)?;
     Ok((said, history, results))
-}
-
-// How long jobs waited and ran, where the history has times, by its verdict. Errors: `AllocError` when out of memory.
-fn known_spans(
-    alloc: Global,
-    history: &History,
-    verdict: Verdict,
-) -> Result<Option<Spans>, AllocError>
-    requires { (limits : Sizes) × IsVerdict limits history.now.events verdict }
-    ensures { IfOk result (AreSpansIn (legal_part verdict history.now.events) history.now.times) }
-{
-    let Some(times) = &history.times else {
-        return Ok(None);
-    };
-    match spans_of(alloc, &history.events, times, verdict) {
-        Ok(spans) => Ok(Some(spans)),
-        Err(error) => Err(error),
-    }
-}
-
-// The text of the numbers of a history. Errors: `AllocError` when out of memory.
-fn counted(alloc: Global, limits: &Limits, history: &History) -> Result<Vec<u8>, AllocError>
-    ensures { IfOk result (λ text. IsNumbersText limits.now history.now.events history.now.times text.items) }
-{
-    let stats = count(alloc, limits, &history.events)?;
-    let spans = known_spans(alloc, history, stats.verdict)?;
-    stats_text(alloc, &stats, spans)
 }
 
 // The times of a history, where it has some.
@@ -120,7 +76,7 @@ fn drawn(
     svg_text(alloc, head.name.as_str(), &picture, times, &outcomes)
 }
 
-// What is counted or drawn of an input: its head, its history, and the results of its jobs. Errors: as those of `view_text`.
+// What is drawn of an input: its head, its history, and the results of its jobs. Errors: as those of `view_text`.
 fn read_shown(
     alloc: Global,
     input: &[u8],
@@ -138,20 +94,6 @@ fn read_shown(
     match check_order(&history.times) {
         Ok(()) => Ok((head, history, results)),
         Err(why) => Err(why),
-    }
-}
-
-// The text of the numbers of the history that an input has. Errors: as those of `view_text`.
-fn counted_text(alloc: Global, input: &[u8]) -> Result<Vec<u8>, CommandError>
-    ensures { MatchResult result (λ text. IsViewText View.Stats input.now text.items) (IsError (IsShownRefusal input.now)) }
-{
-    let (head, history, _results) = match read_shown(alloc, input) {
-        Ok(read) => read,
-        Err(why) => return Err(why),
-    };
-    match counted(alloc, &head.limits, &history) {
-        Ok(text) => Ok(text),
-        Err(_) => Err(CommandError::Memory),
     }
 }
 
@@ -174,13 +116,14 @@ fn drawn_text(alloc: Global, input: &[u8]) -> Result<Vec<u8>, CommandError>
 /// # Errors
 ///
 /// In this order: `Refused` as `NoBody`; as `Head`; as `BadHeader` or `BadRow`, as `audit` refuses a history without times; as
-/// `BadResult` where a result can't be read; as `Load` for `TimeGoesBack`. `Memory` may come at any step.
+/// `BadResult` where a result can't be read; as `Load` for `TimeGoesBack`; of `stats` as `Head` for `BadValue` where the head says of more
+/// events than there are that they restate a state. `Memory` may come at any step.
 pub fn view_text(alloc: Global, view: View, input: &[u8]) -> Result<Vec<u8>, CommandError>
     ensures { MatchResult result (λ text. IsViewText view input.now text.items) (IsError (IsViewRefusal view input.now)) }
 {
     match view {
         View::Judge => judge_text(alloc, input),
-        View::Stats => counted_text(alloc, input),
+        View::Stats => numbers_text(alloc, input),
         View::Timeline => drawn_text(alloc, input),
     }
 }

@@ -5,11 +5,11 @@
 
 ghost use Rattle.std.specs.Prelude.{◌≡◌, IfNone, IfOk, IfSome, MatchResult, option_map};
 ghost use Rattle.resil_heads.specs.CommandError.{IsError};
-ghost use Rattle.resil_heads.specs.PoolHead.{said_of};
+ghost use Rattle.resil_heads.specs.PoolHead.{pool_head_of, said_of};
 ghost use Rattle.resil_rule.specs.Limits.{AreLimits};
 ghost use Rattle.resil_jdk.specs.Verdict as whole;
 ghost use Rattle.resil_record.specs.Body.{IsRecordBodyError};
-ghost use Rattle.resil_view.specs.Judge.{IsAnyBody, IsAnyBodyError, IsJudgeRefusal, IsJudgeText, IsJudgment, IsVerdictText, JudgesAsAudit, events_of, in_own_words, judged_head_of};
+ghost use Rattle.resil_view.specs.Judge.{IsAnyBody, IsAnyBodyError, IsJudgeRefusal, IsJudgeText, IsJudgment, IsPoolRefusal, IsVerdictText, JudgesAsAudit, events_of, in_own_words};
 ghost use Rattle.resil_view.specs.Read.{IsReadFrom};
 
 use crate::read::{check_order, known_results, split_body};
@@ -76,16 +76,17 @@ pub(crate) fn read_any(alloc: Global, body: &[u8]) -> Result<AnyHistory, BodyErr
     })
 }
 
-// What the head says, the history and the text of the results of an input. Errors, in this order: `Refused` as `NoBody`; as `Head`; as
-// `BadHeader` or `BadRow`. `Memory` may come at any step.
-fn read_parts(
+/// What the head says, of which some is used, the history and the text of the results of an input. Errors, in this order: `Refused`
+/// as `NoBody`; as `Head`; as `BadHeader` or `BadRow`.
+pub(crate) fn read_parts(
     alloc: Global,
+    uses: Uses,
     input: &[u8],
 ) -> Result<(PoolHead, AnyHistory, Option<&[u8]>), CommandError>
-    ensures { MatchResult result (λ read. IsReadFrom judged_head_of IsAnyBody input.now (said_of read.0) (events_of read.1.events) (option_map (λ times. times.items) read.1.times) (option_map (λ results. results.now) read.2)) (IsError (IsJudgeRefusal input.now)) }
+    ensures { MatchResult result (λ read. IsReadFrom (pool_head_of uses) IsAnyBody input.now (said_of read.0) (events_of read.1.events) (option_map (λ times. times.items) read.1.times) (option_map (λ results. results.now) read.2)) (IsError (IsPoolRefusal uses input.now)) }
 {
     let (head, body) = split_input(input).ok_or(Refusal::NoBody)?;
-    let said = read_pool_head(alloc, Uses::NONE, head)?;
+    let said = read_pool_head(alloc, uses, head)?;
     let (history, results) = split_body(body);
     let history = read_any(alloc, history)?;
     Ok((said, history, results))
@@ -133,8 +134,12 @@ fn own_verdict(alloc: Global, limits: &JdkLimits, events: &[Event]) -> Result<Ve
     }
 }
 
-// The verdict on a history. Errors: `AllocError` when out of memory.
-fn verdict_of(alloc: Global, limits: &JdkLimits, events: &Events) -> Result<Verdict, AllocError>
+/// The verdict on a history. Errors: `AllocError` when out of memory.
+pub(crate) fn verdict_of(
+    alloc: Global,
+    limits: &JdkLimits,
+    events: &Events,
+) -> Result<Verdict, AllocError>
     ensures { IfOk result (IsJudgment limits.now (events_of events.now)) }
 {
     match events {
@@ -155,7 +160,7 @@ fn judged(alloc: Global, limits: &JdkLimits, events: &Events) -> Result<Vec<u8>,
 pub(crate) fn judge_text(alloc: Global, input: &[u8]) -> Result<Vec<u8>, CommandError>
     ensures { MatchResult result (λ text. IsJudgeText input.now text.items) (IsError (IsJudgeRefusal input.now)) }
 {
-    let (head, history, results) = match read_parts(alloc, input) {
+    let (head, history, results) = match read_parts(alloc, Uses::NONE, input) {
         Ok(read) => read,
         Err(why) => return Err(why),
     };

@@ -1,11 +1,13 @@
 //! `judge`, `stats` and `timeline` over bytes: what is written for an input.
 //!
-//! `command` makes the text of a view: `judge` has the verdict on a history of any version, and `read` is what all views read. `subject` is
+//! `command` makes the text of a view: `judge` has the verdict on a history of any version, `numbers` its numbers, and `read` is what all
+//! views read. `subject` is
 //! what is said of a refusal. The caller has read the input, and writes the output.
 #![tactic(auto)]
 
 mod command;
 mod judge;
+mod numbers;
 mod read;
 mod subject;
 

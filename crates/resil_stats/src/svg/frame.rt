@@ -241,7 +241,9 @@ fn write_ticks(draft: &mut Draft, page: &Page) {
     };
     let mut room = Pixels(0);
     for count in 0..10 {
-        let after = step.saturating_mul(count);
+        let Some(after) = step.checked_mul(count) else {
+            return;
+        };
         if period.length() == 0 || after > period.length() {
             return;
         }

@@ -15,7 +15,7 @@ returns c =
     let counted = c.in_ok-stats.ensures in
     record {
       submitted = counted.counts.submissions;
-      refused = counted.counts.full;
+      refused = search (counted.counts.full);
       waits = search rules;
       most_waiting = counted.most.waiting;
       most_workers = counted.most.workers;

@@ -1,23 +1,12 @@
 use Rattle.std.proofs.Common.{◌∷◌, [], ◌++◌}
-use Rattle.resil_stats.specs.Text.{callers_records, spans_records, verdict_fields}
-use Rattle.resil_stats.proofs.TextLaws.{after, at-end, joined}
+use Rattle.resil_stats.specs.Text.{callers_records, spans_records, total_records, verdict_fields, whole_records}
+use Rattle.resil_stats.proofs.TextLaws.{at-end, joined}
 use Rattle.resil_stats.proofs.text.push_numbers.Goals as goal
 
 pub returns : goal.returns
 returns c =
-    after c.in_ok-push_total.ensures
-    (after c.in_ok-push_total-2.ensures
-    (after c.in_ok-push_total-3.ensures
-    (after c.in_ok-push_total-4.ensures
-    (after c.in_ok-push_total-5.ensures
-    (after c.in_ok-push_total-6.ensures
-    (after c.in_ok-push_total-7.ensures
-    (after c.in_ok-push_total-8.ensures
-    (after c.in_ok-push_total-9.ensures
-    (after c.in_ok-push_total-10.ensures
-    (after c.in_ok-push_total-11.ensures
-    (after c.in_ok-push_total-12.ensures
-    (after c.in_ok-push_total-13.ensures
-    (after c.in_ok-push_total-14.ensures
-    (joined (spans_records c.args.spans) (callers_records c.args.stats.now.callers.entries ++ verdict_fields c.args.stats.now.verdict ∷ []) c.in_ok-push_spans.ensures
-    (at-end (callers_records c.args.stats.now.callers.entries) (verdict_fields c.args.stats.now.verdict) c.in_ok-push_callers.ensures c.in_ok-push_verdict.ensures)))))))))))))))
+    let stats = c.args.stats.now in
+    joined (total_records stats) (whole_records stats c.args.is_whole ++ (spans_records c.args.spans ++ (callers_records stats.callers.entries ++ verdict_fields stats.verdict ∷ []))) c.in_ok-push_totals.ensures
+    (joined (whole_records stats c.args.is_whole) (spans_records c.args.spans ++ (callers_records stats.callers.entries ++ verdict_fields stats.verdict ∷ [])) c.in_ok-push_whole.ensures
+    (joined (spans_records c.args.spans) (callers_records stats.callers.entries ++ verdict_fields stats.verdict ∷ []) c.in_ok-push_spans.ensures
+    (at-end (callers_records stats.callers.entries) (verdict_fields stats.verdict) c.in_ok-push_callers.ensures c.in_ok-push_verdict.ensures)))

@@ -11,4 +11,6 @@ returns c =
     (after c.in_ok-push_span-3.ensures
     (after c.in_ok-push_span-4.ensures
     (after c.in_ok-push_span-5.ensures
-    (alone (span_fields (codes "run_most") c.in-Some.spans.runs.most) c.in_ok-push_span-6.ensures))))))
+    (after c.in_ok-push_span-6.ensures
+    (after c.in_ok-push_span-7.ensures
+    (alone (span_fields (codes "wake_p99") c.in-Some.spans.wakes.p99) c.in_ok-push_span-8.ensures))))))))
