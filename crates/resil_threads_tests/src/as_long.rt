@@ -87,16 +87,14 @@ fn waits_end_by_their_time(rt: HostRuntime) -> Result<(), AdmitError> {
     Ok(())
 }
 
-/// The milliseconds until the pool has one worker, ten thousand at most.
-fn time_of_the_second<R: Abort + Clock + Wait>(rt: &R, pool: &WorkPool<Meeting>) -> Duration {
-    let start = Instant::now(rt).expect(rt, "a clock");
+/// Waits until the pool has one worker, for ten thousand looks at most.
+fn wait_for_one_worker<R: Clock + Wait>(rt: &R, pool: &WorkPool<Meeting>) {
     for _ in 0..10_000 {
         if pool.numbers(rt).workers < 2 {
             break;
         }
         thread::sleep(rt, Duration::from_millis(1));
     }
-    start.elapsed(rt).expect(rt, "a clock")
 }
 
 /// Three works, for a core worker, the queue and an extra worker, meet and end. The extra worker then looks twelve times in vain, and
@@ -107,13 +105,15 @@ fn let_one_end<R: Abort + Clock + Wait>(
     pool: &WorkPool<Meeting>,
     came: &Arc<AtomicU32>,
 ) {
+    let start = Instant::now(rt).expect(rt, "a clock");
     let one = submitted(rt, alloc, pool, came);
     let two = submitted(rt, alloc, pool, came);
     let three = submitted(rt, alloc, pool, came);
     for pending in [one, two, three] {
         assert_that(rt, matches!(pending.wait(rt), Ok(true)), "three that met");
     }
-    let took = time_of_the_second(rt, pool);
+    wait_for_one_worker(rt, pool);
+    let took = start.elapsed(rt).expect(rt, "a clock");
     assert_that(
         rt,
         took >= Duration::from_millis(200),
