@@ -4,7 +4,8 @@
    any time, and JOINS threads join at any time.
 
    A step is one access of a word beside the lock, or one hold of the lock; whoever asks for numbers or joins has the lock for as long
-   as he waits for answers. */
+   as he waits for answers. The workers here have one word. Of more than 64 places each 64 have a word of their own, and whoever has the
+   lock waits for one word and takes it after the other: an end that he knows of has begun in its word before he looks there. */
 
 #ifndef JOBS
 #define JOBS 1

@@ -542,7 +542,7 @@ proctype Submitter(byte me) {
             on_way++
         }
 #if RING > 0
-        /* `Entrance::submit` */
+        /* `Ring::submit` */
 take:   if
         :: atomic { granted > 0 ->
                 granted--;
@@ -566,6 +566,22 @@ take:   if
 #endif
         atomic {
             !locked;
+#if RING > 0
+            /* Others may have been granted places meanwhile. Nobody voids one, since this one has the lock. */
+            if
+            :: granted > 0 ->
+                granted--;
+                owner[(head + used) % RING] = me;
+                written[(head + used) % RING] = true;
+                used++;
+#ifdef WHO_WAITED_CALLS_NOBODY
+                goto submits
+#else
+                goto call_one
+#endif
+            :: else
+            fi;
+#endif
             end_grant();
             on_way--;
             if
