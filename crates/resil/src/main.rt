@@ -1,7 +1,7 @@
 //! The program `resil`: what a pool, a permit word or a chain of decorators makes of an input of
 //! rows, and whether a history is legal.
 //!
-//! It hands its words, its standard input and its standard output to `drive` of `resil_driver`.
+//! It passes its words, its standard input and its standard output to `drive` of `resil_driver`.
 #![tactic(auto)]
 
 mod said;

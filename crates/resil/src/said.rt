@@ -1,4 +1,4 @@
-//! What is said on standard error of the words of `resil`, and of an output by what its words request.
+//! What standard error says of the arguments of `resil`, and of an output, given what the arguments request.
 
 use resil_chain::subject::ChainSubject;
 use resil_driver::run::subject::RunSubject;
@@ -8,10 +8,10 @@ use resil_weave::subject::WeaveSubject;
 use resil_words::{Request, Single, UsageError, parse_args};
 use std::alloc::Global;
 
-// How many words are looked at.
+// The maximum number of arguments that are read.
 const MOST_WORDS: usize = 64;
 
-// How many of the words, from the first on, are together the longest that request something, or `None` when out of memory.
+// How many of the arguments, from the first on, form the longest valid request, or `None` if out of memory.
 fn accepted(alloc: Global, words: &[&str]) -> Option<usize> {
     let mut most = 0usize;
     for count in 2..words.len().min(MOST_WORDS) {
@@ -24,7 +24,7 @@ fn accepted(alloc: Global, words: &[&str]) -> Option<usize> {
     Some(most)
 }
 
-// Says on standard error which of the words is refused, where they are.
+// Reports on standard error which argument is refused, or nothing if out of memory.
 fn explain_words<R: Eprint>(rt: &R, alloc: Global, words: &[&str]) {
     let Some(most) = accepted(alloc, words) else {
         return;
@@ -34,12 +34,12 @@ fn explain_words<R: Eprint>(rt: &R, alloc: Global, words: &[&str]) {
         return say_commands(rt, words.get(1), commands);
     }
     let allowed =
-        "run takes --hold and --callers N, N from 1 to 64; the other commands take no more words";
+        "run takes --hold and --callers N, where N is from 1 to 64; the other commands take no arguments";
     say_words(rt, words.get(most), allowed);
 }
 
-/// Says on standard error what the status and the first line of an output of `resil` mean for its words and its input, where it
-/// refuses something.
+/// Reports on standard error what the status and the first line of an output of `resil` mean for its arguments and its input, if
+/// it refuses something.
 pub(crate) fn explain_command<R: Eprint + AllocGlobal>(
     rt: &R,
     words: &[&str],

@@ -3,6 +3,7 @@ use Rattle.std.specs.Prelude.{IfNone}
 use Rattle.std.proofs.Common.{inl, inr, ◌⊎◌, Bool, cond, ◌≡◌, ◌<◌, ◌≤◌, ◌+◌, ◌-◌, ◌∷◌, [], ◌++◌, ◌∙◌, ℕ, suc, true, false, List, Option, Some, None, length, drop, take, slice_get, refl, sym, ap, subst, arith, append-nil, length-append}
 use Rattle.std.proofs.lemmas.List.{map-append}
 use Rattle.resil_admission.specs.Words.{PlanView, is_among, is_same_id, times, taken, unfinished, started, accepted, waiting, running, workers, started_id, accepted_id, IsAllowed, AllView, ids_out, IsStateOf, Slot, Id, Reply, Core, Queued, Extra, Full, Closed, Event, Submit, Take, Accepted}
+use Rattle.resil_rule.specs.Limits.{AreLimits}
 use Rattle.resil_rule.specs.RuleView.{RuleView, ids_of as ids_waiting, busy, owed, is_acceptance, counted, with_submission, with_pick, with_take, with_finish}
 use Rattle.resil_rule.proofs.EventLaws.{front-is}
 use Rattle.resil_rule.proofs.ConservationLaws.{conserved, in_flight-accepted, times-cons}
@@ -18,14 +19,23 @@ use Rattle.resil_admission.specs.MachineInvariant.{MachineInvariant, times_unpic
 use Rattle.resil_admission.specs.JobsView.{JobsView}
 
 -- the machine after an event
-pub machine-after : (h : List Event) (e : Event) (rule : RuleView (Unit {0})) (all : AllView) (jobs : JobsView) → IsStateOf (h ++ e ∷ []) rule → all.events ≡ h ++ e ∷ [] → owed rule ≤ all.room
+pub machine-after : (h : List Event) (e : Event) (rule : RuleView (Unit {0})) (all : AllView) (jobs : JobsView) → AreLimits rule.limits → IsStateOf (h ++ e ∷ []) rule → all.events ≡ h ++ e ∷ [] → owed rule ≤ all.room
     → ids_of jobs.jobs ≡ accepted (h ++ e ∷ []) → ((id : Id) → 1 ≤ times_unpicked rule id → unpicked_in jobs.kept id ≡ true) → MachineInvariant (record { rule = rule; history = all; jobs = jobs })
-machine-after h e rule all jobs state events room ids unpicked = record {
+machine-after h e rule all jobs limits state events room ids unpicked = record {
+  limits = limits;
   state = subst (λ (history : List Event). IsStateOf history rule) (sym events) state;
   room = room;
   accepted = ids ∙ ap accepted (sym events);
   unpicked = unpicked;
 }
+
+-- a submission leaves the limits
+pub started-within : {W : Type 0} (v : RuleView W) (id : Id) (work : W) (reply : Reply) → AreLimits v.limits → AreLimits (with_submission v id work reply).limits
+started-within v id work Core are = are
+started-within v id work Queued are = are
+started-within v id work Extra are = are
+started-within v id work Full are = are
+started-within v id work Closed are = are
 
 module _ {W : Type 0} where
   -- after a submission, those that weren't picked are those before and the one that was accepted

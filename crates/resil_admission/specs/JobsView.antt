@@ -4,8 +4,8 @@ use Rattle.resil_admission.specs.Words.{Id, Accepted, Place}
 use Rattle.resil_admission.specs.KeptJob.{KeptView}
 use Rattle.resil_admission.specs.SubmissionTable.{row_at}
 
--- the jobs in order of acceptance, the same with which of them weren't picked yet, the table of their places, and for how many more of
--- them, and of their results, there is room
+-- the jobs in order of acceptance, the same with a mark on those that haven't been picked yet, the table of their places, and for how
+-- many more of them, and of their results, there is room
 pub record JobsView : Type 0 where
   pub jobs : List Accepted
   pub kept : List KeptView

@@ -6,7 +6,7 @@ use Rattle.resil_rule.specs.declared.error.AdmitError.TheVariants as refused
 use Rattle.resil_rule.specs.declared.event.Event.TheVariants as event
 
 -- the limits, the history, how many of the jobs with a worker of their own were picked (the oldest ones), and each accepted
--- job with its plan, and with its run where it has one, in order of acceptance
+-- job with its plan, and with its run if it has one, in order of acceptance
 pub record MachineView : Type 0 where
   pub limits : Sizes
   pub history : List Event
@@ -25,7 +25,7 @@ plan_of jobs id = option_map (λ job. job.plan) (find (λ job. is_same_id id job
 abbrev pub with_event : MachineView → Event → MachineView
 with_event m event = record m { history = m.history ++ event ∷ [] }
 
--- a job that was just submitted, where it was accepted
+-- a job that was just submitted, if it was accepted
 abbrev pub newly_accepted : Id → Reply → PlanView → List Accepted
 newly_accepted id Core plan = record { id = id; plan = plan; run = None } ∷ []
 newly_accepted id Queued plan = record { id = id; plan = plan; run = None } ∷ []
@@ -33,28 +33,28 @@ newly_accepted id Extra plan = record { id = id; plan = plan; run = None } ∷ [
 newly_accepted id Full plan = []
 newly_accepted id Closed plan = []
 
--- the machine after a submission: its event is written, and an accepted job is kept with its plan
+-- the machine after a submission: the event is written, and an accepted job is kept with its plan
 abbrev pub with_submission : MachineView → Id → Reply → PlanView → MachineView
 with_submission m id reply plan = record m {
   history = m.history ++ event.Submit id reply ∷ [];
   jobs = m.jobs ++ newly_accepted id reply plan;
 }
 
--- the jobs, where the one of this id has this run
+-- the jobs, with this run for the one of this id
 abbrev pub with_run : List Accepted → Id → RunView → List Accepted
 with_run [] id run = []
 with_run (job ∷ jobs) id run = if is_same_id id job.id then record job { run = Some run } ∷ jobs else job ∷ with_run jobs id run
 
--- the machine after the end of a run: its event is written, and the run is kept
+-- the machine after the end of a run: the event is written, and the run is kept
 abbrev pub with_finish : MachineView → Id → RunView → MachineView
 with_finish m id run = record m { history = m.history ++ event.Finish id ∷ []; jobs = with_run m.jobs id run }
 
--- the oldest job with a worker of its own that wasn't picked yet
+-- the oldest job with a worker of its own that hasn't been picked yet
 abbrev pub next_started : MachineView → Option Id
 next_started m = slice_get (started m.history) m.picked
 
--- A job was picked: the oldest one with a worker of its own that wasn't picked yet, without an event; where there is none, the
--- one that may be taken from the front of the queue.
+-- A job was picked: the oldest one with a worker of its own that hasn't been picked yet, without an event; if there is none,
+-- the one that may be taken from the front of the queue.
 abbrev pub IsPicked : MachineView → Id → MachineView → Type 0
 IsPicked m id after =
     ((next_started m ≡ Some id) × (after ≡ record m { picked = m.picked + 1 }))
@@ -74,7 +74,7 @@ IsSubmitRefusal m id refused.WrongNumber = id.number ≢ next_number m.history i
 IsSubmitRefusal m id refused.Memory = id.number ≡ next_number m.history id.caller
 IsSubmitRefusal m id _ = ⊥
 
--- why the end of a run is refused: no job of that id is out, or one is, and another plan was submitted under its id
+-- why the end of a run is refused: no job of that id is out, or one is, but another plan was submitted under its id
 abbrev pub IsFinishRefusal : MachineView → Id → PlanView → AdmitError → Type 0
 IsFinishRefusal m id plan refused.NotOut = is_among id (jobs_in_flight m) ≡ false
 IsFinishRefusal m id plan refused.OtherJob =

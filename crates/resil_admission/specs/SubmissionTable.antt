@@ -1,8 +1,8 @@
--- What the table of submissions says of a job: a row for each caller, and in it the submission of number n at n - 1.
+-- What the table of submissions says of a job: it has a row for each caller, with the submission of number n at n - 1.
 use Rattle.std.specs.Prelude.{ℕ, zero, suc, ◌∷◌, [], List, Option, None, Some, slice_index_or}
 use Rattle.resil_admission.specs.Words.{Id, Place}
 
--- the index that a place has, which stands before its number; none before 0
+-- the index that a place stands for, which is one less than its number; none for 0
 abbrev pub index_before : ℕ → Option ℕ
 index_before zero = None
 index_before (suc index) = Some index
@@ -10,7 +10,7 @@ index_before (suc index) = Some index
 abbrev pub no_place : Place
 no_place = record { behind = 0 }
 
--- a caller's submissions; a caller without a row has none there
+-- a caller's submissions; none for a caller without a row
 abbrev pub row_at : List (List Place) → ℕ → List Place
 row_at rows caller = slice_index_or rows caller []
 

@@ -1,4 +1,4 @@
--- The words of other crates and the types of this one that the definitions and laws here speak of, from one place.
+-- The names from other crates, and the types of this one, that the definitions and laws here use, in one place.
 pub use Rattle.resil_decor.specs.Plan.{PlanView}
 pub use Rattle.resil_decor.specs.Run.{RunView, IsValue}
 pub use Rattle.resil_rule.specs.Admission.{IsAllowed}

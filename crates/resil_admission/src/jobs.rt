@@ -1,12 +1,12 @@
-//! The accepted jobs of a pool: each with its plan, and with its run where it has one.
+//! The accepted jobs of a pool: each with its plan, and with its run if it has one.
 //!
-//! A job is here until it is picked, and its plan stays. Jobs stay in order of acceptance, so that a run
-//! can be compared with the plan that was submitted, and the results stand in that order. The results of
-//! the oldest jobs, none of them after a job that isn't finished, are rows, which are handed out as they
-//! are. The later jobs wait in a queue for their rows, and the room that they had there is used again. A
-//! table tells by the id of a job where it stands, so a job is never searched for. So a pool that runs
-//! for long has one row a job, one entry a submission in the table, and little more. The room for the
-//! rows is reserved with the jobs, so they are given out without asking for memory.
+//! A job is here until it is picked, and its plan stays. Jobs stay in order of acceptance, so that a run can
+//! be compared with the plan that was submitted, and the results are in that order. The results of the
+//! oldest jobs, up to the first one that isn't finished, are rows, returned later as they are. The later
+//! jobs wait in a queue for their rows, and the room that they had there is reused. A table maps the id of a
+//! job to its place, so a job is never searched for. So a pool that runs for a long time has one row for
+//! each job, one table entry for each submission, and little more. The room for the rows is reserved
+//! together with the jobs, so returning them doesn't allocate.
 
 ghost use Rattle.std.specs.Prelude.{◌≡◌, ◌↔◌, ◌⊎◌, ◌<◌, ◌≤◌, true, false, ◌++◌, ◌∷◌, [], None, Some, option_map, slice_get, position, IsTrue, IsSome, IsOk, IfOk, IfErr, IfSome, OnOk, OnErr};
 ghost use Rattle.std.specs.List.{list_all};
@@ -26,8 +26,7 @@ use std::alloc::{AllocError, Global};
 use std::collections::VecDeque;
 use std::marker::Model;
 
-/// An accepted job: its submission, its plan, and its run where it has one. Contracts speak of it; no
-/// call gives one out.
+/// An accepted job: its submission, its plan, and its run if it has one. Contracts mention it; no call returns one.
 #[derive(Drop)]
 pub struct Accepted {
     pub(crate) id: Id,
@@ -42,7 +41,7 @@ pub(crate) struct Jobs {
     rows: Vec<Row>,
     /// The jobs after them, oldest first.
     later: VecDeque<KeptJob>,
-    /// Where each job stands, by its id.
+    /// The place of each job, by its id.
     places: SubmissionTable,
 }
 
@@ -66,7 +65,7 @@ impl Model for Jobs {
 }
 
 impl Jobs {
-    // No jobs yet. It asks for no memory.
+    // No jobs yet. It doesn't allocate.
     pub(crate) fn new(alloc: Global) -> Jobs
         ensures { result.jobs ≡ [] }
     {
@@ -77,7 +76,7 @@ impl Jobs {
         }
     }
 
-    // Makes a place for a submission's job in the table. Errors: memory.
+    // Makes a place for a submission's job in the table. Errors: out of memory.
     pub(crate) fn reserve_place(&mut self, id: Id) -> Result<(), AllocError>
         ensures has { OnOk result (HasPlace self.new id) }
         ensures jobs { self.new.jobs ≡ self.old.jobs }
@@ -86,7 +85,7 @@ impl Jobs {
         self.places.reserve(id)
     }
 
-    // Makes room for one more job and its result. Errors: memory.
+    // Makes room for one more job and its result. Errors: out of memory.
     pub(crate) fn reserve(&mut self) -> Result<(), AllocError>
         ensures room { OnOk result ((0 < self.new.room) × (0 < self.new.result_room)) }
         ensures jobs { self.new.jobs ≡ self.old.jobs }
@@ -97,7 +96,7 @@ impl Jobs {
         self.later.reserve(1)
     }
 
-    // Keeps one more job, of this plan, which wasn't picked yet.
+    // Keeps one more job, of this plan, which hasn't been picked yet.
     pub(crate) fn push(&mut self, id: Id, job: Job, plan: SharedPlan)
         requires plan { job ≡ plan }
         requires room { (0 < self.old.room) × (0 < self.old.result_room) }
@@ -112,7 +111,7 @@ impl Jobs {
         self.later.push_back_reserved(KeptJob::new(id, job, plan));
     }
 
-    // Hands out the job of an id that wasn't picked yet.
+    // Returns the job of an id that hasn't been picked yet.
     pub(crate) fn pick(&mut self, id: Id) -> Option<Job>
         ensures some { unpicked_in self.old.kept id ≡ true → IsSome result }
         ensures plan { IfSome result (λ job. plan_of self.old.jobs id ≡ Some job) }
@@ -142,8 +141,8 @@ impl Jobs {
         }
     }
 
-    // Keeps the run of the job at an index, from 0, which is the job of this id, and makes rows of at
-    // most two jobs that are finished.
+    // Keeps the run of the job at an index, from 0, which is the job of this id, and makes rows of at most
+    // two finished jobs.
     pub(crate) fn record_run(&mut self, index: usize, id: Id, run: Run)
         requires index { position (is_same_id id) (ids_of self.old.jobs) ≡ Some index }
         requires plan { plan_of self.old.jobs id ≡ Some run.plan }
@@ -172,7 +171,7 @@ impl Jobs {
         }
     }
 
-    // Makes the row of the oldest job without one, where it is finished.
+    // Makes the row of the oldest job without one, if that job is finished.
     fn make_row(&mut self)
         ensures jobs { self.new.jobs ≡ self.old.jobs }
         ensures unpicked { (other : IdOf) → unpicked_in self.new.kept other ≡ unpicked_in self.old.kept other }
@@ -196,7 +195,7 @@ impl Jobs {
         all_finished(&self.later)
     }
 
-    // The results of all jobs, in order of acceptance, or all handed back where a job has none.
+    // The results of all jobs, in order of acceptance, or all jobs again if one has no result.
     pub(crate) fn into_rows(self) -> Result<Vec<Row>, Jobs>
         ensures done { IsOk result ↔ AllDone self.jobs }
         ensures results { IfOk result (λ rows. AreResultsOf self.jobs rows.items) }
@@ -217,7 +216,7 @@ impl Jobs {
     }
 }
 
-// Gives a row another run.
+// Replaces the run of a row.
 fn set_run(row: &mut Row, run: Run)
     ensures { row.new ≡ record row.old { run = run } }
 {

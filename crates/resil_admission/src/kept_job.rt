@@ -1,7 +1,7 @@
 //! An accepted job that is kept until its row is made.
 //!
-//! Until it is picked the job itself is here. It has its plan until it is finished, and then its run, which
-//! has that plan too.
+//! Until it is picked, the job itself is here. It has its plan until it is finished, and then its run,
+//! which has that plan too.
 
 ghost use Rattle.std.specs.Prelude.{◌≡◌, ◌++◌, None, Some, true, false, vec_len, vec_capacity, ◌<◌, ◌≤◌, ◌+◌, IsTrue, if◌then◌else◌};
 ghost use Rattle.std.specs.Option.{is_some};
@@ -11,16 +11,16 @@ use super::{Id, Row};
 use resil_decor::{Job, Plan, Run, SharedPlan};
 use std::marker::Model;
 
-/// How far a job is.
+/// The progress of a job.
 #[derive(Drop)]
 pub(crate) enum Progress {
-    /// Its run hasn't ended: the job, where it wasn't picked yet, and its plan, which both share.
+    /// Its run hasn't ended: the job, if it hasn't been picked yet, and its plan, which both share.
     Unfinished { job: Option<Job>, plan: SharedPlan },
     /// Its run, which has its plan.
     Finished(Run),
 }
 
-/// An accepted job: its submission, and how far it is.
+/// An accepted job: its submission and its progress.
 #[derive(Drop)]
 pub(crate) struct KeptJob {
     id: Id,
@@ -38,7 +38,7 @@ impl Model for KeptJob {
 }
 
 impl KeptJob {
-    // A job that wasn't picked yet, of this plan.
+    // A job of this plan that hasn't been picked yet.
     pub(crate) fn new(id: Id, job: Job, plan: SharedPlan) -> KeptJob
         requires { job ≡ plan }
         ensures { result ≡ record { job = record { id = id; plan = plan; run = None }; unpicked = true } }
@@ -52,7 +52,7 @@ impl KeptJob {
         }
     }
 
-    // Hands the job out, where it wasn't picked yet.
+    // Returns the job, if it hasn't been picked yet.
     pub(crate) fn pick(&mut self) -> Option<Job>
         ensures job { result ≡ (if self.old.unpicked then Some self.old.job.plan else None) }
         ensures picked { self.new ≡ record self.old { unpicked = false } }
@@ -81,14 +81,14 @@ impl KeptJob {
         matches!(self.progress, Progress::Finished(_))
     }
 
-    // Gives it its run, and the plan of that.
+    // Gives it its run, and with it the run's plan.
     pub(crate) fn finish(&mut self, run: Run)
         ensures { self.new ≡ record { job = record self.old.job { plan = run.plan; run = Some run }; unpicked = false } }
     {
         self.progress = Progress::Finished(run);
     }
 
-    // Puts its row at the end, where it has its run.
+    // Appends its row, if it has its run.
     pub(crate) fn push_row(self, rows: &mut Vec<Row>)
         requires { vec_len rows.old < vec_capacity rows.old }
         ensures row { rows.new.items ≡ rows.old.items ++ result_row self.job }

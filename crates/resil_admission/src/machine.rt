@@ -1,10 +1,9 @@
 //! The sequential pool: the rule of admission with its history and its jobs.
 //!
-//! A machine keeps the rule's state, all events, and each accepted job with its plan and its run. What
-//! the rule does stands in `Rule` alone; here its events are written, and the plans and the runs are
-//! kept. No call looks through the history, and only `into_parts` through the jobs. Memory is asked for by
-//! `new`, `submit` and `resize` alone, and by the last two before a job or an event is added: an accepted
-//! job has room for its take, its finish, the end of its worker and its result.
+//! A machine keeps the rule's state, all events, and each accepted job with its plan and its run. `Rule` alone decides what happens;
+//! here the events are written, and the plans and runs are kept. No call goes through the history, and only `into_parts` goes through
+//! the jobs. Only `new`, `submit` and `resize` allocate, and the last two do so before a job or an event is added: an accepted job has
+//! room for its take, its finish, the end of its worker and its result.
 
 ghost use Rattle.std.specs.Prelude.{◌≡◌, ◌↔◌, ◌≤◌, ◌<◌, ◌+◌, [], ℕ, length, Some, true, false, IsTrue, IsOk, IfOk, IfErr, IfSome, OnOk, OnErr, IfNone};
 ghost use Rattle.std.specs.Bool.{OnTrue, OnFalse};
@@ -35,12 +34,11 @@ use std::marker::Model;
 /// ```
 #[derive(Drop)]
 pub struct Machine {
-    /// The rule, over ids alone: the ring of those that wait has the capacity of the queue.
+    /// The rule, over ids alone. The ring of waiting ids has the capacity of the queue.
     rule: Rule<()>,
     /// All events so far, with room for those that may follow without another submission or resize.
     history: AllEvents,
-    /// Each accepted job in order of acceptance: itself until it is picked, its plan, and its run once it is
-    /// finished.
+    /// Each accepted job in order of acceptance: itself until it is picked, its plan, and its run once it is finished.
     jobs: Jobs,
 }
 
@@ -59,11 +57,11 @@ impl Model for Machine {
 }
 
 impl Machine {
-    /// An open pool of these limits without workers or jobs.
+    /// Makes an open pool of these limits without workers or jobs.
     ///
     /// # Errors
     ///
-    /// `Memory` when out of memory.
+    /// `Memory` if out of memory.
     pub fn new(alloc: Global, limits: Limits) -> Result<Machine, AdmitError>
         ensures empty { IfOk result (λ m. m ≡ record { limits = limits; history = []; picked = 0; jobs = [] }) }
         ensures memory { IfErr result (λ e. e ≡ AdmitError.Memory) }
@@ -71,22 +69,21 @@ impl Machine {
         let mut history = AllEvents::new(alloc);
         history.reserve(1)?;
         Ok(Machine {
-            rule: Rule::new(alloc, limits, 0)?,
+            rule: Rule::new(alloc, limits.into(), 0)?,
             history,
             jobs: Jobs::new(alloc),
         })
     }
 
-    /// Submits a job under its caller's next number, and answers by the rule of admission (`Rule::next_reply`;
-    /// ThreadPoolExecutor class documentation). By `Core` and `Extra` the job gets a new worker, by `Queued` it
-    /// waits in the queue, by `Full` and `Closed` it is dropped. An accepted job is kept until it is picked, and
-    /// its plan, which both share, until its run comes, which has that plan too. Each answer is an event of the
-    /// history.
+    /// Submits a job under its caller's next number, and replies by the rule of admission (`Rule::next_reply`; ThreadPoolExecutor
+    /// class documentation). On `Core` and `Extra` the job gets a new worker, on `Queued` it waits in the queue, on `Full` and
+    /// `Closed` it is dropped. An accepted job is kept until it is picked. Its plan, which both share, is kept until its run comes,
+    /// which has that plan too. Each reply is an event of the history.
     ///
     /// # Errors
     ///
-    /// In this order, with the job handed back and nothing changed: `WrongNumber` where the number isn't one
-    /// more than the caller's submissions so far; `Memory` when out of memory.
+    /// In this order, with the job returned and nothing changed: `WrongNumber` if the number isn't one more than the caller's
+    /// submissions so far; `Memory` if out of memory.
     ///
     /// ```
     /// let mut machine = Machine::new(alloc, Limits::new(1, 2, 1)?)?;
@@ -125,9 +122,8 @@ impl Machine {
         Ok(reply)
     }
 
-    /// The oldest job with a worker of its own that wasn't picked yet; where there is none, and
-    /// fewer jobs run than there are workers, the job at the front of the queue, which is taken. Only a
-    /// take is an event of the history.
+    /// Returns the oldest job with a worker of its own that hasn't been picked yet. If there is none, and fewer jobs run than there
+    /// are workers, it takes the job at the front of the queue. Only a take is an event of the history.
     pub fn pick(&mut self) -> Option<(Id, Job)>
         ensures picked { IfSome result (λ p. IsPicked self.old p.0 self.new) }
         ensures plan { IfSome result (λ p. plan_of self.old.jobs p.0 ≡ Some p.1) }
@@ -135,7 +131,7 @@ impl Machine {
         ensures unchanged { IfNone result (self.new ≡ self.old) }
     {
         let Picked { slot, origin, .. } = self.rule.pick()?;
-        // A job that the rule gives wasn't picked before, and so it is kept.
+        // A job that the rule returns wasn't picked before, so it is kept here.
         let job = self.jobs.pick(slot.id).unwrap();
         match origin {
             Origin::OwnStart => Some((slot.id, job)),
@@ -146,7 +142,7 @@ impl Machine {
         }
     }
 
-    /// Whether there is a job to pick: whether `pick` would give one.
+    /// Returns whether there is a job to pick: whether `pick` would return one.
     pub fn can_pick(&self) -> bool
         ensures some { OnTrue result (HasOneToPick self.now) }
         ensures none { OnFalse result (HasNoneToPick self.now) }
@@ -161,8 +157,8 @@ impl Machine {
     ///
     /// # Errors
     ///
-    /// In this order, with the run handed back and nothing changed: `NotOut` where no job that was picked and
-    /// isn't finished has that id; `OtherJob` where the run is of another plan than the one submitted under it.
+    /// In this order, with the run returned and nothing changed: `NotOut` if no job that was picked and isn't finished has that id;
+    /// `OtherJob` if the run is of another plan than the one submitted under it.
     ///
     /// ```
     /// match machine.finish(id, run) {
@@ -187,12 +183,12 @@ impl Machine {
         self.finish_picked(id, run)
     }
 
-    /// Ends the run of a job that is out, as `finish` does, for whoever knows that the run is of the plan that was submitted under the
-    /// id, as of a job that was picked here: so no plan is compared, however long its lists are.
+    /// Ends the run of a job that is out, like `finish`, if the caller knows that the run is of the plan submitted under the id, as it
+    /// is for a job picked here: so no plans are compared, however long their lists are.
     ///
     /// # Errors
     ///
-    /// `NotOut` where no job that was picked and isn't finished has that id; the run is handed back, and nothing changed.
+    /// `NotOut` if no job that was picked and isn't finished has that id; the run is returned, and nothing changed.
     ///
     /// ```
     /// if let Some((id, job)) = machine.pick() {
@@ -211,11 +207,11 @@ impl Machine {
         let Some(slot) = self.rule.find(id) else {
             return Err((AdmitError::NotOut, run));
         };
-        // A job that is out was accepted, and so it is kept.
+        // A job that is out was accepted, so it is kept here.
         let Some(index) = self.jobs.index_of(id) else {
             unreachable!()
         };
-        // For the proof alone, which has it from the run that its value is one of its plan.
+        // For the proof alone: the run says that its value is a value of its plan.
         let _plan = run.plan();
         self.rule.finish(slot);
         self.history.write(Event::Finish(id));
@@ -223,19 +219,18 @@ impl Machine {
         Ok(())
     }
 
-    /// Sets the core size and the greatest size, in workers, from here on (`setCorePoolSize` and
-    /// `setMaximumPoolSize` of ThreadPoolExecutor, both at once; that it is an event of the history is
-    /// our own). It is written also where the sizes stay the same, and where the pool is closed.
+    /// Sets the core size and the maximum size, in workers, from here on (`setCorePoolSize` and `setMaximumPoolSize` of
+    /// ThreadPoolExecutor, both at once; making it an event of the history is our own). It is written even if the sizes stay the same,
+    /// and even if the pool is closed.
     ///
-    /// No worker begins or ends by it: a worker begins with a submission, and one above the core size
-    /// goes by `idle_end`. So there may be more workers than the greatest size, but never more than the
-    /// greatest size at making. The capacity of the queue stays, as do all jobs.
+    /// A resize begins and ends no worker: a worker begins with a submission, and a worker above the core size ends by `idle_end`. So
+    /// there may be more workers than the maximum size, but never more than the maximum size that the pool was made with. The capacity
+    /// of the queue stays, and so do all jobs.
     ///
     /// # Errors
     ///
-    /// In this order, with nothing changed: `CoreOutOfRange` where the core size isn't from 1 to
-    /// `Limits::MAX_WORKERS`; `MaxOutOfRange` where the greatest size is below the core size, or above that of
-    /// the limits at making; `Memory` when out of memory.
+    /// In this order, with nothing changed: `CoreOutOfRange` if the core size isn't from 1 to `Limits::MAX_WORKERS`; `MaxOutOfRange`
+    /// if the maximum size is below the core size, or above the one that the pool was made with; `Memory` if out of memory.
     ///
     /// ```
     /// let mut machine = Machine::new(alloc, Limits::new(1, 4, 100)?)?;
@@ -254,8 +249,8 @@ impl Machine {
         Ok(())
     }
 
-    /// Ends an idle worker, and says whether it did: only where nothing waits, fewer jobs run than
-    /// there are workers, and there are more workers than the core size or the pool is closed.
+    /// Ends an idle worker, and returns whether it did: only if nothing waits, fewer jobs run than there are workers, and there are
+    /// more workers than the core size or the pool is closed.
     pub fn idle_end(&mut self) -> bool
         ensures ends { IsTrue result ↔ IsAllowed self.old.limits self.old.history Event.IdleEnd }
         ensures event { OnTrue result (self.new ≡ with_event self.old Event.IdleEnd) }
@@ -268,7 +263,7 @@ impl Machine {
         true
     }
 
-    /// Closes the pool, and says whether it was open. A closed pool stays as it is.
+    /// Closes the pool, and returns whether it was open. A closed pool stays as it is.
     pub fn close(&mut self) -> bool
         ensures closes { IsTrue result ↔ (is_closed self.old.history ≡ false) }
         ensures event { OnTrue result (self.new ≡ with_event self.old Event.Close) }
@@ -281,14 +276,14 @@ impl Machine {
         true
     }
 
-    /// Whether the pool is closed.
+    /// Returns whether the pool is closed.
     pub fn closed(&self) -> bool
         ensures { result ≡ is_closed self.now.history }
     {
         self.rule.closed()
     }
 
-    /// All events so far, oldest first. Between any two calls they are a legal history.
+    /// Returns all events so far, oldest first. Between any two calls they are a legal history.
     pub fn history(&self) -> &[Event]
         ensures events { result.now ≡ self.now.history }
         ensures legal { IsLegal self.now.limits self.now.history }
@@ -297,18 +292,18 @@ impl Machine {
         self.history.events()
     }
 
-    /// The limits at making.
+    /// Returns the limits that the pool was made with.
     pub fn limits(&self) -> Limits
         ensures { result ≡ self.now.limits }
     {
-        self.rule.limits()
+        Limits::of(self.rule.limits())
     }
 
-    /// The history, and the result of each accepted job, in order of acceptance.
+    /// Returns the history, and the result of each accepted job, in order of acceptance.
     ///
     /// # Errors
     ///
-    /// `NotDone` where an accepted job has no result; the machine is handed back.
+    /// `NotDone` if an accepted job has no result; the machine is returned.
     ///
     /// ```
     /// match machine.into_parts() {
@@ -344,15 +339,15 @@ impl Machine {
     }
 }
 
-// Whether an answer is one of the three that accept.
+// Whether a reply is one of the three that accept.
 fn is_acceptance(reply: Reply) -> bool
     ensures { result ≡ is_acceptance reply }
 {
     matches!(reply, Reply::Core | Reply::Queued | Reply::Extra)
 }
 
-// Makes room for the event of a submission, for those that may follow because of it, and for the place of
-// its job. Errors: memory. It adds neither a job nor an event.
+// Makes room for the event of a submission, for those that may follow because of it, and for the place of its job. Errors: out of
+// memory. It adds neither a job nor an event.
 fn make_room(
     rule: &mut Rule<()>,
     history: &mut AllEvents,
@@ -377,7 +372,7 @@ fn make_room(
     Ok(())
 }
 
-// Whether the run is of the plan that was submitted under the id.
+// Whether the run is of the plan submitted under the id.
 fn is_run_of(jobs: &Jobs, id: Id, run: &Run) -> bool
     ensures same { IsTrue result ↔ (plan_of jobs.now.jobs id ≡ Some run.now.plan) }
 {

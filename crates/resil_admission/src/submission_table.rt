@@ -1,8 +1,7 @@
 //! The place of each accepted job, by caller and number.
 //!
-//! A caller counts its submissions from 1. Each caller has a vector, and the submission of number n stands
-//! in it at n - 1: the index of its job among the accepted ones, or nothing where it was refused. So a job
-//! is found by two indices, and never by a search.
+//! A caller counts its submissions from 1. Each caller has a vector. At n - 1 it has, for the submission of number n, the index
+//! of its job among the accepted ones, or nothing if it was refused. So a job is found by two indices, never by a search.
 
 ghost use Rattle.std.specs.Prelude.{◌≡◌, ◌≤◌, ◌<◌, ◌+◌, [], Some, length, OnOk, if◌then◌else◌};
 ghost use Rattle.resil_rule.specs.declared.event.Id.{Id as IdOf};
@@ -13,7 +12,7 @@ use super::Id;
 use std::alloc::{AllocError, Global};
 use std::marker::Model;
 
-/// The index of a job, or none. It is one word, where an `Option<usize>` is two.
+/// The index of a job, or none. It is one word; an `Option<usize>` would be two.
 #[derive(Clone, Copy)]
 pub(crate) struct Place {
     /// One more than the index, or 0 for none.
@@ -61,7 +60,7 @@ impl Model for SubmissionTable {
 }
 
 impl SubmissionTable {
-    // A table without a job. It asks for no memory.
+    // A table without jobs. It doesn't allocate.
     pub(crate) fn new(alloc: Global) -> SubmissionTable
         ensures { result ≡ [] }
     {
@@ -80,7 +79,7 @@ impl SubmissionTable {
         row.get(index as usize)?.index()
     }
 
-    // Makes a place for the job of an id, and those before it. Errors: memory. The index that stands for each id stays.
+    // Makes a place for the job of an id, and those before it. Errors: out of memory. The index stored for each id stays.
     pub(crate) fn reserve(&mut self, id: Id) -> Result<(), AllocError>
         ensures has { OnOk result (id.number ≤ length (row_at self.new id.caller)) }
         ensures same { (other : IdOf) → place_at self.new other ≡ place_at self.old other }

@@ -1,4 +1,4 @@
-//! One's own works with an answer each, which is compared. A round may be judged: then the pool records all events, and
+//! Your own jobs with an answer each, which is compared. A round may be judged: then the pool records all events, and
 //! its history has to be legal.
 
 ghost use Rattle.std.specs.Prelude.{[]};
@@ -8,9 +8,8 @@ use crate::pool::{KEEP_ALIVE, QUEUE};
 use crate::round::Round;
 use crate::total::total;
 use anyhow::anyhow;
-use resil_admission::{Verdict, audit};
 use resil_executor::{Ended, ExecutorCloser, WorkPool, work_while};
-use resil_rule::{AllEvents, Limits, NoRecord, Record};
+use resil_rule::{AllEvents, NoRecord, Record, Sizes, Verdict, audit_by};
 use resil_task::by_hand::Task;
 use resil_task::{Answers, Pending, Work};
 use std::alloc::{AllocError, Global};
@@ -19,7 +18,7 @@ use std::sync::Wait;
 use std::thread;
 use std::thread::Threads;
 
-/// A work that answers its number.
+/// A job that answers its number.
 #[derive(Drop)]
 struct Echo(u64);
 
@@ -33,7 +32,7 @@ impl Work for Echo {
     }
 }
 
-// Submits the works of these numbers, and gives what their answers are waited for with.
+// Submits the jobs of these numbers, and returns the futures of their answers.
 fn submitted<H: Record, R: Wait>(
     rt: &R,
     alloc: Global,
@@ -50,7 +49,7 @@ fn submitted<H: Record, R: Wait>(
     Ok(all)
 }
 
-// How many of these answers are those of the works from this number on.
+// How many of these answers are those of the jobs from this number on.
 fn right_answers<R: Wait>(rt: &R, all: Vec<Pending<Echo>>, first: u64) -> u64 {
     let mut right: u64 = 0;
     let mut number = first;
@@ -63,7 +62,7 @@ fn right_answers<R: Wait>(rt: &R, all: Vec<Pending<Echo>>, first: u64) -> u64 {
     right
 }
 
-// The works of one caller, this many at a time: how many answers were right.
+// Runs the jobs of one caller, this many at a time, and returns how many answers were right.
 fn answers_of<H: Record, R: Wait>(
     rt: &R,
     alloc: Global,
@@ -86,8 +85,8 @@ fn answers_of<H: Record, R: Wait>(
     right
 }
 
-// Runs the works of the callers on an open pool, as many at a time as its queue has room for, each with a number of its
-// own. Answers how many answers were right.
+// Runs the jobs of the callers on an open pool, as many at a time as its queue has room for, each with a number of its
+// own. Returns how many answers were right.
 fn right_in_all<H: Record + Send, R: Threads + Wait + Sync>(
     rt: &R,
     alloc: Global,
@@ -116,7 +115,7 @@ fn right_in_all<H: Record + Send, R: Threads + Wait + Sync>(
     }
 }
 
-// Opens a pool with this record, and runs the works of the callers on it. Answers how many answers were right.
+// Opens a pool with this record, and runs the jobs of the callers on it. Returns how many answers were right.
 fn answered<H: Record + Send, R: Threads + Wait + Sync>(
     rt: &R,
     alloc: Global,
@@ -125,15 +124,15 @@ fn answered<H: Record + Send, R: Threads + Wait + Sync>(
 ) -> anyhow::Result<(WorkPool<Echo, H>, u64)>
     requires { H.IsRecordOf [] blank }
 {
-    let limits = Limits::new(round.workers, round.workers, QUEUE)?;
-    let (pool, closer) = WorkPool::open(alloc, limits, blank)?;
+    let sizes = Sizes::new(round.workers, round.workers, QUEUE)?;
+    let (pool, closer) = WorkPool::open(alloc, sizes, blank)?;
     match right_in_all(rt, alloc, &pool, closer, round) {
         Ok(right) => Ok((pool, right)),
         Err(error) => Err(error),
     }
 }
 
-/// Runs the works of the callers, and answers how many answers were right.
+/// Runs the jobs of the callers, and returns how many answers were right.
 pub(crate) fn run<R: Threads + Wait + Sync>(
     rt: &R,
     alloc: Global,
@@ -150,10 +149,10 @@ fn is_legal<R: Wait>(
     pool: &WorkPool<Echo, AllEvents>,
 ) -> anyhow::Result<bool> {
     let history = pool.history(rt, alloc, &mut pool.visitor())?;
-    Ok(audit(alloc, &pool.limits(), &history)? == Verdict::Legal)
+    Ok(audit_by(alloc, &pool.limits(), &history)? == Verdict::Legal)
 }
 
-/// The same with a record of all events, of which a legal history has to come.
+/// Like `run`, with a record of all events, which has to be a legal history.
 pub(crate) fn run_judged<R: Threads + Wait + Sync>(
     rt: &R,
     alloc: Global,

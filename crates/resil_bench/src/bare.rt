@@ -1,4 +1,4 @@
-//! The same pairs by a bare loop of load, exchange and add over one word, with nothing proved of it.
+//! The same pairs by a bare loop of load, exchange and add on one word, with nothing proved of it.
 
 ghost use Rattle.std.specs.Prelude.{◌≤◌};
 
@@ -10,7 +10,7 @@ use std::sync::atomic::{AtomicU64, Ordering};
 use std::thread;
 use std::thread::Threads;
 
-// Takes one off the word where it isn't 0.
+// Takes one off the word if it isn't 0.
 fn take<R: Wait>(rt: &R, word: &AtomicU64) -> bool {
     for _ in rt.forever() {
         let free = word.load(Ordering::SeqCst);
@@ -30,7 +30,7 @@ fn take<R: Wait>(rt: &R, word: &AtomicU64) -> bool {
     unreachable!()
 }
 
-// So many pairs by one thread. Answers how often one was taken.
+// This many pairs by one thread. Returns how often one was taken.
 fn pairs_of<R: Wait>(rt: &R, word: &AtomicU64, pairs: u32) -> u64
     ensures { result ≤ pairs }
 {
@@ -44,7 +44,7 @@ fn pairs_of<R: Wait>(rt: &R, word: &AtomicU64, pairs: u32) -> u64
     taken
 }
 
-/// Has each of this many threads do this many pairs, and answers how often one was taken.
+/// Has each of this many threads do this many pairs, and returns how often one was taken.
 pub(crate) fn run<R: Threads + Wait + Sync>(
     rt: &R,
     alloc: Global,

@@ -42,7 +42,7 @@ impl Submit for Submitter<'_> {
     }
 }
 
-// What the calling thread does while the workers work: it answers, and closes the pool.
+// What the calling thread does while the workers work: it answers the lines, and closes the pool.
 fn serve<R: Input + Print + AllocGlobal + Clock + Wait>(
     rt: &R,
     pool: &Pool,
@@ -132,8 +132,7 @@ fn serve_beside_workers<R: Input + Print + AllocGlobal + Clock + Threads + Wait 
     answered
 }
 
-/// Opens a pool of this many workers, answers the lines up to `close` while they work, and answers how many jobs have
-/// started.
+/// Opens a pool of this many workers, answers the lines up to `close` while they work, and returns how many jobs have started.
 pub(crate) fn run<R: Input + Print + AllocGlobal + Clock + Threads + Wait + Sync>(
     rt: &R,
     alloc: Global,

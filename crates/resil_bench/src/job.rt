@@ -1,4 +1,4 @@
-//! The job that all pools are given: no layers, and a call that answers a number at once.
+//! The job that all pools get: no layers, and a call that returns a number at once.
 
 use resil_decor::{Chain, Plan};
 use resil_retry::{Outcome, Script};

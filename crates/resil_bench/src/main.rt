@@ -1,19 +1,18 @@
-//! The work that is measured: pairs on permits and on a bare word, jobs of a pool, one's own works, and a pool that is
-//! idle.
+//! The work that is measured: pairs on permits and on a bare word, jobs of a pool, your own jobs, and a pool that is idle.
 //!
-//! Each line of standard input asks for a round, and the line that answers it says that the round is over, with what it
-//! counted. `bench/run` writes the lines, and takes the time and the processor time from outside; only a line `times` tells times.
+//! Each line of standard input requests a round, and the line that answers it says that the round is over, with what it counted. `bench/run` writes
+//! the lines, and measures the time and the processor time from outside; only a line `times` prints times.
 //!
 //! | Line | What is done |
 //! |---|---|
-//! | `permits THREADS PAIRS` | each thread takes and gives back a permit so often |
+//! | `permits THREADS PAIRS` | each thread takes and gives back a permit this often |
 //! | `bare THREADS PAIRS` | the same by a bare loop over one word |
 //! | `pool CALLERS WORKERS JOBS` | a pool of this many workers runs the jobs of the callers, none refused |
-//! | `works CALLERS WORKERS WORKS` | a pool for one's own works runs those of the callers, which do nothing |
-//! | `answers CALLERS WORKERS WORKS` | the same, with an answer for each work, which is compared |
+//! | `works CALLERS WORKERS WORKS` | a pool for your own jobs runs those of the callers, which do nothing |
+//! | `answers CALLERS WORKERS WORKS` | the same, with an answer for each job, which is compared |
 //! | `judged CALLERS WORKERS WORKS` | the same with a record of all events, which is judged at the end |
-//! | `own WORKERS` | as `open`, with a pool for one's own works; a line `jobs` is answered once 100,000 have started, a thousand at a time |
-//! | `open WORKERS` | a pool is open until the line `close`; a line `job` is answered once its job has started, and a line `echo` at once; `pairs` times 100 pairs of jobs, and `times` tells the times of all pairs so far |
+//! | `own WORKERS` | as `open`, with a pool for your own jobs; a line `jobs` is answered once 100,000 have started, a thousand at a time |
+//! | `open WORKERS` | a pool is open until the line `close`; a line `job` is answered once its job has started, and a line `echo` at once; `pairs` times 100 pairs of jobs, and `times` prints all times so far |
 #![tactic(auto)]
 
 mod answers;
@@ -37,7 +36,7 @@ use std::sync::Wait;
 use std::thread::Threads;
 use std::time::Clock;
 
-// The round that the next line asks for, and none at the end of input.
+// The round that the next line requests, or none at the end of input.
 fn next_round<R: Input>(rt: &R, line: &mut String) -> anyhow::Result<Option<Round>> {
     if rt.read_line(line)? == 0 {
         return Ok(None);
@@ -48,7 +47,7 @@ fn next_round<R: Input>(rt: &R, line: &mut String) -> anyhow::Result<Option<Roun
     }
 }
 
-// Does the work of a round, and answers what it counted.
+// Does the work of a round, and returns what it counted.
 fn counted<R: Input + Print + AllocGlobal + Clock + Threads + Wait + Sync>(
     rt: &R,
     round: Round,

@@ -6,18 +6,18 @@ use crate::tail::{PAIRS, Times};
 use std::sync::Wait;
 use std::time::Clock;
 
-// How many jobs are ahead of those that have started, for a line `jobs`, and how often this many are submitted.
+// How many jobs are submitted before their start is waited for, for a line `jobs`, and how often this is done.
 const AHEAD: u64 = 1_000;
 
 const PARTS: u64 = 100;
 
-/// What a pool is open by.
+/// What an open pool is submitted to by.
 pub(crate) trait Submit {
-    /// Submits a job that is among those that have started once it runs, and ends once this many have as are to.
+    /// Submits a job that counts as started once it runs, and ends once enough jobs have started.
     fn submit<R: Wait>(&mut self, rt: &R) -> anyhow::Result<()>;
 }
 
-// Submits this many jobs to a pool that has none, and waits for the start of the last.
+// Submits this many jobs to a pool that has none, and waits for the last one to start.
 fn start<P: Submit, R: Wait>(
     rt: &R,
     pool: &mut P,
@@ -44,7 +44,7 @@ fn start_by_parts<P: Submit, R: Wait>(
     Ok(())
 }
 
-// Two jobs many times, of which the first ends once the second has started, each pair timed.
+// Runs two jobs many times. The first ends once the second has started. Each pair is timed.
 fn time_pairs<P: Submit, R: Clock + Wait>(
     rt: &R,
     pool: &mut P,

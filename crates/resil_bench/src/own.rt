@@ -1,4 +1,4 @@
-//! A pool for one's own works that stays open.
+//! A pool for your own jobs that stays open.
 
 ghost use Rattle.resil_executor.specs.Seats.{IsOf};
 
@@ -8,14 +8,14 @@ use crate::started::Started;
 use anyhow::anyhow;
 use resil_executor::by_hand::Visitor;
 use resil_executor::{Ended, Executor, ExecutorCloser, work_while};
-use resil_rule::{Limits, NoRecord};
+use resil_rule::{NoRecord, Sizes};
 use resil_task::by_hand::Run;
 use std::alloc::Global;
 use std::sync::Wait;
 use std::thread::Threads;
 use std::time::Clock;
 
-/// A work that counts itself among those that have started, and ends once this many have as are to.
+/// A job that counts itself as started, and ends once enough jobs have started.
 #[derive(Drop)]
 struct Tick<'a>(&'a Started);
 
@@ -27,7 +27,7 @@ impl Run<()> for Tick<'_> {
     }
 }
 
-// Submits to a pool of such works.
+// Submits to a pool of such jobs.
 #[derive(Drop)]
 struct Submitter<'v, 'a> {
     pool: &'v Executor<Tick<'a>>,
@@ -72,16 +72,15 @@ fn serve<'a, R: Input + Print + AllocGlobal + Clock + Threads + Wait + Sync>(
     }
 }
 
-/// Opens a pool of this many workers, answers the lines up to `close` while they work, and answers how many works have
-/// started.
+/// Opens a pool of this many workers, answers the lines up to `close` while they work, and returns how many jobs have started.
 pub(crate) fn run<R: Input + Print + AllocGlobal + Clock + Threads + Wait + Sync>(
     rt: &R,
     alloc: Global,
     workers: u32,
 ) -> anyhow::Result<u64> {
     let started = Started::new();
-    let limits = Limits::new(workers, workers, QUEUE)?;
-    let (pool, closer) = Executor::open(alloc, limits, NoRecord)?;
+    let sizes = Sizes::new(workers, workers, QUEUE)?;
+    let (pool, closer) = Executor::open(alloc, sizes, NoRecord)?;
     match serve(rt, &pool, closer, &started) {
         Ok(()) => Ok(started.count()),
         Err(error) => Err(error),

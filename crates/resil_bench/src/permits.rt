@@ -10,7 +10,7 @@ use std::sync::Wait;
 use std::thread;
 use std::thread::Threads;
 
-// So many pairs by one thread. Answers how often a permit was taken.
+// This many pairs by one thread. Returns how often a permit was taken.
 fn pairs_of<R: Wait>(rt: &R, permits: &Permits, mut pass: Pass, pairs: u32) -> u64
     requires { pass.source ≡ permits.now }
     ensures { result ≤ pairs }
@@ -42,7 +42,7 @@ fn passes_of(
     Ok(passes)
 }
 
-// So many pairs by each of the threads that have these passes. Answers how often a permit was taken.
+// This many pairs by each of the threads that have these passes. Returns how often a permit was taken.
 fn pairs_of_all<R: Threads + Wait + Sync>(
     rt: &R,
     permits: &Permits,
@@ -61,7 +61,7 @@ fn pairs_of_all<R: Threads + Wait + Sync>(
     Ok(total(taken.as_slice()))
 }
 
-/// Has each of this many threads do this many pairs, and answers how often a permit was taken.
+/// Has each of this many threads do this many pairs, and returns how often a permit was taken.
 pub(crate) fn run<R: Threads + Wait + Sync>(
     rt: &R,
     alloc: Global,

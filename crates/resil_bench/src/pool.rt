@@ -10,10 +10,10 @@ use std::alloc::Global;
 use std::sync::Wait;
 use std::thread::Threads;
 
-/// After how many empty looks in a row a worker asks to end.
+/// A worker asks to end after this many empty polls in a row.
 pub(crate) const KEEP_ALIVE: u32 = 1000;
 
-/// The room of the queue.
+/// The capacity of the queue.
 pub(crate) const QUEUE: u32 = 65_536;
 
 // A row for each job, of the callers in turn.
@@ -30,7 +30,7 @@ fn rows_of(alloc: Global, callers: u16, jobs: u32) -> anyhow::Result<Vec<JobRow>
     Ok(rows)
 }
 
-/// Runs the jobs, and answers how many results the report has.
+/// Runs the jobs, and returns how many results the report has.
 pub(crate) fn run<R: Threads + Wait + Sync>(
     rt: &R,
     alloc: Global,

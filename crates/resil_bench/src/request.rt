@@ -1,8 +1,8 @@
-//! What a line asks of a pool that is open.
+//! What a line requests of an open pool.
 
 use anyhow::anyhow;
 
-/// What is asked of an open pool.
+/// A request to an open pool.
 #[derive(Clone, Copy)]
 pub(crate) enum Request {
     /// Nothing but an answer.
@@ -19,7 +19,7 @@ pub(crate) enum Request {
     Close,
 }
 
-/// What the next line asks for.
+/// The request in the next line.
 pub(crate) fn next_request<R: Input + AllocGlobal>(rt: &R) -> anyhow::Result<Request> {
     let mut line = String::new(rt.alloc());
     read_request(rt, &mut line)

@@ -1,25 +1,25 @@
-//! What a line of standard input asks for.
+//! What a line of standard input requests.
 
 use std::str::SplitWhitespace;
 
 /// What is done in a round.
 #[derive(Clone, Copy)]
 pub(crate) enum Kind {
-    /// Each caller takes and gives back a permit so often.
+    /// Each caller takes and gives back a permit this often.
     Permits,
     /// The same by a bare loop over one word.
     Bare,
     /// A pool runs the jobs, which the callers submit in turn.
     Pool,
-    /// A pool for one's own works runs those of the callers.
+    /// A pool for your own jobs runs those of the callers.
     Works,
-    /// The same, with an answer for each work.
+    /// The same, with an answer for each job.
     Answers,
     /// The same, by a pool that keeps its whole history, which is judged at the end.
     Judged,
-    /// A pool for one's own works is open until it is told to close.
+    /// A pool for your own jobs is open until a line closes it.
     Own,
-    /// A pool is open until it is told to close.
+    /// A pool is open until a line closes it.
     Open,
 }
 
@@ -31,7 +31,7 @@ pub(crate) struct Round {
     pub(crate) callers: u32,
     /// How many threads run what is submitted.
     pub(crate) workers: u32,
-    /// How many pairs each caller makes, or how many works there are in all.
+    /// How many pairs each caller makes, or how many jobs there are in all.
     pub(crate) count: u32,
 }
 

@@ -5,17 +5,17 @@ use std::sync::atomic::AtomicU64;
 use std::sync::atomic::Ordering::SeqCst;
 use std::thread;
 
-// How often a wait looks before it yields at each look.
+// How often a wait polls before it yields at each poll.
 const SPINS: u32 = 2000;
 
-/// How many jobs have started, and how many must have before any of them ends.
+/// How many jobs have started, and how many must have started before any of them ends.
 #[derive(Drop)]
 pub(crate) struct Started {
     count: AtomicU64,
     until: AtomicU64,
 }
 
-// Waits between two looks.
+// Waits between two polls.
 fn rest(tries: &mut u32) {
     if *tries < SPINS {
         std::hint::spin_loop();
@@ -56,7 +56,7 @@ impl Started {
         unreachable!()
     }
 
-    /// Counts a job, which has no handle to wait with, and holds it until as many have started as are to.
+    /// Counts a job, which has no handle to wait with, and holds it until enough jobs have started.
     pub(crate) fn start(&self) {
         // Once this job is counted, its caller may set the count of the next pair.
         let until = self.until.load(SeqCst);

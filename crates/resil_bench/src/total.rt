@@ -1,6 +1,6 @@
 //! What threads counted, added up.
 
-/// The sum of these numbers, or the greatest number there is where it is more.
+/// The sum of these numbers, or the maximum value if it is more.
 pub(crate) fn total(counts: &[u64]) -> u64 {
     counts
         .iter()

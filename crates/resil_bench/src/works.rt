@@ -1,4 +1,4 @@
-//! One's own works that do nothing and are left alone, through a pool that keeps no record.
+//! Your own jobs that do nothing, with no answer, through a pool that keeps no record.
 
 ghost use Rattle.resil_executor.specs.Seats.{IsOf};
 
@@ -6,14 +6,14 @@ use crate::pool::{KEEP_ALIVE, QUEUE};
 use crate::round::Round;
 use anyhow::anyhow;
 use resil_executor::{Ended, Executor, ExecutorCloser, work_while};
-use resil_rule::{Limits, NoRecord};
+use resil_rule::{NoRecord, Sizes};
 use resil_task::by_hand::Run;
 use std::alloc::Global;
 use std::sync::Wait;
 use std::thread;
 use std::thread::Threads;
 
-/// A work that does nothing.
+/// A job that does nothing.
 #[derive(Drop)]
 struct Nothing;
 
@@ -23,7 +23,7 @@ impl Run<()> for Nothing {
     fn run(self, _context: &mut ()) {}
 }
 
-// Submits this many works that do nothing.
+// Submits this many jobs that do nothing.
 fn submit_all<R: Wait>(rt: &R, pool: &Executor<Nothing>, works: u32) {
     let mut visitor = pool.visitor();
     for _ in 0..works {
@@ -31,7 +31,7 @@ fn submit_all<R: Wait>(rt: &R, pool: &Executor<Nothing>, works: u32) {
     }
 }
 
-// Runs the works of the callers on an open pool, and answers how many were finished.
+// Runs the jobs of the callers on an open pool, and returns how many were finished.
 fn finished<R: Threads + Wait + Sync>(
     rt: &R,
     alloc: Global,
@@ -57,13 +57,13 @@ fn finished<R: Threads + Wait + Sync>(
     Ok(pool.numbers(rt).finished)
 }
 
-/// Runs the works of the callers, and answers how many were finished.
+/// Runs the jobs of the callers, and returns how many were finished.
 pub(crate) fn run<R: Threads + Wait + Sync>(
     rt: &R,
     alloc: Global,
     round: Round,
 ) -> anyhow::Result<u64> {
-    let limits = Limits::new(round.workers, round.workers, QUEUE)?;
-    let (pool, closer) = Executor::open(alloc, limits, NoRecord)?;
+    let sizes = Sizes::new(round.workers, round.workers, QUEUE)?;
+    let (pool, closer) = Executor::open(alloc, sizes, NoRecord)?;
     finished(rt, alloc, &pool, closer, round)
 }

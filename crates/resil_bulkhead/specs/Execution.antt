@@ -1,4 +1,4 @@
--- The answers of a call through a bulkhead, and what the call does with permits and function.
+-- The outcomes of a call through a bulkhead, and what the call does with its permits and its function.
 use Rattle.std.specs.Prelude.{◌≡◌, ◌⊎◌, List, ◌∷◌, [], ◌++◌, Option, Some, None}
 use Rattle.resil_permit.specs.declared.event.PermitEvent.TheVariants.{Took, Gave}
 use Rattle.resil_permit.specs.declared.permits.Attempt.TheVariants as tried
@@ -9,8 +9,8 @@ use Rattle.resil_retry.specs.declared.outcome.Outcome.{Outcome}
 use Rattle.resil_retry.specs.declared.outcome.Outcome.TheVariants.{Error}
 use Rattle.resil_retry.specs.Script.{first, rest}
 
--- a pass acquired a permit, so fewer were held before than were in use, and released it; nothing is said of
--- what it saw in between
+-- a pass acquired a permit, so fewer were held before than were in use, and released it; what it saw in
+-- between is left open
 pub record HasHeldPermit (p q : PassView) : Type 0 where
   pub inside : PassView
   pub same : IsSamePass p inside
@@ -23,7 +23,7 @@ pub record IsOneCall (old new : List Outcome) (outcome : Outcome) : Type 0 where
   pub gave : first old ≡ Some outcome
   pub left : new ≡ rest old
 
--- the call was permitted: the function was called once, under a permit that was released after it
+-- the call was permitted: the function was called once, under a permit that was released afterwards
 pub record WasPermitted (p q : PassView) (old new : List Outcome) (outcome : Outcome) : Type 0 where
   pub visited : HasHeldPermit p q
   pub called : IsOneCall old new outcome

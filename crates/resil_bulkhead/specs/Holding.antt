@@ -1,4 +1,4 @@
--- What a call does whose function is lent the pass that holds its permit.
+-- What a call does if it lends its function the pass that holds its permit.
 use Rattle.std.specs.Prelude.{◌≡◌, ◌<◌, ◌∷◌, [], ◌++◌, Result, Ok, Err}
 use Rattle.std.specs.Borrow.{Bor}
 use Rattle.resil_permit.specs.declared.event.PermitEvent.TheVariants.{Took, Gave}
@@ -8,11 +8,11 @@ use Rattle.resil_permit.specs.TryAcquire.{IsTry}
 use Rattle.resil_bulkhead.specs.declared.no_permit.NoPermit.{NoPermit}
 use Rattle.resil_bulkhead.specs.NoPermit.{refused_try}
 
--- the function may be called with any pass of these permits that holds one. Of a pass that holds none nothing is said
+-- the function may be called with any pass of these permits that holds one. Nothing is said of a pass that holds none
 abbrev pub CanRunUnder : Source → (Bor PassView → Type 0) → Type 0
 CanRunUnder source CanCall = (lent : Bor PassView) → lent.now.source ≡ source → 0 < held_by lent.now → CanCall lent
 
--- a pass took a permit, was lent to the function, which gave this answer, and released the permit
+-- a pass took a permit, was lent to the function, which returned this answer, and released the permit
 pub record HasRunUnder {T : Type 0} (IsAnswer : Bor PassView → T → Type 0) (p q : PassView) (answer : T) : Type 0 where
   pub lent : Bor PassView
   pub same : IsSamePass p lent.now

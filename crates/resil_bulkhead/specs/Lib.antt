@@ -3,7 +3,7 @@ pub mod NoPermit
 pub mod Execution
 pub mod Call
 pub mod Holding
--- what the public clauses cite of names, of permits and of callees
+-- what the public clauses cite about names, permits and callees
 pub use Rattle.resil_name.specs.Name
 pub use Rattle.resil_permit.specs.declared.event.PermitEvent
 pub use Rattle.resil_permit.specs.History

@@ -1,8 +1,8 @@
 //! The bulkhead, and acquiring and releasing its permits by hand.
 //!
-//! A bulkhead is permits with a name. Each call that runs holds one of them, so never more calls
-//! run than there are permits. The permits know which pass acquired one and which released it; the
-//! bulkhead keeps nothing beside them, so threads share it without a lock.
+//! A bulkhead is permits with a name. Each call that runs holds one of them, so there are never more
+//! calls running than permits. The permits know which pass acquired one and which released it; the
+//! bulkhead keeps no other state, so threads share it without a lock.
 
 ghost use Rattle.std.specs.Prelude.{◌≡◌, ◌≢◌, ◌<◌, ◌≤◌, ◌+◌, ◌↔◌, [], length, false, IfOk, OnOk, IsErrOf};
 ghost use Rattle.std.specs.Duration.{as_nanos};
@@ -10,18 +10,19 @@ ghost use Rattle.resil_permit.specs.declared.event.PermitEvent.TheVariants.{Gave
 ghost use Rattle.resil_permit.specs.History.{holders, in_use_count};
 ghost use Rattle.resil_permit.specs.Passes.{PassView, held_by, retired_by, own_events, IsSamePass, HasSeenMore, AppendsEvent};
 ghost use Rattle.resil_permit.specs.TryAcquire.{IsTry, held_after};
-ghost use Rattle.resil_permit.specs.Waits.{HasWaited};
+ghost use Rattle.resil_permit.specs.Waits.{HasWaited, HasWaitedBy};
 ghost use Rattle.resil_name.specs.Name.{IsName};
 
 use crate::error::BulkheadError;
+use resil_clock::Reads;
 use resil_name::is_name;
 use resil_permit::{Acquire, Pass, Permits};
 use std::alloc::Global;
 use std::marker::Model;
 use std::sync::Wait;
-use std::time::{Clock, Duration};
+use std::time::Duration;
 
-/// How many calls a bulkhead permits at once by default (Resilience4j user guide, Bulkhead:
+/// How many concurrent calls a bulkhead permits by default (Resilience4j user guide, Bulkhead:
 /// `maxConcurrentCalls`).
 ///
 /// ```
@@ -29,9 +30,9 @@ use std::time::{Clock, Duration};
 /// ```
 pub const DEFAULT_MAX_CALLS: u32 = 25;
 
-/// A limit on the calls that run at once, with a name.
+/// A limit on the number of concurrent calls, with a name.
 ///
-/// After the semaphore Bulkhead (Resilience4j user guide, Bulkhead, `maxConcurrentCalls`).
+/// Modelled on the semaphore Bulkhead (Resilience4j user guide, Bulkhead, `maxConcurrentCalls`).
 ///
 /// ```
 /// let (bulkhead, mut pass) = Bulkhead::new(rt.alloc(), "prices", 25)?;
@@ -56,13 +57,13 @@ impl Model for Bulkhead {
 }
 
 impl Bulkhead {
-    /// A bulkhead that permits at most `max` calls at once, 0 to 65,535, and its first pass. With 0
-    /// every call is refused.
+    /// Makes a bulkhead that permits at most `max` concurrent calls, 0 to 65,535, and its first pass.
+    /// With 0 every call is refused.
     ///
     /// # Errors
     ///
-    /// In this order: `BadName` where the name isn't 1 to 64 bytes of ASCII letters, digits, `-`,
-    /// `_` and `.`; `TooManyPermits` where `max` is above 65,535; `Memory` when out of memory.
+    /// In this order: `BadName` if the name isn't 1 to 64 bytes of ASCII letters, digits, `-`, `_` and
+    /// `.`; `TooManyPermits` if `max` is above 65,535; `Memory` if out of memory.
     pub fn new(alloc: Global, name: &str, max: u32) -> Result<(Bulkhead, Pass), BulkheadError>
         ensures name { IfOk result (λ r. r.0.name ≡ name.now) }
         ensures max { IfOk result (λ r. r.0.permits.max ≡ max) }
@@ -81,12 +82,12 @@ impl Bulkhead {
         Ok((Bulkhead { name, permits }, pass))
     }
 
-    /// A bulkhead that permits `DEFAULT_MAX_CALLS` calls at once, and its first pass.
+    /// Makes a bulkhead that permits `DEFAULT_MAX_CALLS` concurrent calls, and its first pass.
     ///
     /// # Errors
     ///
-    /// In this order: `BadName` where the name isn't 1 to 64 bytes of ASCII letters, digits, `-`,
-    /// `_` and `.`; `Memory` when out of memory.
+    /// In this order: `BadName` if the name isn't 1 to 64 bytes of ASCII letters, digits, `-`, `_` and
+    /// `.`; `Memory` if out of memory.
     ///
     /// ```
     /// let (bulkhead, mut pass) = Bulkhead::with_defaults(rt.alloc(), "prices")?;
@@ -101,14 +102,14 @@ impl Bulkhead {
         Bulkhead::new(alloc, name, DEFAULT_MAX_CALLS)
     }
 
-    /// The name that it was made with.
+    /// Returns the name that it was made with.
     pub fn name(&self) -> &str
         ensures { result.now ≡ self.now.name }
     {
         self.name.as_str()
     }
 
-    /// How many calls it permits at once, with none of its permits retired.
+    /// Returns how many concurrent calls it permits while none of its permits is retired.
     pub fn max(&self) -> u32
         ensures { result ≡ self.now.permits.max }
     {
@@ -119,8 +120,8 @@ impl Bulkhead {
 impl Bulkhead {
     ghost use Rattle.resil_bulkhead.specs.Bulkhead.{attempt_of};
 
-    /// Acquires a permit and answers `true`, or answers `false` where none is free. Tries again
-    /// while other passes come in between, and so may wait for others.
+    /// Acquires a permit and returns `true`, or returns `false` if none is free. It retries while
+    /// other passes come in between, and so may wait for them.
     ///
     /// ```
     /// if bulkhead.enter(&rt, &mut pass) {
@@ -140,9 +141,9 @@ impl Bulkhead {
         self.permits.try_acquire(rt, pass) == Acquire::Taken
     }
 
-    /// The same, where a caller that finds no free permit waits for one, at most as long as `longest`
-    /// (Resilience4j user guide, Bulkhead: `maxWaitDuration`). With zero it is `enter`. Those who wait
-    /// stand in no row.
+    /// Like `enter`, but if no permit is free, waits for one for at most `longest` (Resilience4j user
+    /// guide, Bulkhead: `maxWaitDuration`). With zero it is `enter`. Waiting isn't fair: a newer
+    /// caller may get the permit first.
     ///
     /// ```
     /// if bulkhead.enter_within(&rt, &mut pass, Duration::from_millis(50)) {
@@ -151,10 +152,11 @@ impl Bulkhead {
     /// }
     /// ```
     #[tactic(auto, using(crate::proofs::NoPermits::never_taken))]
-    pub fn enter_within<R: Wait + Clock>(&self, rt: &R, pass: &mut Pass, longest: Duration) -> bool
+    pub fn enter_within<R: Wait + Reads>(&self, rt: &R, pass: &mut Pass, longest: Duration) -> bool
         requires { pass.old.source ≡ self.now.permits }
         ensures pass { IsSamePass pass.old pass.new }
         ensures tried { (waited : PassView) × HasWaited (as_nanos longest) pass.old waited × IsTry waited pass.new (attempt_of result) }
+        ensures by_the_clock { (waited : PassView) × HasWaitedBy (R.HasSaid rt.now) (as_nanos longest) self.now.permits.max pass.old waited (attempt_of result) × IsTry waited pass.new (attempt_of result) }
         ensures at_once { as_nanos longest ≡ 0 → IsTry pass.old pass.new (attempt_of result) }
         ensures nobody { self.now.permits.max ≡ 0 → result ≡ false }
         ensures held { held_by pass.new ≡ held_after (held_by pass.old) (attempt_of result) }
@@ -163,7 +165,7 @@ impl Bulkhead {
         self.permits.acquire_within(rt, pass, longest) == Acquire::Taken
     }
 
-    /// Releases a permit that the pass holds, and wakes a caller that waits for one, if any does.
+    /// Releases a permit that the pass holds, and wakes a caller that waits for one, if there is any.
     pub fn leave(&self, pass: &mut Pass)
         requires source { pass.old.source ≡ self.now.permits }
         requires held { 0 < held_by pass.old }
@@ -175,8 +177,8 @@ impl Bulkhead {
         self.permits.release(pass);
     }
 
-    /// Retires a permit that the pass holds. The pass keeps the permit back: it is neither free nor
-    /// held then, and the bulkhead permits one call less at once until this pass raises it again.
+    /// Retires a permit that the pass holds. The pass keeps the permit back: the permit is then neither
+    /// free nor held, and the bulkhead permits one concurrent call less until this pass raises it again.
     ///
     /// ```
     /// if bulkhead.enter(&rt, &mut operator) {
@@ -194,8 +196,8 @@ impl Bulkhead {
         self.permits.retire(pass);
     }
 
-    /// Raises a permit that the pass has retired. The permit is free then, and the bulkhead permits
-    /// one call more at once, never more than it was made with.
+    /// Raises a permit that the pass has retired. The permit is then free, and the bulkhead permits
+    /// one concurrent call more, never more than it was made with.
     ///
     /// ```
     /// if operator.retired() > 0 {
@@ -213,7 +215,7 @@ impl Bulkhead {
         self.permits.raise(pass);
     }
 
-    /// How many permits are free at one moment of the call: those in use that nobody holds.
+    /// Returns how many permits are free at one moment of the call: those in use that nobody holds.
     pub fn available(&self, pass: &mut Pass) -> u32
         requires { pass.old.source ≡ self.now.permits }
         ensures pass { IsSamePass pass.old pass.new }
@@ -225,7 +227,7 @@ impl Bulkhead {
         self.permits.available(pass)
     }
 
-    /// A new pass, for any thread, which holds nothing.
+    /// Makes a new pass, for any thread. It holds nothing.
     ///
     /// ```
     /// let mut pass = bulkhead.new_pass();
@@ -239,8 +241,8 @@ impl Bulkhead {
         self.permits.new_pass()
     }
 
-    /// A new pass, for another thread, which holds nothing and has seen what this one has. This one
-    /// stays as it is.
+    /// Makes a new pass for another thread. It holds nothing and has seen what this one has seen. This
+    /// one stays as it is.
     pub fn split(&self, pass: &mut Pass) -> Pass
         requires { pass.old.source ≡ self.now.permits }
         ensures old { pass.new ≡ pass.old }

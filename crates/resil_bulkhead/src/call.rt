@@ -1,33 +1,34 @@
-//! Calls of functions of one's own under a permit.
+//! Calls of your own functions under a permit.
 //!
-//! The function is run as that of `call_holding`, whose clauses say that a permit is held meanwhile.
-//! The calls of this file have no such clause, since their function isn't lent the pass. What a pass
-//! has seen and what the function says of its answer are the same where the permit is released
-//! first. A test looks from inside the call.
+//! The function runs in the same way as that of `call_holding`, whose clauses say that a permit is
+//! held meanwhile. The calls of this file have no such clause, since their function isn't lent the
+//! pass: what a pass has seen, and what the function says of its answer, would be the same if the
+//! permit were released first. A test looks from inside the call.
 
 ghost use Rattle.std.specs.Prelude.{◌≡◌, ◌<◌, ◌+◌, IsErr, IfErr, IsErrOf};
 ghost use Rattle.std.specs.Duration.{as_nanos};
 ghost use Rattle.resil_permit.specs.declared.event.PermitEvent.TheVariants.{Gave};
 ghost use Rattle.resil_permit.specs.Passes.{PassView, held_by, retired_by, IsSamePass, AppendsEvent};
-ghost use Rattle.resil_permit.specs.Waits.{HasWaited};
-ghost use Rattle.resil_bulkhead.specs.Call.{IsCalled};
+ghost use Rattle.resil_permit.specs.Waits.{HasWaited, HasWaitedBy};
+ghost use Rattle.resil_bulkhead.specs.Call.{IsCalled, attempt_in};
 
 use crate::bulkhead::Bulkhead;
 use crate::no_permit::NoPermit;
 use resil_call::Call;
+use resil_clock::Reads;
 use resil_permit::{Attempt, Pass};
 use std::sync::Wait;
-use std::time::{Clock, Duration};
+use std::time::Duration;
 
 impl Bulkhead {
-    /// Calls the function once under a permit and answers what it answers (Resilience4j user guide,
-    /// Bulkhead). The pass holds as many permits as before, and has retired as many.
+    /// Calls the function once under a permit and returns its answer (Resilience4j user guide,
+    /// Bulkhead). Afterwards the pass holds as many permits as before, and has retired as many.
     ///
-    /// Tries again while other passes come in between, and so may wait for others.
+    /// It retries while other passes come in between, and so may wait for them.
     ///
     /// # Errors
     ///
-    /// `Full` where no permit is free; the function isn't called.
+    /// `Full` if no permit is free; the function isn't called.
     ///
     /// ```
     /// let (bulkhead, mut pass) = Bulkhead::new(rt.alloc(), "letters", 1)?;
@@ -55,19 +56,19 @@ impl Bulkhead {
         Ok(self.call_and_release(pass, call))
     }
 
-    /// The same, where a call that finds no free permit waits for one, at most as long as `longest`
-    /// (Resilience4j user guide, Bulkhead: `maxWaitDuration`). With zero it is `call`. Those who wait
-    /// stand in no row.
+    /// Like `call`, but if no permit is free, waits for one for at most `longest` (Resilience4j user
+    /// guide, Bulkhead: `maxWaitDuration`). With zero it is `call`. Waiting isn't fair: a newer
+    /// caller may get the permit first.
     ///
     /// # Errors
     ///
-    /// `Full` where no permit came free; the function isn't called.
+    /// `Full` if no permit came free; the function isn't called.
     ///
     /// ```
     /// let longest = Duration::from_millis(50);
     /// let seven = bulkhead.call_within(&rt, &mut pass, longest, &mut FromFn(|| six + 1))?;
     /// ```
-    pub fn call_within<R: Wait + Clock, C: Call>(
+    pub fn call_within<R: Wait + Reads, C: Call>(
         &self,
         rt: &R,
         pass: &mut Pass,
@@ -78,6 +79,7 @@ impl Bulkhead {
         requires can { C.CanCall call.old }
         ensures pass { IsSamePass pass.old pass.new }
         ensures executed { (waited : PassView) × HasWaited (as_nanos longest) pass.old waited × IsCalled C.IsAnswer waited pass.new call.old call.new result }
+        ensures by_the_clock { (waited : PassView) × HasWaitedBy (R.HasSaid rt.now) (as_nanos longest) self.now.permits.max pass.old waited (attempt_in result) × IsCalled C.IsAnswer waited pass.new call.old call.new result }
         ensures at_once { as_nanos longest ≡ 0 → IsCalled C.IsAnswer pass.old pass.new call.old call.new result }
         ensures full { IfErr result (λ refused. refused ≡ NoPermit.Full) }
         ensures nobody { self.now.permits.max ≡ 0 → IsErr result }
@@ -91,12 +93,11 @@ impl Bulkhead {
         Ok(self.call_and_release(pass, call))
     }
 
-    /// The same by one try, which never waits.
+    /// Like `call`, but tries only once and never waits.
     ///
     /// # Errors
     ///
-    /// `Full` where no permit is free, `Contended` where another pass came in between; the function
-    /// isn't called.
+    /// `Full` if no permit is free, `Contended` if another pass came in between; the function isn't called.
     ///
     /// ```
     /// let seven = bulkhead.call_once(&mut pass, &mut FromFn(|| six + 1))?;

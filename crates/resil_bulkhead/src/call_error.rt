@@ -6,7 +6,7 @@ ghost use Rattle.resil_bulkhead.specs.declared.call_error.CallError.TheVariants.
 use crate::no_permit::NoPermit;
 use resil_call::TellsRefusal;
 
-/// Why a call under a bulkhead gave no value: there was no permit, or its function failed.
+/// Why a call under a bulkhead returned no value: there was no permit, or its function failed.
 ///
 /// ```
 /// let busy: CallError<ReadError> = CallError::from(NoPermit::Full);

@@ -1,22 +1,23 @@
-//! A bulkhead with a pass of its own, for callers that call it again and again.
+//! A bulkhead with a pass of its own, for callers that call under it repeatedly.
 
 ghost use Rattle.std.specs.Prelude.{◌≡◌, [], length, IsErr, IfErr, IsErrOf, IfOk};
 ghost use Rattle.std.specs.Duration.{as_nanos};
 ghost use Rattle.std.specs.List.{All};
 ghost use Rattle.resil_permit.specs.Passes.{PassView, held_by, retired_by, own_events, IsSamePass};
-ghost use Rattle.resil_permit.specs.Waits.{HasWaited};
-ghost use Rattle.resil_bulkhead.specs.Call.{IsCalled};
+ghost use Rattle.resil_permit.specs.Waits.{HasWaited, HasWaitedBy};
+ghost use Rattle.resil_bulkhead.specs.Call.{IsCalled, attempt_in};
 
 use crate::bulkhead::Bulkhead;
 use crate::no_permit::NoPermit;
 use resil_call::Call;
+use resil_clock::Reads;
 use resil_permit::Pass;
 use std::alloc::{AllocError, Global};
 use std::sync::Wait;
-use std::time::{Clock, Duration};
+use std::time::Duration;
 
-/// Who calls under a bulkhead, with a pass of its own. It is one value for a thread, a worker or a
-/// loop, and no clause needs to say that its pass is of this bulkhead.
+/// A caller under a bulkhead, with a pass of its own. It is one value for a thread, a worker or a
+/// loop, and no clause needs to say that its pass belongs to this bulkhead.
 ///
 /// ```
 /// let mut prices = bulkhead.client();
@@ -32,7 +33,7 @@ pub struct Client<'a> {
 }
 
 impl Bulkhead {
-    /// A client of this bulkhead, with a new pass.
+    /// Makes a client of this bulkhead, with a new pass.
     ///
     /// ```
     /// let mut prices = bulkhead.client();
@@ -49,11 +50,11 @@ impl Bulkhead {
         }
     }
 
-    /// So many clients of this bulkhead, each with a new pass.
+    /// Makes `count` clients of this bulkhead, each with a new pass.
     ///
     /// # Errors
     ///
-    /// `AllocError` when out of memory.
+    /// `AllocError` if out of memory.
     ///
     /// ```
     /// for mut prices in bulkhead.clients(rt.alloc(), 4)? {
@@ -73,11 +74,11 @@ impl Bulkhead {
 }
 
 impl Client<'_> {
-    /// Calls the function once under a permit, as `Bulkhead::call` does.
+    /// Calls the function once under a permit, like `Bulkhead::call`.
     ///
     /// # Errors
     ///
-    /// `Full` where no permit is free; the function isn't called.
+    /// `Full` if no permit is free; the function isn't called.
     pub fn call<R: Wait, C: Call>(&mut self, rt: &R, call: &mut C) -> Result<C::Output, NoPermit>
         requires can { C.CanCall call.old }
         ensures bulkhead { self.new.bulkhead ≡ self.old.bulkhead }
@@ -92,18 +93,18 @@ impl Client<'_> {
         self.bulkhead.call(rt, &mut self.pass, call)
     }
 
-    /// The same, where a call that finds no free permit waits for one, at most as long as `longest`,
-    /// as `Bulkhead::call_within` does.
+    /// Like `call`, but if no permit is free, waits for one for at most `longest`, like
+    /// `Bulkhead::call_within`.
     ///
     /// # Errors
     ///
-    /// `Full` where no permit came free; the function isn't called.
+    /// `Full` if no permit came free; the function isn't called.
     ///
     /// ```
     /// let longest = Duration::from_millis(50);
     /// let seven = prices.call_within(&rt, longest, &mut FromFn(|| six + 1))?;
     /// ```
-    pub fn call_within<R: Wait + Clock, C: Call>(
+    pub fn call_within<R: Wait + Reads, C: Call>(
         &mut self,
         rt: &R,
         longest: Duration,
@@ -113,6 +114,7 @@ impl Client<'_> {
         ensures bulkhead { self.new.bulkhead ≡ self.old.bulkhead }
         ensures pass { IsSamePass self.old.pass self.new.pass }
         ensures executed { (waited : PassView) × HasWaited (as_nanos longest) self.old.pass waited × IsCalled C.IsAnswer waited self.new.pass call.old call.new result }
+        ensures by_the_clock { (waited : PassView) × HasWaitedBy (R.HasSaid rt.now) (as_nanos longest) self.old.bulkhead.now.permits.max self.old.pass waited (attempt_in result) × IsCalled C.IsAnswer waited self.new.pass call.old call.new result }
         ensures at_once { as_nanos longest ≡ 0 → IsCalled C.IsAnswer self.old.pass self.new.pass call.old call.new result }
         ensures full { IfErr result (λ refused. refused ≡ NoPermit.Full) }
         ensures nobody { self.old.bulkhead.now.permits.max ≡ 0 → IsErr result }
@@ -123,12 +125,11 @@ impl Client<'_> {
         self.bulkhead.call_within(rt, &mut self.pass, longest, call)
     }
 
-    /// The same by one try, which never waits, as `Bulkhead::call_once` does.
+    /// Like `call`, but tries only once and never waits, like `Bulkhead::call_once`.
     ///
     /// # Errors
     ///
-    /// `Full` where no permit is free, `Contended` where another pass came in between; the function
-    /// isn't called.
+    /// `Full` if no permit is free, `Contended` if another pass came in between; the function isn't called.
     pub fn call_once<C: Call>(&mut self, call: &mut C) -> Result<C::Output, NoPermit>
         requires can { C.CanCall call.old }
         ensures bulkhead { self.new.bulkhead ≡ self.old.bulkhead }

@@ -1,6 +1,6 @@
 //! Errors of bulkheads.
 //!
-//! Only the making of a bulkhead has them. Whoever finds no free permit gets a `NoPermit`, or the
+//! Only making a bulkhead has these. A caller that finds no free permit gets a `NoPermit`, or the
 //! outcome `Full`.
 
 ghost use Rattle.std.specs.Prelude.{◌≡◌};
@@ -11,7 +11,7 @@ use resil_permit::PermitError;
 use std::alloc::AllocError;
 use thiserror::Error;
 
-/// Why a bulkhead could not be made.
+/// Why a bulkhead couldn't be made.
 ///
 /// ```
 /// match Bulkhead::new(alloc, name, max) {
@@ -24,13 +24,13 @@ use thiserror::Error;
 #[derive(Clone, Copy, PartialEq, Eq, Debug, Error)]
 pub enum BulkheadError {
     /// The name isn't 1 to 64 bytes of ASCII letters, digits, `-`, `_` and `.`.
-    #[error("a name is 1 to 64 ASCII letters, digits, '-', '_' and '.'")]
+    #[error("a name must be 1 to 64 bytes of ASCII letters, digits, `-`, `_` and `.`")]
     BadName,
-    /// Memory ran out.
+    /// Out of memory.
     #[error("out of memory")]
     Memory,
-    /// More than 65,535 calls were to be permitted at once.
-    #[error("a bulkhead lets at most 65535 calls in at once")]
+    /// `max` is above 65,535.
+    #[error("a bulkhead permits at most 65535 concurrent calls")]
     TooManyPermits,
 }
 

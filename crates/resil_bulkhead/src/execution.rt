@@ -1,10 +1,9 @@
-//! Calls of callees through a bulkhead: a call of any function under a permit, whose answer is an
-//! outcome, and whose refusal is the error `Full`.
+//! Calls of callees through a bulkhead: like the call of any function under a permit, but the
+//! result is an outcome, and a refusal is the error `Full`.
 //!
 //! A call that finds a free permit acquires it, calls the function once and releases the permit,
-//! whatever the function answers. A call that finds none doesn't call the function. The function
-//! may use passes of the bulkhead that it is called through, so nothing is said of the permits
-//! while it runs.
+//! whatever the function returns. A call that finds none doesn't call the function. The function may use
+//! passes of the bulkhead that it is called through, so nothing is said of the permits while it runs.
 
 ghost use Rattle.std.specs.Prelude.{◌≡◌, IsSomeAnd};
 ghost use Rattle.resil_permit.specs.Passes.{held_by, retired_by, IsSamePass};
@@ -16,17 +15,17 @@ use resil_permit::Pass;
 use resil_retry::{Callee, Kind, Outcome};
 use std::sync::Wait;
 
-// What a call answers that finds no free permit.
+// The outcome of a call that finds no free permit.
 const FULL: Outcome = Outcome::Error(Kind::Full);
 
 impl Bulkhead {
-    /// Calls the function once under a permit and answers its outcome, or answers the error `Full`
-    /// where no permit is free and doesn't call it (Resilience4j user guide, Bulkhead). The pass
-    /// holds as many permits as before, and has retired as many. The function is run as that of
-    /// `call_holding`, which holds the permit meanwhile; no clause of this call says so, and a test
-    /// shows it.
+    /// Calls the function once under a permit and returns its outcome, or returns the error `Full`
+    /// if no permit is free and doesn't call it (Resilience4j user guide, Bulkhead). Afterwards the
+    /// pass holds as many permits as before, and has retired as many. The function runs in the same
+    /// way as that of `call_holding`, which holds the permit meanwhile; no clause of this call says
+    /// so, and a test shows it.
     ///
-    /// Tries again while other passes come in between, and so may wait for others.
+    /// It retries while other passes come in between, and so may wait for them.
     ///
     /// ```
     /// let outcome = bulkhead.execute(&rt, &mut pass, &mut Player::new(&script));
@@ -42,10 +41,9 @@ impl Bulkhead {
         self.call(rt, pass, callee).unwrap_or(FULL)
     }
 
-    /// Calls the function once under a permit that is acquired by one try, and never waits. Answers
-    /// the outcome of the function, the error `Full` where no permit is free, or `None` where
-    /// another pass came in between. In the last two cases the function isn't called. It is run as
-    /// that of `execute`.
+    /// Like `execute`, but tries only once and never waits. It returns the outcome of the function,
+    /// the error `Full` if no permit is free, or `None` if another pass came in between. In the last
+    /// two cases the function isn't called. It runs in the same way as that of `execute`.
     pub fn execute_once<C: Callee>(&self, pass: &mut Pass, callee: &mut C) -> Option<Outcome>
         requires { pass.old.source ≡ self.now.permits }
         ensures pass { IsSamePass pass.old pass.new }

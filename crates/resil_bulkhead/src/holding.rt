@@ -1,8 +1,8 @@
-//! Calls of functions that are lent the pass which holds their permit.
+//! Calls that lend their function the pass that holds the permit.
 //!
-//! Every call under a permit runs its function at the one line of `hold`. It may call it only with a pass that holds a
-//! permit, since of other passes it doesn't know that the function may be called. While the pass is lent, nobody can
-//! release the permit.
+//! Every call under a permit runs its function at the one line of `hold`. It can call it only with a pass that holds a
+//! permit, because it doesn't know of other passes that the function may be called with them. While the pass is lent,
+//! nobody can release the permit.
 
 ghost use Rattle.std.specs.Prelude.{◌≡◌, ◌<◌, ◌+◌, IsErr, IfErr};
 ghost use Rattle.resil_permit.specs.declared.event.PermitEvent.TheVariants.{Gave};
@@ -15,14 +15,14 @@ use resil_permit::Pass;
 use std::sync::Wait;
 
 impl Bulkhead {
-    /// Calls the function once with the pass, while that holds a permit, and answers what it answers. A function that may
+    /// Calls the function once with the pass, while the pass holds a permit, and returns its answer. A function that may
     /// be called only under a permit says so by what it requires of the pass.
     ///
-    /// Tries again while other passes come in between, and so may wait for others.
+    /// It retries while other passes come in between, and so may wait for them.
     ///
     /// # Errors
     ///
-    /// `Full` where no permit is free; the function isn't called.
+    /// `Full` if no permit is free; the function isn't called.
     ///
     /// ```
     /// let held = bulkhead.call_holding(&rt, &mut pass, |lent| lent.held())?;
@@ -52,7 +52,7 @@ impl Bulkhead {
         Ok(self.hold(pass, &mut (), lend))
     }
 
-    // Calls the function with the pass, which holds a permit, and with what it changes, and then releases the permit.
+    // Calls the function with the pass, which holds a permit, and with the state that it changes, then releases the permit.
     pub(crate) fn hold<S, T, F: FnOnce(&Pass, &mut S) -> T>(
         &self,
         pass: &mut Pass,

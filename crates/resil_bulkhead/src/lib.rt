@@ -1,15 +1,14 @@
-//! The semaphore bulkhead: a limit, with a name, on how many calls run at once (after
-//! Resilience4j's module bulkhead; user guide, chapter Bulkhead).
+//! The semaphore bulkhead: a limit, with a name, on the number of concurrent calls (modelled on Resilience4j's
+//! module bulkhead; user guide, chapter Bulkhead).
 //!
-//! A call acquires a permit, runs the function and releases the permit, whether the function
-//! answers a value or an error. A call that finds no free permit is refused at once with the error
-//! `Full`, and its function isn't called. Each thread uses a pass of its own, which is split from
-//! another. A pass counts the permits that it holds, and contracts see each permit that it acquired
-//! and released (`specs/Call.antt`, `specs/Execution.antt`). There is no lock, and memory is taken only where a
-//! bulkhead is made.
+//! A call acquires a permit, runs the function and releases the permit, whether the function returns a value or
+//! an error. A call that finds no free permit is refused at once with the error `Full`, and its function isn't
+//! called. Each thread uses a pass of its own, split from another. A pass counts the permits that it holds, and
+//! contracts see each permit that it acquired and released (`specs/Call.antt`, `specs/Execution.antt`). There
+//! is no lock, and only making a bulkhead allocates memory.
 //!
-//! An operator lowers the limit while calls run: a pass enters and retires its permit, so that one
-//! call less is permitted at once, and raises it again later.
+//! An operator can lower the limit while calls run: a pass enters and retires its permit, so that one call less
+//! is permitted at once, and raises it again later.
 #![tactic(auto)]
 
 mod bulkhead;

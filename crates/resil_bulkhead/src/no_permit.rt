@@ -4,7 +4,7 @@ use resil_call::TellsRefusal;
 use thiserror::Error;
 
 /// Why no permit was acquired (Resilience4j user guide, Bulkhead: `BulkheadFullException`). The
-/// function that was to run under it wasn't called.
+/// function that should have run under it wasn't called.
 ///
 /// ```
 /// impl From<NoPermit> for PriceError {
@@ -16,8 +16,7 @@ pub enum NoPermit {
     /// All permits in use were held.
     #[error("the bulkhead is full")]
     Full,
-    /// Another pass came in between. Only a call that waits for nobody answers it; it may be tried
-    /// again.
+    /// Another pass came in between. Only a call that never waits returns this, and you may call it again.
     #[error("another call came in between")]
     Contended,
 }

@@ -1,6 +1,6 @@
-//! A permit for a scope, which is released when it goes out of it.
+//! A permit for a scope, released at the end of the scope.
 //!
-//! The pass comes first: it is what is lent to the permit, and what comes back where there is none.
+//! The pass comes first: it is lent to the permit, and it comes back if there is no permit.
 
 ghost use Rattle.std.specs.Prelude.{◌≡◌, ◌<◌, ◌+◌, IfOk, IfErr};
 ghost use Rattle.std.specs.Borrow.{sem, RestsIfErr};
@@ -10,17 +10,18 @@ ghost use Rattle.resil_permit.specs.declared.event.PermitEvent.TheVariants.{Gave
 ghost use Rattle.resil_permit.specs.declared.permits.Attempt.TheVariants as tried;
 ghost use Rattle.resil_permit.specs.Passes.{PassView, held_by, retired_by, IsSamePass, AppendsEvent};
 ghost use Rattle.resil_permit.specs.TryAcquire.{IsTry};
-ghost use Rattle.resil_permit.specs.Waits.{HasWaited};
+ghost use Rattle.resil_permit.specs.Waits.{HasWaited, HasWaitedBy};
 ghost use Rattle.resil_bulkhead.specs.NoPermit.{IsRefused, IsRefusedAtLast};
 
 use crate::bulkhead::Bulkhead;
 use crate::no_permit::NoPermit;
+use resil_clock::Reads;
 use resil_permit::{Attempt, Pass};
 use std::sync::Wait;
-use std::time::{Clock, Duration};
+use std::time::Duration;
 
 /// A permit of a bulkhead that a pass holds. It is released when this value goes out of scope, also
-/// where a `?` leaves the function.
+/// if a `?` leaves the function.
 ///
 /// ```
 /// let _permit = Permit::enter(&mut pass, &bulkhead, &rt)?;
@@ -36,11 +37,11 @@ impl<'a> Permit<'a> {
     /// Acquires a permit of the bulkhead for the pass (Resilience4j user guide, Bulkhead:
     /// `tryAcquirePermission`).
     ///
-    /// Tries again while other passes come in between, and so may wait for others.
+    /// It retries while other passes come in between, and so may wait for them.
     ///
     /// # Errors
     ///
-    /// `Full` where no permit is free.
+    /// `Full` if no permit is free.
     ///
     /// ```
     /// let _permit = Permit::enter(&mut pass, &bulkhead, &rt)?;
@@ -66,27 +67,28 @@ impl<'a> Permit<'a> {
         Ok(Permit::new(bulkhead, pass))
     }
 
-    /// The same, where a pass that finds no free permit waits for one, at most as long as `longest`
+    /// Like `enter`, but if no permit is free, waits for one for at most `longest`
     /// (`maxWaitDuration`). With zero it is `enter`.
     ///
     /// # Errors
     ///
-    /// `Full` where no permit came free.
+    /// `Full` if no permit came free.
     ///
     /// ```
     /// let longest = Duration::from_millis(50);
     /// let _permit = Permit::enter_within(&mut pass, &bulkhead, &rt, longest)?;
     /// ```
-    pub fn enter_within<R: Wait + Clock>(
+    pub fn enter_within<R: Wait + Reads>(
         pass: &'a mut Pass,
         bulkhead: &'a Bulkhead,
         rt: &R,
         longest: Duration,
     ) -> Result<Permit<'a>, NoPermit>
         requires { pass.old.source ≡ bulkhead.now.permits }
-        ensures* refused { sem 𝓛 (RestsIfErr the_row pass.entry (λ permit. permit.pass.ghost_name) result (λ left. IfErr result (λ _. IsRefusedAtLast (as_nanos longest) pass.old left))) }
+        ensures* refused { sem 𝓛 (RestsIfErr the_row pass.entry (λ permit. permit.pass.ghost_name) result (λ left. IfErr result (λ _. IsRefusedAtLast (R.HasSaid rt.now) (as_nanos longest) bulkhead.now.permits.max pass.old left))) }
         ensures reference { IfOk result (λ permit. permit.pass.ghost_name ≡ pass.entry.ghost_name) }
         ensures took { IfOk result (λ permit. (waited : PassView) × HasWaited (as_nanos longest) pass.old waited × IsTry waited permit.pass.now tried.Taken) }
+        ensures by_the_clock { IfOk result (λ permit. (waited : PassView) × HasWaitedBy (R.HasSaid rt.now) (as_nanos longest) bulkhead.now.permits.max pass.old waited tried.Taken × IsTry waited permit.pass.now tried.Taken) }
         ensures held { IfOk result (λ permit. held_by permit.pass.now ≡ held_by pass.old + 1) }
         ensures retired { IfOk result (λ permit. retired_by permit.pass.now ≡ retired_by pass.old) }
         ensures pass { IfOk result (λ permit. IsSamePass pass.old permit.pass.now) }
@@ -98,11 +100,11 @@ impl<'a> Permit<'a> {
         Ok(Permit::new(bulkhead, pass))
     }
 
-    /// The same by one try, which never waits.
+    /// Like `enter`, but tries only once and never waits.
     ///
     /// # Errors
     ///
-    /// `Full` where no permit is free, `Contended` where another pass came in between.
+    /// `Full` if no permit is free, `Contended` if another pass came in between.
     ///
     /// ```
     /// match Permit::try_once(&mut pass, &bulkhead) {

@@ -23,7 +23,7 @@ pub record BulkheadsInvariant (view : BulkheadsView) : Type 0 where
   pub each : AllZip (IsBulkheadOf view.lists) view.lists.instances view.bulkheads
   pub default : IsSome (config_of view.lists default_name)
 
--- one bulkhead more, the last of all, of that name and with as many permits as the named configuration says
+-- one more bulkhead, the last of all, of that name and with as many permits as the named configuration says
 pub record AddsBulkhead (old : BulkheadsView) (name config : List ℕ) (bulkhead : BulkheadView) (new : BulkheadsView) : Type 0 where
   pub last : new.bulkheads ≡ old.bulkheads ++ bulkhead ∷ []
   pub named : bulkhead.name ≡ name

@@ -1,4 +1,4 @@
--- What a text says of bulkheads, and the bulkheads that are made of it.
+-- What a text says of bulkheads, and the bulkheads made from it.
 use Rattle.std.specs.Prelude.{◌≡◌, ℕ, ◌*◌, List, [], ◌∷◌, ◌++◌, Option, Some, Ok, slice_get, option_and_then}
 use Rattle.std.specs.Duration.{as_nanos}
 use Rattle.std.specs.List.{AllZip}
@@ -26,20 +26,20 @@ pub record IsWaitSaid (keys : Members) (wait : Duration) : Type 0 where
   pub read : parse_bulkhead_table keys ≡ Ok said
   pub long : as_nanos wait ≡ said.wait * 1000000
 
--- one bulkhead more, the last of all, as its table says it
+-- one more bulkhead, the last of all, as its table says
 pub record AddsSaid (old : BulkheadsView) (keys : Members) (new : BulkheadsView) : Type 0 where
   pub bulkhead : BulkheadView
   pub last : new.bulkheads ≡ old.bulkheads ++ bulkhead ∷ []
   pub said : IsBulkheadSaid old.lists keys bulkhead
 
--- one wait more, the last of all, as its table says it
+-- one more wait, the last of all, as its table says
 pub record AddsWait (old : List Duration) (keys : Members) (new : List Duration) : Type 0 where
   pub wait : Duration
   pub last : new ≡ old ++ wait ∷ []
   pub said : IsWaitSaid keys wait
 
--- a text is read, it has no other keys than these two, its configurations are those of its table `permits` beside `default`, and each table of its array `bulkhead`
--- says one bulkhead and its wait, in order
+-- a text is read: it has no keys but these two, its configurations are those of its table `permits` beside `default`, and each table of its array
+-- `bulkhead` says one bulkhead and its wait, in order
 pub record AreSaid (text : List ℕ) (bulkheads : List BulkheadView) (waits : List Duration) : Type 0 where
   pub said : Members
   pub parsed : parse_document text ≡ Some said
@@ -51,6 +51,6 @@ pub record AreSaid (text : List ℕ) (bulkheads : List BulkheadView) (waits : Li
   pub each : AllZip (IsBulkheadSaid lists) tables bulkheads
   pub each_wait : AllZip IsWaitSaid tables waits
 
--- the nanoseconds of the wait at an id, none where there is no wait
+-- the nanoseconds of the wait at an id, 0 if there is no wait
 abbrev pub wait_at : List Duration → Option ℕ → ℕ
 wait_at waits id = option_map_or as_nanos (option_and_then (λ i. slice_get waits i) id) 0

@@ -1,9 +1,9 @@
-//! Bulkheads by name: one instance of each name for all who ask, made at the first asking by a
-//! named configuration (after Resilience4j's `BulkheadRegistry`; user guide, chapter Bulkhead).
+//! Bulkheads by name: one instance of each name for all callers, made at the first request by a named
+//! configuration (modelled on Resilience4j's `BulkheadRegistry`; user guide, chapter Bulkhead).
 //!
-//! Threads share a registry by `&` and look names up in it: two that ask for one name ask the same
-//! permits. Where threads also make bulkheads, the registry lies in a `Mutex`. `Neighbours` has the
-//! bulkheads that a text in TOML names, with the wait for a permit of each.
+//! Threads share a registry by `&` and look names up in it: two threads that look up one name get
+//! the same permits. If threads also make bulkheads, put the registry in a `Mutex`. `Neighbours`
+//! has the bulkheads that a TOML text names, with the wait for a permit of each.
 #![tactic(auto)]
 
 mod neighbours;

@@ -19,7 +19,7 @@ use std::alloc::Global;
 use std::time::Duration;
 use toml::Table;
 
-/// The bulkheads of a service's neighbours by name, and how long a call waits for a permit of each.
+/// The bulkheads of a service's dependencies by name, and how long a call waits for a permit of each.
 ///
 /// ```
 /// let neighbours = Neighbours::from_toml(alloc, text)?;
@@ -37,15 +37,15 @@ pub struct Neighbours {
 }
 
 impl Neighbours {
-    /// The bulkheads that a text names: `[permits]` has configurations, each a name and a number of
-    /// permits from 0 to 65,535, beside `default`, of 25; each `[[bulkhead]]` has a `name`, and may
-    /// have a `config` and a `wait`, the longest wait for a permit in milliseconds.
+    /// Makes the bulkheads that a text names: `[permits]` has configurations, each a name and a
+    /// number of permits from 0 to 65,535, beside `default`, which is 25; each `[[bulkhead]]` has a
+    /// `name`, and may have a `config` and a `wait`, the longest wait for a permit in milliseconds.
     ///
     /// # Errors
     ///
     /// The first in this order, each with its place: `BadToml` with its line; `UnknownKey` of the
-    /// whole text; of `permits` `BadValue`, `BadName`, `ReservedName`; `BadValue` where `bulkhead`
-    /// isn't an array of tables; then of each bulkhead in turn `UnknownKey`, `MissingKey`,
+    /// whole text; of `permits` `BadValue`, `BadName`, `ReservedName`; `BadValue` if `bulkhead`
+    /// isn't an array of tables; then for each bulkhead in turn `UnknownKey`, `MissingKey`,
     /// `BadValue`, `SameName`, `BadName`, `NoSuchConfig`. `Memory` may come at any step.
     ///
     /// ```
@@ -65,7 +65,7 @@ impl Neighbours {
         Ok(neighbours)
     }
 
-    /// The bulkhead with that name, if there is one, and the longest wait for a permit of it.
+    /// Returns the bulkhead with that name, if there is one, and the longest wait for a permit of it.
     pub fn find(&self, name: &str) -> Option<(&Bulkhead, Duration)>
         ensures none { IfNone result (bulkhead_of self.now.registry name.now ≡ None) }
         ensures some { IfSome result (λ found. bulkhead_of self.now.registry name.now ≡ Some found.0.now) }
@@ -88,8 +88,7 @@ impl Neighbours {
         }
     }
 
-    // Adds the bulkheads of these tables. Errors: those of the first that is refused, with its
-    // number.
+    // Adds the bulkheads of these tables. Errors: those of the first table that is refused, with its number.
     fn add_all(&mut self, alloc: Global, tables: &[&Table]) -> Result<(), TextError>
         requires bulkheads { self.old.registry.bulkheads ≡ [] }
         requires waits { self.old.waits.items ≡ [] }

@@ -1,9 +1,8 @@
 //! The registry.
 //!
-//! The names and configurations lie in a registry of numbers of permits, and the bulkhead of each
-//! instance beside it, at the instance's id. A bulkhead is added before its name is, and taken out
-//! again where there is no memory for the name: so a call that answers an error leaves all as it
-//! was.
+//! The names and configurations are in a registry of numbers of permits, and the bulkhead of each
+//! instance is stored at the instance's id. A bulkhead is added before its name is, and removed again
+//! if there is no memory for the name: so a call that returns an error leaves everything as it was.
 
 ghost use Rattle.std.specs.Prelude.{◌≡◌, ◌≢◌, ◌⊎◌, ℕ, ◌<◌, ◌∷◌, [], length, map, slice_get, Some, None, IsSome, IfOk, IfErr, IfSome, IfNone, OnOk, OnErr, IsErrOf, ◌↔◌};
 ghost use Rattle.std.specs.Arc.{arc_value};
@@ -45,12 +44,12 @@ impl Model for BulkheadRegistry {
 }
 
 impl BulkheadRegistry {
-    /// A registry without bulkheads, by whose configuration `default` a bulkhead permits at most
-    /// `max` calls at once, 0 to 65,535.
+    /// Makes a registry without bulkheads. By its configuration `default` a bulkhead permits at
+    /// most `max` concurrent calls, 0 to 65,535.
     ///
     /// # Errors
     ///
-    /// `Memory` when out of memory.
+    /// `Memory` if out of memory.
     pub fn new(alloc: Global, max: u16) -> Result<BulkheadRegistry, RegistryError>
         ensures made { IfOk result (λ r. r ≡ record { lists = record { configurations = (default_name, max) ∷ []; instances = [] }; bulkheads = [] }) }
         ensures refused { IfErr result (λ refused. refused ≡ RegistryError.Memory) }
@@ -76,13 +75,13 @@ impl BulkheadRegistry {
         }
     }
 
-    /// Adds a configuration, by which a bulkhead permits at most `max` calls at once, 0 to 65,535.
+    /// Adds a configuration by which a bulkhead permits at most `max` concurrent calls, 0 to 65,535.
     ///
     /// # Errors
     ///
-    /// In this order, with nothing changed: `BadName` where the name isn't 1 to 64 bytes of ASCII
-    /// letters, digits, `-`, `_` and `.`; `ReservedName` where it is `default`; `NameTaken` where a
-    /// configuration has that name; `Memory` when out of memory.
+    /// In this order, with nothing changed: `BadName` if the name isn't 1 to 64 bytes of ASCII
+    /// letters, digits, `-`, `_` and `.`; `ReservedName` if it is `default`; `NameTaken` if a
+    /// configuration has that name; `Memory` if out of memory.
     pub fn add_config(&mut self, name: &str, max: u16) -> Result<(), RegistryError>
         ensures added { OnOk result (self.new.lists ≡ with_config self.old.lists name.now max) }
         ensures kept { self.new.bulkheads ≡ self.old.bulkheads }
@@ -95,7 +94,7 @@ impl BulkheadRegistry {
         }
     }
 
-    /// The place of the bulkhead with that name among all of them, if there is one.
+    /// Returns the index of the bulkhead with that name among all of them, if there is one.
     ///
     /// ```
     /// let first = registry.id("prices");
@@ -106,8 +105,8 @@ impl BulkheadRegistry {
         self.names.find(name)
     }
 
-    /// The bulkhead with that name, if there is one. None is made, so threads that share the
-    /// registry by `&` need no lock.
+    /// Returns the bulkhead with that name, if there is one. It makes none, so threads that share
+    /// the registry by `&` need no lock.
     ///
     /// ```
     /// if let Some(prices) = registry.find("prices") {
@@ -123,7 +122,7 @@ impl BulkheadRegistry {
         Some(&**bulkhead)
     }
 
-    /// All bulkheads, in the order in which they were made.
+    /// Returns all bulkheads, in the order in which they were made.
     ///
     /// ```
     /// for bulkhead in registry.bulkheads() {
@@ -136,13 +135,13 @@ impl BulkheadRegistry {
         self.bulkheads.as_slice()
     }
 
-    /// The one bulkhead with that name. Where there is none, one is made with the configuration
-    /// `default`.
+    /// Returns the one bulkhead with that name, made with the configuration `default` if there is
+    /// none.
     ///
     /// # Errors
     ///
-    /// In this order, with nothing changed: `BadName` where the name isn't 1 to 64 bytes of ASCII
-    /// letters, digits, `-`, `_` and `.`; `Memory` when out of memory.
+    /// In this order, with nothing changed: `BadName` if the name isn't 1 to 64 bytes of ASCII
+    /// letters, digits, `-`, `_` and `.`; `Memory` if out of memory.
     ///
     /// ```
     /// let prices = registry.bulkhead(alloc, "prices")?;
@@ -160,14 +159,14 @@ impl BulkheadRegistry {
         self.bulkhead_with(alloc, name, DEFAULT_CONFIG)
     }
 
-    /// The one bulkhead with that name. Where there is none, one is made with the named
-    /// configuration; where there is one, that configuration isn't looked up.
+    /// Returns the one bulkhead with that name, made with the named configuration if there is none.
+    /// If there is one, that configuration isn't looked up.
     ///
     /// # Errors
     ///
-    /// In this order, with nothing changed: `BadName` where the bulkhead's name isn't 1 to 64 bytes
-    /// of ASCII letters, digits, `-`, `_` and `.`; `NoSuchConfig` where no configuration has the
-    /// other name; `Memory` when out of memory.
+    /// In this order, with nothing changed: `BadName` if the bulkhead's name isn't 1 to 64 bytes of
+    /// ASCII letters, digits, `-`, `_` and `.`; `NoSuchConfig` if no configuration has the other
+    /// name; `Memory` if out of memory.
     pub fn bulkhead_with(
         &mut self,
         alloc: Global,
@@ -239,7 +238,7 @@ impl BulkheadRegistry {
     }
 }
 
-// A bulkhead that permits this many calls at once. Errors: `BadName`, `Memory`.
+// A bulkhead that permits this many concurrent calls. Errors: `BadName`, `Memory`.
 fn make(alloc: Global, name: &str, max: u16) -> Result<Arc<Bulkhead>, RegistryError>
     ensures name { IfOk result (λ b. (arc_value b).name ≡ name.now) }
     ensures max { IfOk result (λ b. (arc_value b).permits.max ≡ max) }

@@ -1,6 +1,7 @@
 -- What contracts see of a pool for C: its book. Which histories it may stand for, what each call does to it, and its numbers.
 use Rattle.std.specs.Prelude.{ℕ, ◌≡◌, ◌≤◌, ◌+◌, ◌-◌, ◌^◌, ◌==◌, ◌&&◌, ◌++◌, ◌∷◌, [], not, suc, min, Bool, List, Some, None, Result, Ok, Err, length, filter, slice_get, nat_lt, if◌then◌else◌}
-use Rattle.resil_rule.specs.Limits.{Sizes, AreLimits, IsCore, IsMax, IsQueue}
+use Rattle.resil_rule.specs.Limits.{Sizes, IsQueue}
+use Rattle.resil_rule.specs.Sizes.{AreSizes, IsWideCore, IsWideMax}
 use Rattle.resil_rule.specs.History.{accepted, finished, workers, running, waiting, is_closed, core_size, max_size}
 use Rattle.resil_rule.specs.Admission.{IsAllowed}
 use Rattle.resil_rule.specs.RuleView.{RuleView, opened, busy, made_by, next_reply, is_acceptance, with_submission, with_pick, with_take}
@@ -73,11 +74,11 @@ opened_book sizes callers kept = record {
 
 -- why a book isn't made: the first range that is broken, or memory where none is
 abbrev pub IsOpenRefusal : Sizes → ℕ → OpenError → Type 0
-IsOpenRefusal sizes callers opening.CoreRange = ¬ IsCore sizes.core
-IsOpenRefusal sizes callers opening.MaxRange = IsCore sizes.core × ¬ IsMax sizes.core sizes.max
-IsOpenRefusal sizes callers opening.QueueRange = IsCore sizes.core × IsMax sizes.core sizes.max × ¬ IsQueue sizes.queue
-IsOpenRefusal sizes callers opening.CallersRange = AreLimits sizes × ¬ AreCallers callers
-IsOpenRefusal sizes callers opening.Memory = AreLimits sizes × AreCallers callers
+IsOpenRefusal sizes callers opening.CoreRange = ¬ IsWideCore sizes.core
+IsOpenRefusal sizes callers opening.MaxRange = IsWideCore sizes.core × ¬ IsWideMax sizes.core sizes.max
+IsOpenRefusal sizes callers opening.QueueRange = IsWideCore sizes.core × IsWideMax sizes.core sizes.max × ¬ IsQueue sizes.queue
+IsOpenRefusal sizes callers opening.CallersRange = AreSizes sizes × ¬ AreCallers callers
+IsOpenRefusal sizes callers opening.Memory = AreSizes sizes × AreCallers callers
 
 -- whether the number is that of a caller: they are counted from 1
 abbrev pub has_caller : BookView → ℕ → Bool

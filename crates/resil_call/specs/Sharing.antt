@@ -1,4 +1,4 @@
--- What a retry does whose calls use what pauses between them: one value is changed by the calls and by the pauses.
+-- What a retry does if its calls use the value that pauses between them: both the calls and the pauses change that one value.
 use Rattle.std.specs.Prelude.{ℕ, zero, suc, ◌≡◌, ◌+◌, ◌≤◌, Bool, true, List}
 use Rattle.std.specs.Borrow.{MutBor}
 use Rattle.std.specs.List.{FoldsTo}
@@ -6,11 +6,11 @@ use Rattle.resil_call.specs.declared.tried.Tried.{Tried}
 use Rattle.resil_call.specs.Limit.{Unlimited}
 use Rattle.resil_call.specs.Retry.{HasEnded, LeavesLimit}
 
--- a call may be made at a `&mut` to the value
+-- a call may be made on a `&mut` to the value
 abbrev pub CanCallAt : {S : Type 0} → (MutBor S → Type 0) → S → Type 0
 CanCallAt {S} Pre s = (lent : MutBor S) → lent.now ≡ s → Pre lent
 
--- a call at a `&mut` to the value may give this answer, and leave the value so
+-- a call on a `&mut` to the value may return this answer and leave the value as `next`
 pub record IsAnswerAt {T S : Type 0} (Post : MutBor S → T → MutBor S → Type 0) (s : S) (answer : T) (next : S) : Type 0 where
   pub lent : MutBor S
   pub shows : lent.now ≡ s
@@ -25,7 +25,7 @@ pub record RoundSharing (S L : Type 0) : Type 0 where
   pub limit : L
 
 module _ {T S : Type 0} (CanCall : S → Type 0) (IsAnswer : S → T → S → Type 0) (HasRoom : S → ℕ → Type 0) (IsPaused : S → ℕ → S → Type 0) where
-  -- so many attempts can be made, whatever is answered, with a pause after each but the last
+  -- this number of attempts can be made, whatever is answered, with a pause after each but the last
   unfoldable pub CanTry : ℕ → S → Type 0
   CanTry zero s = Unit {0}
   CanTry (suc left) s =
@@ -34,7 +34,7 @@ module _ {T S : Type 0} (CanCall : S → Type 0) (IsAnswer : S → T → S → T
       → ((more : ℕ) × HasRoom next (1 + more)) × ((wait : ℕ) (later : S) → IsPaused next wait later → CanTry left later))
 
 module _ {T S L : Type 0} (IsAnswer : S → T → S → Type 0) (IsVerdict : T → Bool → Type 0) (IsWait : ℕ → T → ℕ → Type 0) (IsPaused : S → ℕ → S → Type 0) (IsAllowed : L → ℕ → Bool → L → Type 0) where
-  -- one attempt, whose answer is to be tried again, and then the wait of this attempt, which the limit allowed
+  -- one attempt, whose answer is to be tried again, then the wait of this attempt, which the limit allowed
   pub record IsTriedAgainSharing (x : RoundSharing S L) (answer : T) (y : RoundSharing S L) : Type 0 where
     pub between : S
     pub called : IsAnswer x.shared answer between
@@ -45,7 +45,7 @@ module _ {T S L : Type 0} (IsAnswer : S → T → S → Type 0) (IsVerdict : T �
     pub paused : IsPaused between wait y.shared
     pub next : y.attempt ≡ x.attempt + 1
 
-  -- attempts whose answers are to be tried again, one after the other, and the last attempt, after which there is no wait
+  -- attempts whose answers are to be tried again, one after the other, then the last attempt, which no wait follows
   pub record IsRetriedSharingWithin (max : ℕ) (old new : S) (limit rest : L) (tried : Tried T) : Type 0 where
     pub before : List T
     pub last : RoundSharing S L
@@ -56,7 +56,7 @@ module _ {T S L : Type 0} (IsAnswer : S → T → S → Type 0) (IsVerdict : T �
     pub ended : HasEnded IsVerdict max tried tried.end
     pub left : LeavesLimit IsWait IsAllowed tried last.limit rest tried.end
 
--- the same without a limit, where a wait is known by the attempt alone
+-- the same without a limit, where the wait follows from the attempt alone
 abbrev pub IsRetriedSharing : {T S : Type 0} → (S → T → S → Type 0) → (T → Bool → Type 0) → (ℕ → ℕ → Type 0) → (S → ℕ → S → Type 0) → ℕ → S → S → Tried T → Type 0
 IsRetriedSharing IsAnswer IsVerdict IsWait IsPaused max old new tried =
     IsRetriedSharingWithin IsAnswer IsVerdict (λ attempt _ wait. IsWait attempt wait) IsPaused Unlimited max old new (record {}) (record {}) tried

@@ -13,20 +13,20 @@ ghost use Rattle.std.specs.Prelude.{ℕ, ◌≤◌, ◌<◌, ◌-◌};
 /// }
 /// ```
 pub trait Backoff {
-    /// It can be asked.
+    /// It can give a wait.
     ghost CanAsk: { Self → Type 0 } = { λ _. Unit {0} };
 
-    /// After this attempt it may say this wait, in milliseconds.
+    /// After this attempt the wait may be this number of milliseconds.
     ghost IsWait: { Self → ℕ → ℕ → Type 0 } = { λ _ _ _. Unit {0} };
 
-    /// The wait after an attempt, in milliseconds. Attempts are numbered from 1.
+    /// Returns the wait after an attempt, in milliseconds. Attempts are numbered from 1.
     fn after(&self, attempt: u32) -> u64
         requires can { CanAsk self.now }
         requires numbered { 1 ≤ attempt }
         ensures { IsWait self.now attempt result };
 
-    /// The same, where the wait after the attempt before is known: `last`, or any number where this
-    /// is attempt 1. A backoff whose waits grow from one another needn't count from the first.
+    /// Like `after`, if the wait after the previous attempt is known: `last`. For attempt 1 `last`
+    /// may be any number. A backoff whose waits grow from one another needn't count from the first.
     fn next(&self, attempt: u32, last: u64) -> u64
         requires can { CanAsk self.now }
         requires numbered { 1 ≤ attempt }
@@ -52,7 +52,7 @@ impl Backoff for SameWait {
     }
 }
 
-/// The waits by a closure of the attempt's number.
+/// The wait that a closure returns for the attempt's number.
 #[derive(Drop)]
 pub struct ByAttempt<F>(pub F);
 

@@ -1,11 +1,11 @@
-//! Backoffs that see the answer.
+//! Backoffs that may look at the answer.
 
 ghost use Rattle.std.specs.Prelude.{ℕ, ◌≤◌, ◌<◌, ◌-◌};
 
 use crate::backoff::Backoff;
 
 /// The wait after an attempt and its answer (Resilience4j user guide, Retry: `intervalBiFunction`).
-/// Every `Backoff` is one that doesn't look at the answer.
+/// Every `Backoff` is also one of these. It ignores the answer.
 ///
 /// ```
 /// impl BackoffFor<Result<u32, Refusal>> for AsTold {
@@ -18,17 +18,17 @@ use crate::backoff::Backoff;
 /// }
 /// ```
 pub trait BackoffFor<T> {
-    /// It can be asked.
+    /// It can give a wait.
     ghost CanAsk: { Self → Type 0 } = { λ _. Unit {0} };
 
-    /// After this attempt and this answer it may say this wait, in milliseconds.
+    /// After this attempt and this answer the wait may be this number of milliseconds.
     ghost IsWaitFor: { Self → ℕ → T → ℕ → Type 0 } = { λ _ _ _ _. Unit {0} };
 
-    /// It may have said this wait after this attempt.
+    /// It may have returned this wait after this attempt.
     ghost HasSaid: { Self → ℕ → ℕ → Type 0 } = { λ _ _ _. Unit {0} };
 
-    /// The wait after an attempt and its answer, in milliseconds. Attempts are numbered from 1; `last`
-    /// is the wait after the attempt before, or any number where this is attempt 1.
+    /// Returns the wait after an attempt and its answer, in milliseconds. Attempts are numbered from
+    /// 1; `last` is the wait after the previous attempt, or any number for attempt 1.
     fn next_for(&self, attempt: u32, last: u64, answer: &T) -> u64
         requires can { CanAsk self.now }
         requires numbered { 1 ≤ attempt }
@@ -49,7 +49,7 @@ impl<T, B: Backoff> BackoffFor<T> for B {
     }
 }
 
-/// The waits by a closure of the attempt's number and its answer.
+/// The wait that a closure returns for the attempt's number and its answer.
 ///
 /// ```
 /// let backoff = ByAnswer(|attempt: u32, answer: &Result<u32, u64>| match answer {

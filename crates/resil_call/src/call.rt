@@ -1,7 +1,6 @@
-//! Calls: functions that can be called again and again.
+//! Calls: functions that can be called repeatedly.
 
-/// A function that can be called again and again. It says of its answers what it can, and needn't
-/// say anything.
+/// A function that can be called repeatedly. It can promise something of its answers, but needn't.
 ///
 /// ```
 /// impl Call for Flaky {
@@ -11,16 +10,16 @@
 /// }
 /// ```
 pub trait Call {
-    /// What a call answers.
+    /// What a call returns.
     type Output: Drop;
 
     /// It can be called.
     ghost CanCall: { Self → Type 0 } = { λ _. Unit {0} };
 
-    /// A call may give this answer, and leave the function so.
+    /// A call may return this answer and leave the function in this state.
     ghost IsAnswer: { Self → Self.Output → Self → Type 0 } = { λ _ _ _. Unit {0} };
 
-    /// Calls the function once. It can be called again after.
+    /// Calls the function once. It can be called again afterwards.
     ///
     /// ```
     /// let six: u8 = 6;
@@ -33,7 +32,7 @@ pub trait Call {
         ensures can { CanCall self.new };
 }
 
-/// A closure as a call. Whoever calls it learns what is known of the closure's result.
+/// A closure as a call. Its caller learns what is known of the closure's result.
 #[derive(Drop)]
 pub struct FromFn<F>(pub F);
 

@@ -1,12 +1,12 @@
-//! Functions of one's own: what a call is, which answers are tried again, what waits between
-//! attempts, how long they may wait together, and the one retry loop over these (after
+//! Your own functions, retried: what a call is, which answers are tried again, how to wait between
+//! attempts, how long all waits together may be, and the one retry loop over these (modelled on
 //! Resilience4j's module retry; user guide, chapter Retry).
 //!
-//! A function says of its answers what it can, and needn't say anything; so do a backoff, a test
-//! of answers, a pause and a limit. What a retry does with them is defined by `IsRetriedWithin` in
-//! `specs/Retry.antt`: it names the answers that came, why no more came, the wait after each
-//! attempt but the last, and what the limit said of it; `IsRetried` is the case without a limit.
-//! A layer around a call is itself a call, so layers are stacked.
+//! A function can promise something of its answers, but needn't. The same goes for a backoff, a
+//! test of answers, a pause and a limit. `IsRetriedWithin` in `specs/Retry.antt` defines what a
+//! retry does with them: which answers came, why it ended, the wait after each attempt but the
+//! last, and what the limit said of it. `IsRetried` is the case without a limit. A layer around a
+//! call is a call itself, so layers can be stacked.
 #![tactic(auto)]
 
 mod backoff;

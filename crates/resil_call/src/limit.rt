@@ -1,12 +1,13 @@
-//! Limits of all waits of a retry together.
+//! Limits on the sum of all waits of a retry.
 
-ghost use Rattle.std.specs.Prelude.{ℕ, Bool, IsTrue, ◌≡◌, ◌+◌, ◌*◌, ◌≤◌, ◌↔◌};
+ghost use Rattle.std.specs.Prelude.{ℕ, Bool, None, IsTrue, ◌≡◌, ◌+◌, ◌*◌, ◌≤◌, ◌↔◌};
 ghost use Rattle.std.specs.Duration.{as_nanos};
-ghost use Rattle.resil_call.specs.Limit.{Unlimited, IsSpent};
+ghost use Rattle.resil_call.specs.Limit.{Unlimited, IsSpent, IsInTime};
 
-use std::time::{Clock, Duration, Instant};
+use resil_clock::Reads;
+use std::time::{Duration, Instant};
 
-/// What says before each wait of a retry whether it may begin.
+/// Decides before each wait of a retry whether it may begin.
 ///
 /// ```
 /// let mut limit = WaitBudget(10_000);
@@ -14,10 +15,10 @@ use std::time::{Clock, Duration, Instant};
 /// assert!(rt; !limit.allows(1));
 /// ```
 pub trait WaitLimit {
-    /// Of a wait of that many milliseconds it may say this, and be left so.
+    /// It may give this answer for a wait of this number of milliseconds, and be left in this state.
     ghost IsAllowed: { Self → ℕ → Bool → Self → Type 0 } = { λ _ _ _ _. Unit {0} };
 
-    /// Whether a wait of that many milliseconds may begin.
+    /// Returns whether a wait of this number of milliseconds may begin.
     fn allows(&mut self, milliseconds: u64) -> bool
         ensures { IsAllowed self.old milliseconds result self.new };
 }
@@ -34,7 +35,7 @@ impl WaitLimit for NoLimit {
     }
 }
 
-/// A budget: all waits together take at most that many milliseconds.
+/// A budget: all waits together take at most this number of milliseconds.
 #[derive(Clone, Copy, PartialEq, Eq, Debug)]
 pub struct WaitBudget(pub u64);
 
@@ -52,33 +53,35 @@ impl WaitLimit for WaitBudget {
     }
 }
 
-/// A deadline: no wait begins that would end past it, by a clock. A clock that can't be read allows
-/// none. Nothing is said of the time itself.
+/// A deadline: no wait begins that would end after it, by a clock. If the clock can't be read, no
+/// wait is allowed.
 ///
 /// ```
 /// let mut limit = Deadline::after(&rt, Duration::from_secs(2));
 /// let tried = retry_within(&policy, &mut limit, &mut call, &mut Sleep::new(&rt));
 /// ```
 #[derive(Drop)]
-pub struct Deadline<'a, R: Clock> {
+pub struct Deadline<'a, R: Reads> {
     clock: &'a R,
     start: Option<Instant>,
     length: Duration,
 }
 
-impl<'a, R: Clock> Deadline<'a, R> {
-    /// So long from now.
+impl<'a, R: Reads> Deadline<'a, R> {
+    /// Makes a deadline that is `length` from now.
     pub fn after(clock: &'a R, length: Duration) -> Deadline<'a, R>
-        ensures { result.length ≡ length }
+        ensures clock { result.clock.now ≡ clock.now }
+        ensures length { result.length ≡ length }
+        ensures read { R.HasSaid clock.now None result.start }
     {
         Deadline {
             clock,
-            start: Instant::now(clock).ok(),
+            start: clock.read(None),
             length,
         }
     }
 
-    // Whether a wait of that many milliseconds ends in time, where so much is spent.
+    // Whether a wait of this number of milliseconds ends in time if `spent` has passed already.
     fn fits(&self, spent: Duration, milliseconds: u64) -> bool
         ensures { IsTrue result ↔ (as_nanos spent + milliseconds * 1000000 ≤ as_nanos self.now.length) }
     {
@@ -87,20 +90,18 @@ impl<'a, R: Clock> Deadline<'a, R> {
             None => false,
         }
     }
-
-    // How long it is since the start, where the clock can be read.
-    fn spent(&self) -> Option<Duration> {
-        self.start?.elapsed(self.clock).ok()
-    }
 }
 
-impl<R: Clock> WaitLimit for Deadline<'_, R> {
-    // A wait that is longer than the whole is never allowed.
-    ghost IsAllowed = { λ x milliseconds allowed y. (y ≡ x) × (IsTrue allowed → milliseconds * 1000000 ≤ as_nanos x.length) };
+impl<R: Reads> WaitLimit for Deadline<'_, R> {
+    // The clock is read once, and a wait may begin exactly if it ends in time by that reading.
+    ghost IsAllowed = { λ x milliseconds allowed y. (y ≡ x) × IsInTime (R.HasSaid x.clock.now) (as_nanos x.length) x.start milliseconds allowed };
 
     fn allows(&mut self, milliseconds: u64) -> bool {
-        match self.spent() {
-            Some(spent) => self.fits(spent, milliseconds),
+        let Some(start) = self.start else {
+            return false;
+        };
+        match self.clock.read(self.start) {
+            Some(now) => self.fits(now.duration_since(start), milliseconds),
             None => false,
         }
     }

@@ -5,7 +5,7 @@ ghost use Rattle.std.specs.Prelude.{ℕ, ◌+◌};
 use std::thread;
 use std::time::{Clock, Duration};
 
-/// What waits between the attempts of a retry, or keeps the waits.
+/// Pauses between the attempts of a retry, or records the waits.
 ///
 /// ```
 /// impl Pause for Stopwatch {
@@ -15,27 +15,27 @@ use std::time::{Clock, Duration};
 /// }
 /// ```
 pub trait Pause {
-    /// It can pause that many more times.
+    /// It can pause this many more times.
     ghost HasRoom: { Self → ℕ → Type 0 } = { λ _ _. Unit {0} };
 
-    /// A pause of that many milliseconds may leave it so.
+    /// A pause of this number of milliseconds may leave it in this state.
     ghost IsPaused: { Self → ℕ → Self → Type 0 } = { λ _ _ _. Unit {0} };
 
-    /// Pauses for that many milliseconds.
+    /// Pauses for this number of milliseconds.
     fn pause(&mut self, milliseconds: u64)
         requires { (more : ℕ) × HasRoom self.old (1 + more) }
         ensures paused { IsPaused self.old milliseconds self.new }
         ensures room { (more : ℕ) → HasRoom self.old (1 + more) → HasRoom self.new more };
 }
 
-/// Sleeps for each pause, by a clock. Nothing is said of how long it took.
+/// Sleeps for each pause, by a clock. No contract says how long it really took.
 #[derive(Drop)]
 pub struct Sleep<'a, R: Clock> {
     clock: &'a R,
 }
 
 impl<'a, R: Clock> Sleep<'a, R> {
-    /// Sleeps by this clock.
+    /// Returns a pause that sleeps by this clock.
     pub fn new(clock: &'a R) -> Sleep<'a, R> {
         Sleep { clock }
     }
@@ -55,7 +55,7 @@ impl Pause for NoPause {
     fn pause(&mut self, _milliseconds: u64) {}
 }
 
-/// Pauses by a closure of the milliseconds.
+/// Pauses by calling a closure with the milliseconds.
 ///
 /// ```
 /// let pause = PauseBy(|milliseconds| waited = waited.saturating_add(milliseconds));

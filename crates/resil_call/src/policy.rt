@@ -1,12 +1,12 @@
-//! How often, after which waits and for which answers a call is tried again.
+//! How many attempts a retry makes, how long it waits after each, and which answers it tries again.
 
 ghost use Rattle.std.specs.Prelude.{◌≡◌};
 
 use crate::backoff::SameWait;
 use crate::retry_test::EveryError;
 
-/// How often, after which waits and for which answers a call is tried again (Resilience4j user
-/// guide, Retry: `RetryConfig`).
+/// How many attempts a retry makes, how long it waits after each, and which answers it tries again
+/// (Resilience4j user guide, Retry: `RetryConfig`).
 ///
 /// ```
 /// let policy = RetryPolicy {
@@ -17,7 +17,7 @@ use crate::retry_test::EveryError;
 /// ```
 #[derive(Debug, Drop)]
 pub struct RetryPolicy<B, A> {
-    /// The greatest number of attempts, the first call included: 1 or more.
+    /// The maximum number of attempts, the first call included: 1 or more.
     pub max_attempts: u32,
     /// The wait after each attempt.
     pub backoff: B,
@@ -26,7 +26,7 @@ pub struct RetryPolicy<B, A> {
 }
 
 impl RetryPolicy<SameWait, EveryError> {
-    /// Resilience4j's defaults: 3 attempts, 500 ms after each, every error is tried again.
+    /// Returns Resilience4j's defaults: 3 attempts, 500 ms after each, and every error is tried again.
     ///
     /// ```
     /// let tried = retry(&RetryPolicy::defaults(), &mut call, &mut Sleep::new(&rt));

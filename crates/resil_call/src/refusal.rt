@@ -2,7 +2,7 @@
 
 ghost use Rattle.std.specs.Prelude.{Bool};
 
-/// An answer that can be such a refusal: a `Result` whose error has `From` of it.
+/// An answer that can be such a refusal: a `Result` whose error type implements `From` of it.
 ///
 /// ```
 /// impl From<Refusal> for PriceError {
@@ -13,7 +13,7 @@ pub trait CanBeRefused<N> {}
 
 impl<T, N, E: From<N>> CanBeRefused<N> for Result<T, E> {}
 
-/// An error that tells whether it is a refusal: the call wasn't made, as where there is no permit.
+/// An error that says whether it is a refusal: the call wasn't made, for example because no permit was free.
 ///
 /// ```
 /// impl TellsRefusal for PriceError {
@@ -26,7 +26,7 @@ pub trait TellsRefusal {
     /// It may say so of itself.
     ghost IsRefusal: { Self → Bool → Type 0 } = { λ _ _. Unit {0} };
 
-    /// Whether it is a refusal.
+    /// Returns whether it is a refusal.
     fn is_refusal(&self) -> bool
         ensures { IsRefusal self.now result };
 }

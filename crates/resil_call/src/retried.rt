@@ -11,7 +11,7 @@ use crate::policy::RetryPolicy;
 use crate::retry_loop::retry;
 use crate::retry_test::RetryTest;
 
-/// A call that tries another one again, and answers its last answer (Resilience4j user guide,
+/// A call that retries another one and returns its last answer (Resilience4j user guide,
 /// Decorators: `withRetry`).
 ///
 /// ```
@@ -23,11 +23,11 @@ use crate::retry_test::RetryTest;
 /// ```
 #[derive(Drop)]
 pub struct Retried<'a, B, A, C, P> {
-    /// How often, after which waits and for which answers.
+    /// The policy: how many attempts, after which waits, and for which answers.
     pub policy: &'a RetryPolicy<B, A>,
-    /// What waits between the attempts.
+    /// The pause between the attempts.
     pub pause: P,
-    /// What is tried again.
+    /// The call that is retried.
     pub call: C,
     ghost attempts: { 1 ≤ policy.now.max_attempts },
 }

@@ -1,7 +1,7 @@
 //! The retry loop.
 //!
-//! The first call is attempt 1. After each attempt but the last, an answer that is to be tried
-//! again is followed by the wait of that attempt and by the next attempt, if the limit allows it.
+//! The first call is attempt 1. If the answer of an attempt is to be tried again, and it isn't the last
+//! attempt, the wait of that attempt and the next attempt follow, if the limit allows that wait.
 
 ghost use Rattle.std.specs.Prelude.{ℕ, ◌≡◌, ◌≢◌, ◌≤◌, ◌-◌, ◌+◌};
 ghost use Rattle.resil_call.specs.Retry.{IsRetried, IsRetriedWithin};
@@ -18,9 +18,9 @@ use crate::retry_test::RetryTest;
 use crate::shared::CallAndPause;
 use crate::tried::{End, Tried};
 
-/// Calls until an answer isn't to be tried again or no attempt is left, with the backoff's wait
-/// after each attempt but the last, and answers the last answer, the number of attempts and why no
-/// more were made (Resilience4j user guide, Retry).
+/// Calls until an answer isn't to be tried again or no attempt is left, with the backoff's wait after
+/// each attempt but the last. It returns the last answer, the number of attempts, and why no more were
+/// made (Resilience4j user guide, Retry).
 ///
 /// ```
 /// let mut call = FromFn(|| -> Result<u32, u16> { Err(503) });
@@ -45,9 +45,9 @@ pub fn retry<B: Backoff, A: RetryTest<C::Output>, C: Call, P: Pause>(
     retry_within(policy, &mut NoLimit, call, pause)
 }
 
-/// The same where each wait may also depend on the answer before it, and a limit is asked before
-/// each pause with the whole wait: where it says no, neither the pause nor another attempt is made,
-/// and the last answer is answered at once, with the end `OutOfTime`.
+/// Like `retry`, but each wait may also depend on the answer before it, and before each pause the limit
+/// must allow the whole wait. If it doesn't, there is no pause and no other attempt, and the last answer
+/// is returned at once, with the end `OutOfTime`.
 ///
 /// ```
 /// let tried = retry_within(&policy, &mut WaitBudget(2_000), &mut call, &mut Sleep::new(&rt));
@@ -83,8 +83,8 @@ pub fn retry_within<
     )
 }
 
-/// `retry_within` with a budget of milliseconds, which says besides that all waits together and what
-/// is left are the budget.
+/// `retry_within` with a budget of milliseconds. It also promises that the sum of all waits and what is
+/// left are the budget.
 ///
 /// ```
 /// let mut budget = WaitBudget(2_000);
@@ -109,8 +109,8 @@ pub fn retry_in_budget<B: BackoffFor<C::Output>, A: RetryTest<C::Output>, C: Cal
     retry_within(policy, budget, call, pause)
 }
 
-/// `retry` for calls that use what pauses between them, as those do that record their own waits
-/// where the pauses are recorded: the value is lent to each call and to each pause in turn.
+/// `retry` for calls that use the value that pauses between them, as calls do that record their own
+/// waits where the pauses are recorded: that value is lent to each call and to each pause in turn.
 ///
 /// ```
 /// let tried = retry_sharing(&policy, |log: &mut Log| read_and_note(log), &mut log);

@@ -2,8 +2,8 @@
 
 ghost use Rattle.std.specs.Prelude.{Bool};
 
-/// A test that says which answers are tried again (Resilience4j user guide, Retry:
-/// `retryOnResultPredicate`, `retryOnExceptionPredicate`).
+/// Decides which answers are tried again (Resilience4j user guide, Retry: `retryOnResultPredicate`,
+/// `retryOnExceptionPredicate`).
 ///
 /// ```
 /// impl RetryTest<Answer> for UntilFound {
@@ -13,13 +13,13 @@ ghost use Rattle.std.specs.Prelude.{Bool};
 /// }
 /// ```
 pub trait RetryTest<T> {
-    /// It can be asked.
+    /// It can give a verdict.
     ghost CanAsk: { Self → Type 0 } = { λ _. Unit {0} };
 
-    /// It may say this of an answer.
+    /// It may give this verdict on an answer.
     ghost IsVerdict: { Self → T → Bool → Type 0 } = { λ _ _ _. Unit {0} };
 
-    /// Whether an answer is to be tried again.
+    /// Returns whether an answer is to be tried again.
     ///
     /// ```
     /// let test = RetryIf(|count: &u32| *count < 3);
@@ -31,7 +31,7 @@ pub trait RetryTest<T> {
         ensures { IsVerdict self.now answer.now result };
 }
 
-/// A closure as the test.
+/// A closure as a test.
 #[derive(Drop)]
 pub struct RetryIf<F>(pub F);
 

@@ -1,8 +1,8 @@
-//! A call and what pauses, as one value that both change.
+//! A call and a pause as one value, which both change.
 
 use crate::pause::Pause;
 
-// A call and what pauses, as long as they are lent.
+// A call and a pause, for as long as they are lent.
 #[derive(Drop)]
 pub(crate) struct CallAndPause<'a, C, P> {
     pub(crate) call: &'a mut C,

@@ -1,4 +1,4 @@
-//! What a retry came to.
+//! The outcome of a retry.
 
 /// Why a retry made no more attempts.
 ///
@@ -14,12 +14,12 @@ pub enum End {
     Accepted,
     /// The last answer is to be tried again, and no attempt is left.
     Exhausted,
-    /// The last answer is to be tried again, and the limit doesn't allow the wait before the next
-    /// attempt. A retry without a limit never ends so.
+    /// The last answer is to be tried again, but the limit doesn't allow the wait before the next
+    /// attempt. A retry without a limit never ends this way.
     OutOfTime,
 }
 
-/// What a retry came to.
+/// The outcome of a retry.
 ///
 /// ```
 /// let tried = retry(&policy, &mut call, &mut NoPause);

@@ -8,7 +8,7 @@ use Rattle.resil_heads.specs.Document.{Keys, document_of}
 use Rattle.resil_heads.specs.declared.error.HeadError.{HeadError}
 use Rattle.resil_heads.specs.Layers.{parse_chain, build_chain}
 
--- the keys of a head of `chain`, of which none is required
+-- the keys of a head of `chain`. None is required
 abbrev pub chain_keys : Keys
 chain_keys = record { known = codes "permits" ∷ codes "layer" ∷ []; required = [] }
 

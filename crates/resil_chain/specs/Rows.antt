@@ -14,11 +14,11 @@ pub record ChainRowView : Type 0 where
   pub script : List Outcome
   pub grants : List Bool
 
--- the answer of which a byte is the letter: `y` (121) grants a permit, `n` (110) doesn't
+-- the answer that a byte is the letter of: `y` (121) grants a permit, `n` (110) doesn't
 abbrev pub parse_grant : ℕ → Option Bool
 parse_grant letter = if letter == 121 then Some true else if letter == 110 then Some false else None
 
--- the answers that letters are read as, any number of them
+-- the answers that any number of letters are read as
 abbrev pub parse_grants : List ℕ → Option (List Bool)
 parse_grants letters = all_some (map parse_grant letters)
 

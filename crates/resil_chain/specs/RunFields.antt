@@ -1,4 +1,4 @@
--- The fields of a run: its outcome, its calls, its waits, and the bulkheads that it asked for a permit, with their answers.
+-- The fields of a run: its outcome, its calls, its waits, and its questions to bulkheads, with their answers.
 use Rattle.std.specs.Prelude.{ℕ, ◌∷◌, ◌++◌, [], Bool, true, false, List, codes, map}
 use Rattle.std.specs.Fmt.{decimal}
 use Rattle.std.specs.List.{join_with_byte}
@@ -6,7 +6,7 @@ use Rattle.resil_decor.specs.declared.permitter.Asked.{Asked}
 use Rattle.resil_decor.specs.Run.{RunView}
 use Rattle.resil_input.specs.OutcomeText.{outcome_text}
 
--- items with semicolons (59) between them, empty where there are none
+-- items with semicolons (59) between them; empty if there are none
 abbrev pub items_text : List (List ℕ) → List ℕ
 items_text items = join_with_byte 59 items
 
@@ -14,16 +14,16 @@ items_text items = join_with_byte 59 items
 abbrev pub waits_text : List ℕ → List ℕ
 waits_text waits = items_text (map decimal waits)
 
--- the answer of a bulkhead: `y` where it granted a permit
+-- the answer of a bulkhead: `y` if it granted a permit
 abbrev pub answer_letter : Bool → List ℕ
 answer_letter true = codes "y"
 answer_letter false = codes "n"
 
--- the id of a bulkhead that was asked for a permit, and its answer
+-- the id of a bulkhead that a permit was requested from, and its answer
 abbrev pub asked_item : Asked → List ℕ
 asked_item asked = decimal asked.id ++ answer_letter asked.granted
 
--- the bulkheads that were asked for a permit, in the order of asking
+-- the questions to bulkheads, in the order of asking
 abbrev pub asked_text : List Asked → List ℕ
 asked_text asked = items_text (map asked_item asked)
 

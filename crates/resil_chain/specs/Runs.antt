@@ -15,9 +15,9 @@ chain_text_header = codes "outcome" ∷ codes "calls" ∷ codes "waits" ∷ code
 abbrev pub chain_text : List RunView → List ℕ
 chain_text runs = table_text (chain_text_header ∷ map run_fields runs)
 
--- A run of a row: its plan is the layers around a function with the row's script, and it is a value of that plan. Whichever
--- bulkheads were asked for a permit, their answers are the first of the row's grants, in the order of asking, and after the
--- last of these grants the answer is no.
+-- A run of a row: its plan is the layers around a function with the row's script, and it is a value of that plan. The
+-- answers of its bulkheads, in the order of asking, are the first of the row's grants, whichever the bulkheads are; after
+-- the last of these grants the answer is no.
 pub record IsRunOf (layers : List Layer) (row : ChainRowView) (run : RunView) : Type 0 where
   pub plan : run.plan ≡ record { layers = layers; script = row.script }
   pub value : IsValue run

@@ -1,5 +1,5 @@
--- Heads of a `chain` worked by hand, to read the definitions against: what a head says, or the one error that is named for it.
--- Each is a TOML text. Where a head has several faults, the line above it tells which of them decides.
+-- Heads of a `chain` worked by hand, to read the definitions against: what a head says, or the one error that is reported for
+-- it. Each is a TOML text. If a head has several faults, the line above it says which of them decides.
 use Rattle.std.specs.Prelude.{ℕ, ◌≡◌, pos, false, [], ◌∷◌, Ok, Err, codes}
 use Rattle.resil_decor.specs.declared.error.DecorError.TheVariants as chain
 use Rattle.resil_decor.specs.declared.layer.Layer.{Layer}
@@ -26,9 +26,9 @@ retry_of_errors attempts interval = layer.Retry (record {
 pub record WorkedChainHeads : Type 0 where
   -- no layers
   pub empty : chain_head_of (codes "") ≡ Ok []
-  -- a retry makes 3 attempts, and waits 500 ms between them, where the head doesn't say
+  -- a retry makes 3 attempts, and waits 500 ms between them, if the head doesn't say
   pub plain_retry : chain_head_of (codes "[[layer]]\nkind = 'retry'") ≡ Ok (retry_of_errors 3 (Fixed 500) ∷ [])
-  -- waits grow by 3/2 where the head doesn't say, here up to 2,000 ms
+  -- waits grow by 3/2 if the head doesn't say, here up to 2,000 ms
   pub growing_waits : chain_head_of (codes "[[layer]]\nkind = 'retry'\nbackoff = 'exponential'\nattempts = 6\ncap = 2000")
       ≡ Ok (retry_of_errors 6 (Exponential 500 3 2 2000) ∷ [])
   -- a bulkhead has the id of its name, from 0 in the order in which the layers name them
@@ -37,17 +37,15 @@ pub record WorkedChainHeads : Type 0 where
   -- the first layer in the text is the innermost
   pub fallback_outside : chain_head_of (codes "layer = [{kind = 'bulkhead', name = 'db'}, {kind = 'fallback', value = 7, catch = ['E2']}]")
       ≡ Ok (layer.Bulkhead 0 ∷ layer.Fallback (record { named = Code 2 ∷ []; ignored = [] }) (pos 7) ∷ [])
-  -- a layer without a kind, though a key isn't known
+  -- a layer without a kind, though another key is unknown too
   pub missing_kind : chain_head_of (codes "layers = 1\nlayer = [{}]") ≡ Err error.MissingKey
-  -- a key that isn't known, since only waits that grow have a cap, though the next layer has no
-  -- name
+  -- an unknown key, since only waits that grow have a cap, though the next layer has no name
   pub unknown_key : chain_head_of (codes "layer = [{kind = 'retry', cap = 1}, {kind = 'bulkhead'}]") ≡ Err error.UnknownKey
   -- a bulkhead without a name, though a value before it is bad
   pub missing_name : chain_head_of (codes "layer = [{kind = 'retry', attempts = true}, {kind = 'bulkhead'}]") ≡ Err error.MissingKey
-  -- a bad value, though a retry before it may not be built
+  -- a bad value, though a retry before it can't be built
   pub bad_value : chain_head_of (codes "layer = [{kind = 'retry', attempts = 0}, {kind = 'fallback', value = 'x'}]") ≡ Err error.BadValue
-  -- a configuration, though a layer may not be built either; the first in byte order, though it
-  -- isn't the first in the text
+  -- a configuration, though a layer can't be built either; the first in byte order, though it isn't the first in the text
   pub first_configuration : chain_head_of (codes "permits = {default = 1, 'a b' = 1}\nlayer = [{kind = 'retry', attempts = 0}]")
       ≡ Err (error.Registry registry.BadName)
   -- the interval, though the attempts are too few

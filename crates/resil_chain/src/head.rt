@@ -2,8 +2,8 @@
 //!
 //! It is checked in stages, each over the whole head before the next one begins: it is TOML,
 //! `permits` is a table and `layer` an array of tables, each layer has a kind and each retry a
-//! backoff, each key is known, the required keys are there, each value is of its kind and in its
-//! range, and last the configurations are added in byte order of their names, and the layers are
+//! backoff, each key is known, the required keys are there, and each value is of its kind and in
+//! its range. Last, the configurations are added in byte order of their names, and the layers are
 //! built in order and make a chain. The first stage that fails gives the error.
 
 ghost use Rattle.std.specs.Prelude.{IfOk, length};
@@ -26,7 +26,7 @@ use toml::Table;
 /// The keys of the head.
 pub const CHAIN_KEYS: &[Key] = &[PERMITS, LAYER];
 
-/// The chain that the table of a head gives. Errors: as for `read_head`, but for `BadToml`.
+/// Makes the chain of the table of a head. Errors: as for `read_head`, except `BadToml`.
 #[tactic(auto, unfolding(crate::specs::Head::chain_in))]
 pub fn chain_in(alloc: Global, head: &Table) -> Result<Chain, HeadFault>
     ensures { Gives result (chain_in (table_view head.now)) }
@@ -36,13 +36,13 @@ pub fn chain_in(alloc: Global, head: &Table) -> Result<Chain, HeadFault>
     Ok(built.chain)
 }
 
-/// The chain that a head gives. Its keys are `permits`, a table of configurations, each a name with
-/// a number of permits from 0 to 65,535, and `layer`, an array of tables, innermost first; either
-/// may be absent. The configuration `default` has 25 permits.
+/// Makes the chain of a head. Its keys are `permits`, a table of configurations, each a name with a
+/// number of permits from 0 to 65,535, and `layer`, an array of tables, innermost first; either may
+/// be absent. The configuration `default` has 25 permits.
 ///
 /// # Errors
 ///
-/// The first in this order: `BadToml`; `BadValue` where `permits` isn't a table or `layer` isn't an
+/// The first in this order: `BadToml`; `BadValue` if `permits` isn't a table or `layer` isn't an
 /// array of tables; `MissingKey` or `BadValue` for the first layer that has no kind or an unknown
 /// one; `BadValue` for an unknown backoff; `UnknownKey`; `MissingKey`; `BadValue`; `Registry` for
 /// the first configuration, in byte order of the names, that can't be added; `Retry` or `Registry`

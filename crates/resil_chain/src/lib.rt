@@ -1,8 +1,7 @@
 //! `chain`: runs a job for each row through the layers of the head, and writes the result of each.
 //!
-//! No bulkhead is made: the row has the answers that its bulkheads give. `head` and `rows` are what
-//! is read, and `runs` runs the jobs and writes the text, by the fields that `run_fields` gives a
-//! run.
+//! No bulkhead is made: each row has the answers of its bulkheads. `head` and `rows` are what is
+//! read, and `runs` runs the jobs and writes the text, with the fields of `run_fields` for each run.
 #![tactic(auto)]
 
 ghost use Rattle.std.specs.Prelude.{MatchResult};
@@ -24,12 +23,11 @@ use runs::run_chain;
 use std::alloc::Global;
 pub use worked_heads::worked_chain_heads;
 
-/// The text of the results of the rows of an input, each run through the layers of its head.
+/// Returns the text of the results of the rows of an input, each run through the layers of its head.
 ///
 /// # Errors
 ///
-/// In this order: `Refused` as `NoBody`; as `Head`; as `BadHeader` or `BadRow`. `Memory` may come
-/// at any step.
+/// In this order: `Refused` as `NoBody`; as `Head`; as `BadHeader` or `BadRow`. `Memory` may come at any step.
 pub fn text(alloc: Global, input: &[u8]) -> Result<Vec<u8>, CommandError>
     ensures { MatchResult result (λ text. IsChainText input.now text.items) (IsError (IsChainRefusal input.now)) }
 {

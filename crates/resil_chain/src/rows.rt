@@ -1,9 +1,8 @@
-//! The bodies of `chain`: for each job a script, and the answers of the bulkheads around its
-//! function.
+//! The bodies of `chain`: a script for each job, and the answers of the bulkheads around its function.
 //!
-//! A script is one outcome or more with semicolons between them, and the answers are any number of
-//! the letters `y` and `n`. All rows are read before the first job is run, so a row that can't be
-//! read keeps every job from running.
+//! A script is one or more outcomes with semicolons between them, and the answers are any number of
+//! the letters `y` and `n`. All rows are read before the first job is run, so if any row can't be
+//! read, no job is run.
 
 ghost use Rattle.std.specs.Prelude.{◌≡◌, option_map, MatchResult, IfOk};
 ghost use Rattle.csv.specs.Records.{fields_of};
@@ -23,7 +22,7 @@ use std::marker::Model;
 pub struct ChainRow {
     /// The outcomes of the innermost function, call by call. Later calls have the last one.
     pub script: Script,
-    /// The answers of the bulkheads, in the order in which they are asked for a permit.
+    /// The answers of the bulkheads, in the order in which a permit is requested from them.
     pub grants: Vec<bool>,
 }
 
@@ -38,7 +37,7 @@ impl Model for ChainRow {
 // The fields of the header.
 const HEADER: &[&str] = &["script", "grants"];
 
-/// What the bodies may have.
+/// What a body may contain.
 pub const BODY: Body = Body {
     header: HEADER,
     forms: &[Form::Script, Form::Grants],
@@ -57,7 +56,7 @@ fn parse_grant(letter: u8) -> Option<bool>
     }
 }
 
-// Reads answers, any number of letters. Errors: `AllocError` when out of memory.
+// Reads answers, any number of letters. Errors: `AllocError` if out of memory.
 fn parse_grants(alloc: Global, letters: &[u8]) -> Result<Option<Vec<bool>>, AllocError>
     ensures { IfOk result (λ grants. option_map (λ g. g.items) grants ≡ parse_grants letters.now) }
 {
@@ -71,7 +70,7 @@ fn parse_grants(alloc: Global, letters: &[u8]) -> Result<Option<Vec<bool>>, Allo
     Ok(Some(grants))
 }
 
-// Reads a row from the fields of a record. Errors: `AllocError` when out of memory.
+// Reads a row from the fields of a record. Errors: `AllocError` if out of memory.
 fn parse_chain_row(alloc: Global, fields: &ByteRecord) -> Result<Option<ChainRow>, AllocError>
     ensures { IfOk result (λ row. row ≡ parse_chain_row (fields_of fields.now)) }
 {
@@ -88,8 +87,8 @@ fn parse_chain_row(alloc: Global, fields: &ByteRecord) -> Result<Option<ChainRow
 ///
 /// # Errors
 ///
-/// The first that is met: `Memory` when out of memory; `BadHeader` where the first record is
-/// missing or isn't the header; `BadRow` with the position of the first record that is no row.
+/// The first that occurs: `Memory` if out of memory; `BadHeader` if the first record is missing or
+/// isn't the header; `BadRow` with the position of the first record that is no row.
 pub fn read_rows(alloc: Global, body: &[u8]) -> Result<Vec<ChainRow>, BodyError>
     ensures { MatchResult result (λ rows. IsChainBody body.now rows.items) (IsChainBodyError body.now) }
 {

@@ -1,8 +1,8 @@
-//! The fields of a run's record: its outcome, the calls of its innermost function, its waits, and the
-//! bulkheads that it asked for a permit, with their answers.
+//! The fields of a run's record: its outcome, the calls of its innermost function, its waits, and its
+//! questions to bulkheads, with their answers.
 //!
 //! Waits and answers are items with semicolons between them, and a field without items is empty. No
-//! item has a comma, a quote or a line end in it, so such a field never needs quotes.
+//! item contains a comma, a quote or a line end, so such a field never needs quotes.
 
 ghost use Rattle.std.specs.Prelude.{String, ◌≡◌, ◌++◌, map, OnOk};
 ghost use Rattle.std.specs.Fmt.{decimal};
@@ -15,7 +15,7 @@ use resil_input::outcome_text::push_outcome;
 use std::alloc::{AllocError, Global};
 use std::marker::Model;
 
-/// The texts of a run's fields. Their room serves one run after the other.
+/// The texts of a run's fields. Their room is reused for one run after the other.
 #[derive(Drop)]
 pub struct RunTexts {
     outcome: String,
@@ -34,7 +34,7 @@ impl Model for RunTexts {
 }
 
 impl RunTexts {
-    /// Texts without room yet.
+    /// Makes texts without room yet.
     pub fn new(alloc: Global) -> RunTexts {
         RunTexts {
             outcome: String::new(alloc),
@@ -44,11 +44,11 @@ impl RunTexts {
         }
     }
 
-    /// Writes the texts of a run in place of those before.
+    /// Writes the texts of a run instead of the previous ones.
     ///
     /// # Errors
     ///
-    /// `AllocError` when out of memory. Nothing is known of the texts then.
+    /// `AllocError` if out of memory. Nothing is then known of the texts.
     pub fn write(&mut self, run: &Run) -> Result<(), AllocError>
         ensures { OnOk result (self.new ≡ run_fields run.now) }
     {
@@ -61,7 +61,7 @@ impl RunTexts {
         write_items(&mut self.asked, run.asked())
     }
 
-    /// The texts: the outcome, the calls, the waits, and the bulkheads that were asked.
+    /// Returns the texts: the outcome, the calls, the waits, and the questions to bulkheads.
     pub fn fields(&self) -> [&[u8]; 4]
         ensures { map (λ field. field.now) result ≡ self.now }
     {
@@ -74,14 +74,14 @@ impl RunTexts {
     }
 }
 
-// What a field may have several of.
+// An item of a field with several items.
 trait Item: Copy {
     ghost use Rattle.std.specs.Prelude.{ℕ, List};
 
     // The text of an item.
     ghost text_of: { Self → List ℕ };
 
-    // Adds the text of the item. Errors: `AllocError` when out of memory.
+    // Adds the text of the item. Errors: `AllocError` if out of memory.
     fn push(self, text: &mut String) -> Result<(), AllocError>
         ensures { OnOk result (string_bytes text.new ≡ string_bytes text.old ++ text_of self) };
 }
@@ -96,7 +96,7 @@ impl Item for u64 {
     }
 }
 
-// The id of a bulkhead that was asked for a permit, and `y` where it granted one, else `n`.
+// The id of a bulkhead that a permit was requested from, and `y` if it granted one, else `n`.
 impl Item for Asked {
     ghost text_of = { asked_item };
 
@@ -107,8 +107,7 @@ impl Item for Asked {
     }
 }
 
-// Writes items, with semicolons between them, in place of what was there. Errors: `AllocError` where
-// memory runs out.
+// Writes items, with semicolons between them, instead of what was there. Errors: `AllocError` if out of memory.
 #[tactic(auto, using(crate::proofs::RunFieldLaws::items_text_flat))]
 fn write_items<I: Item>(text: &mut String, items: &[I]) -> Result<(), AllocError>
     ensures { OnOk result (string_bytes text.new ≡ items_text (map I.text_of items.now)) }

@@ -1,8 +1,7 @@
 //! Runs the jobs of a `chain`, one for each row, and writes the run of each: one table, with a
 //! record for each run in order.
-//!
-//! Each row is a job of its own, and its bulkheads answer by the row's grants alone: nothing is
-//! kept from one row for the next. So the run of a row doesn't depend on the other rows.
+//! Each row is a job of its own, and the answers of its bulkheads are the row's grants alone:
+//! nothing is kept from one row for the next. So the run of a row doesn't depend on the other rows.
 
 ghost use Rattle.std.specs.Prelude.{◌++◌, ◌∷◌, [], List, IfOk, OnOk};
 ghost use Rattle.resil_input.specs.CsvTable.{HasColumns, text_so_far};
@@ -19,7 +18,7 @@ use std::alloc::{AllocError, Global};
 ///
 /// # Errors
 ///
-/// `AllocError` when out of memory.
+/// `AllocError` if out of memory.
 pub fn run_row(alloc: Global, chain: &Chain, row: ChainRow) -> Result<Run, AllocError>
     ensures { IfOk result (λ run. IsRunOf chain.now row run) }
 {
@@ -36,12 +35,12 @@ pub fn run_row(alloc: Global, chain: &Chain, row: ChainRow) -> Result<Run, Alloc
     Ok(job.run(&mut listed))
 }
 
-/// Runs the job of each row through the layers, in order, and answers the text of the runs. All jobs
-/// share one copy of the layers, and a run is gone once its record is written.
+/// Runs the job of each row through the layers, in order, and returns the text of the runs. All jobs
+/// share one copy of the layers, and a run is dropped once its record is written.
 ///
 /// # Errors
 ///
-/// `AllocError` when out of memory.
+/// `AllocError` if out of memory.
 pub fn run_chain(alloc: Global, chain: &Chain, rows: Vec<ChainRow>) -> Result<Vec<u8>, AllocError>
     ensures { IfOk result (λ text. IsTextOfRuns chain.now rows.items text.items) }
 {
@@ -57,7 +56,7 @@ pub fn run_chain(alloc: Global, chain: &Chain, rows: Vec<ChainRow>) -> Result<Ve
     table.into_text()
 }
 
-// Runs the job of one more row, and writes its run. Errors: `AllocError` when out of memory.
+// Runs the job of one more row, and writes its run. Errors: `AllocError` if out of memory.
 fn push_row(
     alloc: Global,
     table: &mut CsvTable,

@@ -1,4 +1,4 @@
-//! What `chain` says of its inputs to whoever explains what is wrong with one.
+//! What `chain` says of its inputs, to explain what is wrong with one.
 
 use crate::head::{CHAIN_KEYS, read_head};
 use crate::rows::BODY;

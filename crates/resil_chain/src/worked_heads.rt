@@ -1,12 +1,12 @@
 //! Heads worked by hand: the definitions at work, by computation alone.
 //!
-//! The definitions of heads follow the reader step by step, so a mistake could be in both. Here
-//! they are held against texts of which a reader sees what they say.
+//! The definitions of heads follow the reader step by step, so both could have the same mistake. Here
+//! they are checked against texts with a meaning that a reader sees at once.
 
 ghost use Rattle.resil_chain.specs.WorkedHeads.{WorkedChainHeads};
 
-/// What heads of a `chain` say, and the errors of others in their order. It does nothing: its contract
-/// is what it is for.
+/// What heads of a `chain` say, and the errors of others in their order. It does nothing: only its
+/// contract matters.
 pub fn worked_chain_heads()
     ensures { WorkedChainHeads }
 {}

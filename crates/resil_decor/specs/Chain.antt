@@ -10,8 +10,7 @@ use Rattle.resil_decor.specs.declared.permitter.Asked.{Asked}
 use Rattle.resil_decor.specs.declared.layer.Layer.{Layer}
 use Rattle.resil_decor.specs.declared.layer.Layer.TheVariants.{Retry, Bulkhead, Fallback}
 
--- what is left for the calls to come: of the script of the innermost function, and of the answers
--- of bulkheads
+-- what is left for the calls to come, of the script of the innermost function and of the answers of bulkheads
 pub record Remaining : Type 0 where
   pub script : List Outcome
   pub asked : List Asked
@@ -29,7 +28,7 @@ innermost left = option_map (λ outcome. record {
 abbrev pub refused : Remaining → CallResult Remaining
 refused left = record { outcome = Error Full; calls = 0; waits = []; after = left }
 
--- a bulkhead: the next answer is one of its own; where it grants a permit, the call inside is made
+-- a bulkhead: the next answer is one of its own; if it grants a permit, the call inside is made
 abbrev pub through_bulkhead : ℕ → (Remaining → Option (CallResult Remaining)) → List Outcome → List Asked → Option (CallResult Remaining)
 through_bulkhead id inside script [] = None
 through_bulkhead id inside script (answer ∷ answers) =
@@ -46,14 +45,14 @@ fallback_outcome catch value (Error kind) = if names catch kind then Value value
 abbrev pub through_fallback : ErrorTestView → ℤ → CallResult Remaining → CallResult Remaining
 through_fallback catch value c = record c { outcome = fallback_outcome catch value c.outcome }
 
--- The call of a function through layers, the outermost first. None where the answers end early or
--- one is of another bulkhead.
+-- The call of a function through layers, the outermost first. None if the answers end early or one
+-- is of another bulkhead.
 unfoldable pub through : List Layer → Remaining → Option (CallResult Remaining)
 through [] left = innermost left
 through (Retry settings ∷ inside) left = option_map as_call (retried settings (through inside) left)
 through (Bulkhead id ∷ inside) left = through_bulkhead id (through inside) left.script left.asked
 through (Fallback catch value ∷ inside) left = option_map (through_fallback catch value) (through inside left)
 
--- the call through a chain, whose layers are listed innermost first
+-- the call through a chain, with layers listed innermost first
 abbrev pub chain_call : List Layer → Remaining → Option (CallResult Remaining)
 chain_call layers left = through (reverse layers) left

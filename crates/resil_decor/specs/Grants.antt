@@ -1,4 +1,4 @@
--- Whether bulkheads have the permits that a run held of them at once (Resilience4j user guide,
+-- Whether bulkheads have as many permits as a run held of them at once (Resilience4j user guide,
 -- Bulkhead, `maxConcurrentCalls`).
 use Rattle.std.specs.Prelude.{ℕ, ◌≡◌, ◌==◌, Bool, false, List, [], ◌∷◌, Option, None, IsSomeAnd, option_map, if◌then◌else◌, nat_lt, count_by, slice_get, reverse, take, drop}
 use Rattle.std.specs.Option.{option_map_or}
@@ -10,7 +10,7 @@ use Rattle.resil_decor.specs.declared.layer.Layer.TheVariants.{Retry, Bulkhead, 
 use Rattle.resil_decor.specs.Chain.{Remaining, innermost, through_bulkhead, through_fallback}
 use Rattle.resil_decor.specs.Run.{RunView}
 
--- how many permits the bulkhead with this id has, which is its index; 0 where there is none
+-- how many permits the bulkhead with this id, which is its index, has; 0 if there is none
 abbrev pub permits_of : List BulkheadView → ℕ → ℕ
 permits_of bulkheads id = option_map_or (λ bulkhead. bulkhead.permits.max) (slice_get bulkheads id) 0
 
@@ -25,14 +25,13 @@ is_bulkhead id (Fallback catch value) = false
 abbrev pub held_inside : ℕ → List Layer → ℕ
 held_inside id layers = count_by (is_bulkhead id) layers
 
--- a call under one more permit than are held, of a bulkhead with this many; None where all of them
--- are held
+-- a call under one more permit than are held, of a bulkhead with this many; None if all of them are held
 abbrev pub under_permit : ℕ → ℕ → (Remaining → Option (CallResult Remaining)) → Remaining → Option (CallResult Remaining)
 under_permit held permits call left = if nat_lt held permits then call left else None
 
 -- The call of a function through layers, the outermost first, inside the layers around them, the
--- nearest first, whose permits it holds. It is the call `through` the layers, but None too where a
--- bulkhead granted a permit and the layers around it held all that it has.
+-- nearest first. It holds the permits of these. It is the call `through` the layers, but also None
+-- if a bulkhead granted a permit and the layers around it already held all that it has.
 unfoldable pub through_within : (ℕ → ℕ) → List Layer → List Layer → Remaining → Option (CallResult Remaining)
 through_within permits around [] left = innermost left
 through_within permits around (Retry settings ∷ inside) left =
@@ -42,8 +41,8 @@ through_within permits around (Bulkhead id ∷ inside) left =
 through_within permits around (Fallback catch value ∷ inside) left =
     option_map (through_fallback catch value) (through_within permits (Fallback catch value ∷ around) inside left)
 
--- the call through the innermost layers of a chain, this many, under its other layers; the chain is
--- listed innermost first
+-- the call through this many of the innermost layers of a chain, inside its other layers; the chain
+-- is listed innermost first
 abbrev pub call_at : (ℕ → ℕ) → List Layer → ℕ → Remaining → Option (CallResult Remaining)
 call_at permits layers depth left = through_within permits (drop depth layers) (reverse (take depth layers)) left
 

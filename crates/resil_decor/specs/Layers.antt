@@ -1,4 +1,4 @@
--- The layers of a chain, wherever they are.
+-- The layers of a chain, wherever they are kept.
 use Rattle.std.specs.Prelude.{List, []}
 use Rattle.std.specs.Arc.{arc_value}
 use Rattle.resil_decor.specs.declared.layer.Layer.{Layer}

@@ -1,4 +1,4 @@
--- A permitter that answers by a list, for any id.
+-- A permitter that answers from a list, for any id.
 use Rattle.std.specs.Prelude.{ℕ, zero, suc, ◌≡◌, ◌==◌, ◌≤◌, ◌++◌, ◌∷◌, [], Bool, false, List, length, take, drop, map, filter, if◌then◌else◌, nat_lt, get_or, vec_len, vec_capacity}
 use Rattle.resil_decor.specs.declared.permitter.Asked.{Asked}
 use Rattle.resil_decor.specs.Permitter.{PermitterAnswers}
@@ -14,7 +14,7 @@ pub record ListedView : Type 0 where
 abbrev pub answers_for : List Asked → ℕ → List Bool
 answers_for asked id = map (λ a. a.granted) (filter (λ a. a.id == id) asked)
 
--- any id is known as long as an answer is left, and none after that
+-- any id is known while an answer is left, and none after that
 abbrev pub answers_of : ListedView → PermitterAnswers
 answers_of l = record {
   known = if nat_lt (length l.asked) (length l.answers) then 65536 else 0;
@@ -25,11 +25,11 @@ answers_of l = record {
 abbrev pub held_of : ListedView → ℕ → ℕ
 held_of l id = length (filter (λ other. other == id) l.held)
 
--- the next answer of the list, and no past its end
+-- the next answer of the list, and no after its end
 abbrev pub is_next_answer : ListedView → Bool → Type 0
 is_next_answer l answer = answer ≡ get_or l.answers (length l.asked) false
 
--- this number of answers from the beginning of a list, and no for each past its end
+-- this number of answers from the beginning of a list, and no for each after its end
 abbrev pub first_answers : ℕ → List Bool → List Bool
 first_answers zero answers = []
 first_answers (suc count) [] = false ∷ first_answers count []
@@ -39,9 +39,8 @@ first_answers (suc count) (answer ∷ answers) = answer ∷ first_answers count 
 abbrev pub answers_left : ListedView → List Bool
 answers_left l = drop (length l.asked) l.answers
 
--- These answers were given one after the other: they are the next ones of the list, and no past its
--- end. The list stays as it is, and each question is kept with its answer as long as the list has
--- one.
+-- These answers were given one after the other: they are the next ones of the list, and no after its
+-- end. The list stays as it is, and each question is kept with its answer as long as the list has one.
 pub record AreNextAnswers (old : ListedView) (given : List Asked) (new : ListedView) : Type 0 where
   pub answers : new.answers ≡ old.answers
   pub in_order : map (λ a. a.granted) given ≡ first_answers (length given) (answers_left old)

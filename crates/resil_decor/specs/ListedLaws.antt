@@ -1,11 +1,11 @@
--- The laws of a permitter, for one that answers by a list: proofs that must be in specs/, since the
--- ghost members of an `impl` may name nothing else of their own crate.
+-- The laws of a permitter that answers from a list: proofs that must be in specs/, since the ghost
+-- members of an `impl` may name nothing else of their own crate.
 use Rattle.std.proofs.Common.{◌≡◌, ◌++◌, ◌∷◌, ◌∙◌, [], Bool, false, List, length, take, drop, refl, sym, ap, arith, append-nil, append_assoc, length-append, drop-drop, take_all}
 use Rattle.std.proofs.lemmas.List.{map-append, drop_all}
 use Rattle.resil_decor.specs.declared.permitter.Asked.{Asked}
 use Rattle.resil_decor.specs.Listed.{ListedView, AreNextAnswers, answers_left, first_answers}
 
--- as many of a list are used up as are taken for it
+-- as many answers of a list are used up as are taken for these questions
 drop_taken : (given : List Asked) (answers : List Bool) → drop (length (take (length answers) given)) answers ≡ drop (length given) answers
 drop_taken [] [] = refl
 drop_taken [] (y ∷ ys) = refl

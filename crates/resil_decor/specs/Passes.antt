@@ -7,8 +7,8 @@ use Rattle.resil_bulkhead.specs.Passes.{PassView, Source, own_events, held_by}
 use Rattle.resil_decor.specs.declared.permitter.Asked.{Asked}
 use Rattle.resil_decor.specs.Permitter.{PermitterAnswers, AreAnswered}
 
--- the answer of an event: yes where a permit was taken, no where it was refused; giving one back,
--- retiring or raising one is no answer
+-- the answer of an event: yes if a permit was taken, no if it was refused; giving one back, retiring
+-- or raising one is no answer
 abbrev pub answer_in : PermitEvent → Option Bool
 answer_in (Took seat) = Some true
 answer_in (Refused seat) = Some false
@@ -38,7 +38,7 @@ answers_of passes = record { known = length passes; given = λ id. answers_at (s
 abbrev pub held_of : List PassView → ℕ → ℕ
 held_of passes id = held_at (slice_get passes id)
 
--- the permits that each pass is of
+-- the permits that each pass belongs to
 abbrev pub sources_of : List PassView → List Source
 sources_of passes = map (λ pass. pass.source) passes
 
@@ -57,7 +57,7 @@ pub record GaveAnswers (old : List PassView) (asked : List Asked) (new : List Pa
   pub answered : AreAnswered (answers_of old) asked (answers_of new)
 
 -- a pass that was split from another: it is of the same permits, has a number of its own, holds
--- nothing and has seen what the other has
+-- nothing and has seen what the other has seen
 pub record IsSplitFrom (old new : PassView) : Type 0 where
   pub source : new.source ≡ old.source
   pub seen : new.seen ≡ old.seen

@@ -1,5 +1,5 @@
--- The laws of a permitter, for one of passes: proofs that must be in specs/, since the ghost members
--- of an `impl` may name nothing else of their own crate.
+-- The laws of a permitter of passes: proofs that must be in specs/, since the ghost members of an
+-- `impl` may name nothing else of their own crate.
 use Rattle.std.proofs.Common.{◌++◌, ◌∙◌, [], List, refl}
 use Rattle.resil_bulkhead.specs.Passes.{PassView}
 use Rattle.resil_decor.specs.declared.permitter.Asked.{Asked}

@@ -1,7 +1,7 @@
 //! Chains of layers, innermost first.
 //!
-//! A chain has few layers, and its retries together make few calls. So what a run may write is
-//! bounded before it starts, and room for all of it can be reserved.
+//! A chain has few layers, and its retries together make few calls. So the size of what a run may
+//! write is bounded before it starts, and room for all of it can be reserved.
 
 ghost use Rattle.std.specs.Prelude.{◌≡◌, ◌≤◌, ◌<◌, ◌↔◌, IsTrue, IfOk, IfErr, MatchOption};
 ghost use Rattle.resil_decor.specs.ChainLimits.{call_limit, max_calls, IsChain, IsChainError};
@@ -12,13 +12,12 @@ use crate::layers::Layers;
 use std::alloc::Global;
 use std::marker::Model;
 
-/// The greatest number of layers of a chain (Resilience4j user guide, Decorators). The limit is
-/// this library's own.
+/// The maximum number of layers of a chain (Resilience4j user guide, Decorators). The limit is this
+/// library's own.
 pub const MAX_LAYERS: usize = 8;
 
-/// The greatest number of calls that a chain may make of the function inside it: the product of the
-/// attempts of its retries (Resilience4j user guide, Retry: `maxAttempts`). The limit is this
-/// library's own.
+/// The maximum number of calls that a chain may make of the function inside it: the product of the attempts
+/// of its retries (Resilience4j user guide, Retry: `maxAttempts`). The limit is this library's own.
 pub const MAX_CALLS: u32 = 1_000;
 
 /// Layers around a call, innermost first (Resilience4j user guide, Decorators).
@@ -45,13 +44,12 @@ impl Model for Chain {
 }
 
 impl Chain {
-    /// A chain of these layers, innermost first. No layers at all is a chain too.
+    /// Makes a chain of these layers, innermost first. A chain may have no layers.
     ///
     /// # Errors
     ///
-    /// In this order, with the layers handed back: `TooManyLayers` where they are more than
-    /// `MAX_LAYERS`; `TooManyCalls` where the product of the attempts of all retries is above
-    /// `MAX_CALLS`.
+    /// In this order, each with the layers returned: `TooManyLayers` if there are more than
+    /// `MAX_LAYERS`; `TooManyCalls` if the product of the attempts of all retries is above `MAX_CALLS`.
     ///
     /// ```
     /// match Chain::new(layers) {
@@ -84,18 +82,18 @@ impl Chain {
         self.layers.as_slice()
     }
 
-    // The greatest number of calls of the function inside the chain.
+    // The maximum number of calls of the function inside the chain.
     pub(crate) fn max_calls(&self) -> u32
         ensures { result ≡ max_calls self.now }
     {
         product_of_attempts(self.layers()).unwrap()
     }
 
-    /// A copy with memory of its own.
+    /// Returns a copy with memory of its own.
     ///
     /// # Errors
     ///
-    /// `Memory` when out of memory.
+    /// `Memory` if out of memory.
     pub fn copy(&self, alloc: Global) -> Result<Chain, DecorError>
         ensures copied { IfOk result (λ copy. copy ≡ self.now) }
         ensures refused { IfErr result (λ error. error ≡ DecorError.Memory) }
@@ -112,7 +110,7 @@ impl Chain {
     }
 }
 
-// The product of the attempts, or `None` where it is above `MAX_CALLS`.
+// The product of the attempts, or `None` if it is above `MAX_CALLS`.
 fn product_of_attempts(layers: &[Layer]) -> Option<u32>
     ensures { MatchOption result (call_limit < max_calls layers.now) (λ calls. (calls ≡ max_calls layers.now) × (1 ≤ calls) × (calls ≤ call_limit)) }
 {

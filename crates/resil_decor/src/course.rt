@@ -1,4 +1,4 @@
-//! What the attempts of a retry go on with, and where its waits are recorded.
+//! The state that the attempts of a retry share, and that records its waits.
 
 ghost use Rattle.std.specs.Prelude.{◌≤◌};
 ghost use Rattle.resil_decor.specs.RunLog.{IsWaitWritten};
@@ -7,7 +7,7 @@ use crate::run_log::RunLog;
 use resil_call::Pause;
 use resil_retry::Player;
 
-// The function's script, who permits and what is written, as long as they are lent.
+// The function's script, the permitter and the log, for as long as they are lent.
 #[derive(Drop)]
 pub(crate) struct Course<'a, 's, P> {
     pub(crate) player: &'a mut Player<'s>,
@@ -15,7 +15,7 @@ pub(crate) struct Course<'a, 's, P> {
     pub(crate) log: &'a mut RunLog,
 }
 
-// Waits are recorded, and not slept, in the room that was reserved for them.
+// Waits are recorded, not slept, in the room reserved for them.
 impl<P> Pause for Course<'_, '_, P> {
     ghost use Rattle.std.specs.Prelude.{◌≡◌};
 

@@ -1,7 +1,7 @@
 //! Errors of chains and jobs.
 //!
-//! A run has no errors, since all its memory is reserved before: only what is made or copied has.
-//! `Chain::new` and `Job::new` hand back what they got, beside the error.
+//! A run has no errors, since all its memory is reserved before: only making or copying has.
+//! `Chain::new` and `Job::new` return what they got, together with the error.
 
 ghost use Rattle.std.specs.Prelude.{◌≡◌};
 ghost use Rattle.resil_decor.specs.declared.error.DecorError.TheVariants.{Memory};
@@ -9,7 +9,7 @@ ghost use Rattle.resil_decor.specs.declared.error.DecorError.TheVariants.{Memory
 use std::alloc::AllocError;
 use thiserror::Error;
 
-/// Why a chain, a job, a permitter or a copy could not be made.
+/// Why a chain, a job, a permitter or a copy couldn't be made.
 ///
 /// ```
 /// match Chain::new(layers) {
@@ -21,12 +21,12 @@ use thiserror::Error;
 #[derive(Clone, Copy, Debug, PartialEq, Eq, Error)]
 pub enum DecorError {
     /// A chain has more layers than `MAX_LAYERS`.
-    #[error("a chain has at most 8 layers")]
+    #[error("a chain may have at most 8 layers")]
     TooManyLayers,
     /// The product of the attempts of a chain's retries is above `MAX_CALLS`.
-    #[error("a chain makes at most 1,000 calls")]
+    #[error("a chain may make at most 1,000 calls")]
     TooManyCalls,
-    /// Memory ran out.
+    /// Out of memory.
     #[error("out of memory")]
     Memory,
 }

@@ -1,8 +1,8 @@
-//! Recounts: whether bulkheads have the permits that a run held of them at once.
+//! Recounts: whether bulkheads have as many permits as a run held of them at once.
 //!
 //! A recount goes through the calls of a run once more, by its script and the answers that it got.
 //! Inside a bulkhead layer that granted a permit, a call holds that permit. So a chain that names
-//! one bulkhead in several layers holds several of its permits at once. A recount takes no memory.
+//! one bulkhead in several layers holds several of its permits at once. A recount doesn't allocate.
 
 ghost use Rattle.std.specs.Prelude.{◌≡◌, ◌<◌, ◌≤◌, ◌+◌, length, drop, option_map};
 ghost use Rattle.resil_retry.specs.Retry.{as_call, retried};
@@ -17,7 +17,7 @@ use resil_call::Call;
 use resil_retry::{Kind, Outcome, Player, RetryConfig};
 use std::marker::Model;
 
-// What is left for the calls to come: of the script, and of the answers of bulkheads.
+// What is left for the calls to come, of the script and of the answers of bulkheads.
 #[derive(Drop)]
 pub(crate) struct Left<'a> {
     pub(crate) player: Player<'a>,
@@ -40,8 +40,8 @@ pub(crate) struct Recount<'a> {
 }
 
 impl Recount<'_> {
-    // One call through the innermost layers, this many, under the others. None where the answers
-    // end early, one is of another bulkhead, or one granted a permit that wasn't free.
+    // One call through this many of the innermost layers, inside the others. None if the answers
+    // end early, an answer is of another bulkhead, or one granted a permit that wasn't free.
     #[cycle(recount)]
     pub(crate) fn call_through(&self, depth: usize, left: &mut Left<'_>) -> Option<Outcome>
         requires { depth ≤ length self.now.layers.now }
@@ -85,7 +85,7 @@ impl Recount<'_> {
         }
     }
 
-    // Calls under a permit of a bulkhead, or not at all, as the next answer says.
+    // Calls under a permit of a bulkhead, or not at all, according to the next answer.
     #[cycle(recount)]
     fn call_with_bulkhead(&self, id: u16, inside: usize, left: &mut Left<'_>) -> Option<Outcome>
         requires { inside < length self.now.layers.now }
@@ -107,7 +107,7 @@ impl Recount<'_> {
         }
     }
 
-    // How many permits the bulkhead with this id has, 0 where there is none.
+    // How many permits the bulkhead with this id has, 0 if there is none.
     fn permits(&self, id: u16) -> usize
         ensures { result ≡ permits_of self.now.bulkheads.now id }
     {

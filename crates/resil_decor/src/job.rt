@@ -1,8 +1,8 @@
-//! Jobs: plans with room for all that their run writes.
+//! Jobs: plans with room for everything that their run writes.
 //!
-//! A job reserves the greatest number of waits and answers that its plan allows. So its run takes
-//! no memory and can't fail, and a job can be run only once. Its plan stands on the heap once, and its
-//! run has it there; so has each further job that is made of the same plan.
+//! A job reserves the maximum number of waits and answers that its plan allows. So its run allocates nothing and
+//! can't fail, and a job can be run only once. Its plan is on the heap once; its run uses it there, and so does
+//! each further job made of the same plan.
 
 ghost use Rattle.std.specs.Prelude.{ℕ, ◌≡◌, reverse, IfOk, IfErr};
 ghost use Rattle.resil_decor.specs.Permitter.{AreAnswered};
@@ -47,11 +47,11 @@ impl Model for Job {
 }
 
 impl Job {
-    /// A job of this plan, with room for all that its run writes.
+    /// Makes a job of this plan, with room for everything that its run writes.
     ///
     /// # Errors
     ///
-    /// `Memory` when out of memory; the plan comes back.
+    /// `Memory` if out of memory; the plan comes back.
     pub fn new(alloc: Global, plan: Plan) -> Result<Job, (DecorError, Plan)>
         ensures made { IfOk result (λ job. job ≡ plan) }
         ensures refused { IfErr result (λ e. e.0 ≡ DecorError.Memory) }
@@ -66,11 +66,11 @@ impl Job {
         }
     }
 
-    /// A job of a plan that it shares with its other owners. It takes memory for nothing but what its run writes.
+    /// Makes a job of a plan that it shares with its other owners. It allocates only room for what its run writes.
     ///
     /// # Errors
     ///
-    /// `Memory` when out of memory.
+    /// `Memory` if out of memory.
     ///
     /// ```
     /// let plan = job.shared_plan()?;
@@ -85,18 +85,18 @@ impl Job {
         Ok(Job { plan, log })
     }
 
-    /// The plan that the job runs.
+    /// Returns the plan that the job runs.
     pub fn plan(&self) -> &Plan
         ensures { result.now ≡ self.now }
     {
         self.plan.plan()
     }
 
-    /// The plan that the job runs, for one more owner of it. It takes no memory.
+    /// Returns the plan that the job runs, as one more owner of it. It doesn't allocate.
     ///
     /// # Errors
     ///
-    /// `Memory` where the plan has more owners than can be counted.
+    /// `Memory` if the plan has more owners than can be counted.
     pub fn shared_plan(&self) -> Result<SharedPlan, DecorError>
         ensures shared { IfOk result (λ plan. plan ≡ self.now) }
         ensures refused { IfErr result (λ error. error ≡ DecorError.Memory) }
@@ -104,9 +104,8 @@ impl Job {
         self.plan.share()
     }
 
-    /// Runs the job: calls the function through the chain, from the outermost layer in, and answers
-    /// what came of it. Each permit that was granted is given back. It takes no memory and can't
-    /// fail.
+    /// Runs the job: calls the function through the chain, from the outermost layer in, and returns the result.
+    /// Each permit that was granted is given back. It doesn't allocate and can't fail.
     pub fn run<P: Permitter>(self, permitter: &mut P) -> Run
         ensures plan { result.plan ≡ self }
         ensures value { IsValue result }
@@ -122,7 +121,7 @@ impl Job {
     }
 }
 
-// An empty log with room for all that a run of the plan writes. Errors: memory runs out.
+// An empty log with room for everything that a run of the plan writes. Errors: out of memory.
 fn log_for(alloc: Global, plan: &Plan) -> Result<RunLog, AllocError>
     ensures { IfOk result (IsReadyFor (reverse plan.now.layers)) }
 {
@@ -131,7 +130,7 @@ fn log_for(alloc: Global, plan: &Plan) -> Result<RunLog, AllocError>
     RunLog::new(alloc, waits, asked)
 }
 
-// The greatest number of questions to bulkheads in a run through these layers, innermost first.
+// The maximum number of questions to bulkheads in a run through these layers, innermost first.
 fn max_permit_requests(layers: &[Layer]) -> usize
     requires { IsChain layers.now }
     ensures { result ≡ max_permit_requests (reverse layers.now) }

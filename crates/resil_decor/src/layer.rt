@@ -1,4 +1,4 @@
-//! Layers: what a chain puts around a call.
+//! Layers: the parts of a chain around a call.
 //!
 //! There are three kinds, each a part of Resilience4j: retry, bulkhead and fallback. A layer names
 //! its bulkhead by an id and keeps no permit, so layers can be copied and compared.
@@ -18,12 +18,12 @@ use std::alloc::Global;
 /// ```
 #[derive(Debug, Drop)]
 pub enum Layer {
-    /// Tries the call again, as its configuration says (Resilience4j user guide, Retry).
+    /// Retries the call, as its configuration says (Resilience4j user guide, Retry).
     Retry(RetryConfig),
-    /// Asks the bulkhead with this id for a permit before the call, and gives it back after
+    /// Asks the bulkhead with this id for a permit before the call, and gives it back afterwards
     /// (Resilience4j user guide, Bulkhead). Without a permit the outcome is the error `Full`.
     Bulkhead(u16),
-    /// Answers the value where the call inside answers an error that the test names; every other
+    /// Returns the value if the call inside returns an error that the test names; every other
     /// outcome passes (Resilience4j user guide, Decorators).
     Fallback {
         /// The errors that are replaced.
@@ -34,7 +34,7 @@ pub enum Layer {
 }
 
 impl Layer {
-    // The greatest number of times that the layer makes the call inside it.
+    // The maximum number of times that the layer makes the call inside it.
     pub(crate) fn attempts(&self) -> u32
         ensures value { result ≡ attempts_of self.now }
         ensures least { 1 ≤ result }

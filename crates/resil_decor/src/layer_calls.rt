@@ -1,8 +1,8 @@
 //! The calls of a run, from the outermost layer in.
 //!
-//! Each layer writes down what it does: the innermost call is counted, a retry records its waits, a
-//! bulkhead the answer that it got. A permit is held while the call inside runs, and is given back
-//! whatever the outcome is.
+//! Each layer writes down what it does: the innermost call is counted, a retry records its waits,
+//! and a bulkhead layer the answer that it got. A permit is held while the call inside runs, and is
+//! given back whatever the outcome is.
 
 ghost use Rattle.std.specs.Prelude.{ℕ, ◌≡◌, reverse, ◌∷◌};
 ghost use Rattle.resil_decor.specs.Chain.{fallback_outcome};
@@ -44,7 +44,7 @@ pub(crate) fn call_through<P: Permitter>(
 }
 
 // Calls until an outcome isn't to be retried or no attempt is left, by the retry loop of any call.
-// The calls write to the log where the waits between them are recorded.
+// The calls write to the log that also records the waits between them.
 #[cycle(calls)]
 fn call_with_retry<P: Permitter>(
     config: &RetryConfig,

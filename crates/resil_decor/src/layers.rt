@@ -1,8 +1,8 @@
 //! The layers of a chain: its own, or shared with copies of it.
 //!
-//! A copy of layers that aren't shared yet takes memory for all of them, in a place that several
-//! owners can share. A copy of that copy is one more owner, however long the lists of its layers
-//! are. So one copy serves all jobs that have the same chain. No layers take no memory.
+//! A copy of layers that aren't shared yet allocates memory for all of them, in a place that several owners can share. A copy of
+//! that copy is one more owner, however long the lists of its layers are. So one copy serves all jobs that have the same chain.
+//! If there are no layers, nothing is allocated.
 
 ghost use Rattle.std.specs.Prelude.{◌≡◌, IfOk, IfErr};
 ghost use Rattle.std.specs.Arc.{arc_value};
@@ -21,7 +21,7 @@ enum Place {
     Nowhere,
     // With one owner.
     Own(Vec<Layer>),
-    // With one owner or more, in any threads.
+    // With one or more owners, in any threads.
     Shared(Arc<Vec<Layer>, Global>),
 }
 
@@ -65,7 +65,7 @@ impl Layers {
         }
     }
 
-    // Equal layers that copies of them share: these ones, where they are shared. Errors: `Memory`.
+    // Equal layers that copies of them share: these very ones if they are shared already. Errors: `Memory`.
     pub(crate) fn copy(&self, alloc: Global) -> Result<Layers, DecorError>
         ensures copied { IfOk result (λ copy. copy ≡ self.now) }
         ensures refused { IfErr result (λ error. error ≡ DecorError.Memory) }
@@ -79,7 +79,7 @@ impl Layers {
     }
 }
 
-// Equal layers where several owners can share them. Errors: `Memory`. Few copies come here, so this code stays out of the others.
+// Equal layers that several owners can share. Errors: `Memory`. It is called for few copies, so this code stays out of the others.
 #[cold]
 fn share_copy(alloc: Global, layers: &[Layer]) -> Result<Arc<Vec<Layer>, Global>, DecorError>
     ensures shared { IfOk result (λ shared. (arc_value shared).items ≡ layers.now) }

@@ -1,17 +1,16 @@
-//! Chains of decorators around a call, and jobs that run them (after Resilience4j's Decorators;
-//! user guide, chapters Retry and Bulkhead).
+//! Chains of decorators around a call, and jobs that run them (modelled on Resilience4j's Decorators; user guide, chapters
+//! Retry and Bulkhead).
 //!
-//! A chain is built from the inside: each layer wraps those before it, and the last is outermost.
-//! Its value is a recursion on the outermost layer (`through` in `specs/Chain.antt`), over a script
-//! of outcomes and the answers of bulkheads. A plan is a chain with the script of its innermost
-//! call, and a job is a plan, which it shares with its run, with room for all that its run writes, so
-//! a run takes no memory and can't fail. The type `Run` keeps that outcome, calls and waits are the value of its plan for the
-//! answers that the run got.
+//! A chain is built from the inside: each layer wraps those before it, and the last is outermost. Its value is a recursion on
+//! the outermost layer (`through` in `specs/Chain.antt`), over a script of outcomes and the answers of bulkheads. A plan is a
+//! chain with the script of its innermost call. A job is a plan, which it shares with its run, with room for everything that
+//! its run writes, so a run allocates nothing and can't fail. The type `Run` ensures that outcome, calls and waits are the
+//! value of its plan for the answers that the run got.
 //!
 //! `layer`, `chain` with the `layers` that copies share, `plan` and `shared_plan` are the parts. `job` has room for
-//! all that a run writes (`run_log`), and `layer_calls` makes the calls from the outermost layer in.
-//! `permitter` is what a job asks for permits, which `listed` answers by a list and `passes` by real
-//! bulkheads; `grants` recounts the permits that a run held at once.
+//! everything that a run writes (`run_log`), and `layer_calls` makes the calls from the outermost layer in. A job asks a
+//! `permitter` for permits: `listed` answers from a list, and `passes` by real bulkheads. `grants` recounts the permits that
+//! a run held at once.
 #![tactic(auto)]
 
 mod chain;

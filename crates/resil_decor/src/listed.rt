@@ -1,8 +1,8 @@
-//! A permitter that answers by a list.
+//! A permitter that answers from a list.
 //!
-//! It answers any id by the next answer of the list, and no past its end, so a run can be played
-//! with answers that were written down. Questions and held permits are kept in room that was
-//! reserved when it was made, so asking takes no memory.
+//! It answers each question, for any id, by the next answer of the list, and with no after its end,
+//! so a run can be replayed with answers that were written down. Questions and held permits are
+//! kept in room reserved when it was made, so asking doesn't allocate.
 
 ghost use Rattle.std.specs.Prelude.{◌≡◌, ◌==◌, [], IfOk, IfErr};
 ghost use Rattle.std.specs.List.{position_from};
@@ -14,7 +14,7 @@ use crate::permitter::{Asked, Permitter};
 use std::alloc::Global;
 use std::marker::Model;
 
-/// A permitter that answers by a list, for any id.
+/// A permitter that answers from a list, for any id.
 #[derive(Drop)]
 pub struct Listed {
     answers: Vec<bool>,
@@ -33,11 +33,11 @@ impl Model for Listed {
 }
 
 impl Listed {
-    /// A permitter that answers by this list, in its order, and no past its end.
+    /// Makes a permitter that answers from this list, in its order, and with no after its end.
     ///
     /// # Errors
     ///
-    /// `Memory` when out of memory.
+    /// `Memory` if out of memory.
     ///
     /// ```
     /// let mut answers = Listed::new(alloc, Vec::from_array(alloc, [true, false])?)?;
@@ -96,7 +96,7 @@ impl Permitter for Listed {
     ghost append_between = { append_between };
 }
 
-// The index of the first id of a list that is this one.
+// The index of the first entry of a list that is this id.
 fn index_of(ids: &[u16], id: u16) -> Option<usize>
     ensures { result ≡ position_from (λ other. other == id) 0 ids.now }
 {

@@ -1,8 +1,8 @@
 //! The permitter of real bulkheads.
 //!
 //! It has a pass for each bulkhead and knows the ids below their number. Its answers are those of
-//! its passes: yes where one acquired a permit, no where none was free. It waits for a permit only
-//! as long as other passes come in between, never for one to become free.
+//! its passes: yes if one acquired a permit, no if none was free. It waits for a permit only while
+//! other passes come in between, never for one to become free.
 
 ghost use Rattle.std.specs.Prelude.{◌≡◌, ◌<◌, map, IfOk, IfErr};
 ghost use Rattle.resil_bulkhead.specs.Passes.{PassView};
@@ -44,8 +44,8 @@ impl<'a, R> Model for Passes<'a, R> {
 }
 
 impl<'a, R> Passes<'a, R> {
-    /// The permitter of these bulkheads, with one pass of each, in the same order. It knows the ids
-    /// below their number, and keeps the runtime for its `enter`, which may wait.
+    /// Makes the permitter of these bulkheads, with one pass of each, in the same order. It knows
+    /// the ids below their number, and keeps the runtime for its `enter`, which may wait.
     pub fn new(rt: &'a R, bulkheads: &'a [Bulkhead], passes: Vec<Pass>) -> Passes<'a, R>
         requires { sources_of passes.items ≡ map (λ b. b.permits) bulkheads.now }
         ensures { result ≡ passes.items }
@@ -57,12 +57,12 @@ impl<'a, R> Passes<'a, R> {
         }
     }
 
-    /// A permitter of the same bulkheads, for another thread: each of its passes holds nothing and
-    /// has seen what the one here has. This one stays as it is.
+    /// Makes a permitter of the same bulkheads for another thread: each of its passes holds nothing
+    /// and has seen what the one here has seen. This one stays as it is.
     ///
     /// # Errors
     ///
-    /// `Memory` when out of memory, before the first pass is split.
+    /// `Memory` if out of memory, before the first pass is split.
     pub fn split(&mut self, alloc: Global) -> Result<Passes<'a, R>, DecorError>
         ensures old { self.new ≡ self.old }
         ensures split { IfOk result (AreSplitFrom self.old) }
@@ -80,7 +80,7 @@ impl<'a, R> Passes<'a, R> {
         })
     }
 
-    /// Gives back a permit of this bulkhead that is held. It never waits.
+    /// Gives back a held permit of this bulkhead. It never waits.
     ///
     /// ```
     /// if passes.enter(0) {

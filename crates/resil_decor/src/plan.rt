@@ -1,7 +1,7 @@
 //! Plans: a chain with the script of its innermost call.
 //!
-//! A plan says all that a run depends on but for the answers of bulkheads. It is data that is
-//! copied and compared, so a result can be checked against the plan that was submitted.
+//! A plan says everything that a run depends on, except for the answers of bulkheads. It is data that can be copied and
+//! compared, so a result can be checked against the plan that was submitted.
 
 ghost use Rattle.std.specs.Prelude.{◌≡◌, ◌↔◌, [], IsTrue, IfOk, IfErr};
 ghost use Rattle.resil_decor.specs.ChainLimits.{IsChain, max_calls};
@@ -29,7 +29,7 @@ impl Model for Plan {
 }
 
 impl Plan {
-    /// The plan to call a function with this script through this chain.
+    /// Makes the plan to call a function with this script through this chain.
     ///
     /// ```
     /// let chain = Chain::new(Vec::new(alloc)).map_err(|refused| refused.0)?;
@@ -41,11 +41,11 @@ impl Plan {
         Plan { chain, script }
     }
 
-    /// A copy with memory of its own.
+    /// Returns a copy with memory of its own.
     ///
     /// # Errors
     ///
-    /// `Memory` when out of memory.
+    /// `Memory` if out of memory.
     pub fn copy(&self, alloc: Global) -> Result<Plan, DecorError>
         ensures copied { IfOk result (λ copy. copy ≡ self.now) }
         ensures refused { IfErr result (λ error. error ≡ DecorError.Memory) }
@@ -57,14 +57,14 @@ impl Plan {
         Ok(Plan { chain, script })
     }
 
-    /// Whether both plans have equal layers and equal scripts.
+    /// Returns whether both plans have equal layers and equal scripts.
     pub fn same(&self, other: &Plan) -> bool
         ensures { IsTrue result ↔ (self.now ≡ other.now) }
     {
         self.chain.same(&other.chain) && self.script.same(&other.script)
     }
 
-    /// Whether both plans have no layers and equal scripts: for who would see at little cost that two plans are the same, since
+    /// Returns whether both plans have no layers and equal scripts. It is a cheap way to see that two plans are the same;
     /// layers may name any number of errors.
     pub fn same_without_layers(&self, other: &Plan) -> bool
         ensures { IsTrue result ↔ ((self.now.layers ≡ []) × (self.now ≡ other.now)) }
@@ -80,7 +80,7 @@ impl Plan {
         self.chain.layers()
     }
 
-    // The greatest number of calls of the function inside the chain.
+    // The maximum number of calls of the function inside the chain.
     pub(crate) fn max_calls(&self) -> u32
         ensures { result ≡ max_calls self.now.layers }
     {

@@ -1,7 +1,7 @@
 //! Runs: the results of jobs.
 //!
-//! Only `Job::run` makes a run, and the type keeps that the run is a value of its plan: so a run
-//! that is handed on needs no proof of where it came from.
+//! Only `Job::run` makes a run, and the type ensures that the run is a value of its plan. So a run
+//! that is passed on needs no proof of where it came from.
 
 ghost use Rattle.std.specs.Prelude.{◌≡◌, ◌↔◌, IsTrue};
 ghost use Rattle.resil_decor.specs.Grants.{IsWithin};
@@ -52,7 +52,7 @@ impl Model for Run {
 }
 
 impl Run {
-    /// The plan that was run.
+    /// Returns the plan that was run.
     pub fn plan(&self) -> &Plan
         ensures plan { result.now ≡ self.now.plan }
         ensures value { IsValue self.now }
@@ -60,7 +60,7 @@ impl Run {
         self.plan.plan()
     }
 
-    /// The outcome of the call through the chain.
+    /// Returns the outcome of the call through the chain.
     ///
     /// ```
     /// match run.outcome() {
@@ -74,30 +74,30 @@ impl Run {
         self.outcome
     }
 
-    /// How often the innermost function was called, from 0 to `MAX_CALLS`.
+    /// Returns how often the innermost function was called, from 0 to `MAX_CALLS`.
     pub fn calls(&self) -> u32
         ensures { result ≡ self.now.calls }
     {
         self.log.calls()
     }
 
-    /// The waits of all retries, in milliseconds, in their order.
+    /// Returns the waits of all retries, in milliseconds, in their order.
     pub fn waits(&self) -> &[u64]
         ensures { result.now ≡ self.now.waits }
     {
         self.log.waits()
     }
 
-    /// The bulkheads that were asked, and their answers, in order.
+    /// Returns the questions to bulkheads, with their answers, in order.
     pub fn asked(&self) -> &[Asked]
         ensures { result.now ≡ self.now.asked }
     {
         self.log.asked()
     }
 
-    /// Whether these bulkheads, by their ids, may have given the answers of the run: it never holds
-    /// more permits of a bulkhead at once than that has (Resilience4j user guide, Bulkhead,
-    /// `maxConcurrentCalls`).
+    /// Returns whether these bulkheads, by their ids, may have given the answers of the run: it
+    /// never held more permits of a bulkhead at once than that has (Resilience4j user guide,
+    /// Bulkhead, `maxConcurrentCalls`).
     ///
     /// ```
     /// // Two layers of the chain are bulkhead 0, and both granted a permit.

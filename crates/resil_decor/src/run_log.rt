@@ -1,8 +1,7 @@
-//! What a run writes: its calls, its waits, and the answers that it got, in the order in which they
-//! came.
+//! What a run writes: its calls, its waits, and the answers that it got, in the order in which they came.
 //!
-//! The room is reserved before the run starts, so writing takes no memory. Most chains have neither a
-//! retry nor a bulkhead: where there is no room for a wait or an answer, a log is two words.
+//! The room is reserved before the run starts, so writing doesn't allocate. Most chains have neither
+//! a retry nor a bulkhead: if there is no room for any wait or answer, a log is two words.
 
 ghost use Rattle.std.specs.Prelude.{◌≡◌, ◌<◌, ◌+◌, [], IfOk};
 ghost use Rattle.resil_decor.specs.ChainLimits.{call_limit};
@@ -21,7 +20,7 @@ pub(crate) struct RunLog {
 // Where a run writes.
 #[derive(Drop)]
 enum Written {
-    // Where there is room for no wait and no answer: the calls alone.
+    // If there is no room for a wait or an answer: the calls alone.
     Calls(u32),
     // Calls, waits and answers.
     Lists(Box<RunLists>),
@@ -60,7 +59,7 @@ impl Model for RunLists {
 }
 
 impl RunLog {
-    // An empty one with room for these numbers of waits and answers. Errors: memory runs out.
+    // An empty one with room for these numbers of waits and answers. Errors: out of memory.
     pub(crate) fn new(alloc: Global, waits: usize, asked: usize) -> Result<RunLog, AllocError>
         ensures { IfOk result (λ log. log ≡ record { calls = 0; waits = []; wait_room = waits; asked = []; asked_room = asked }) }
     {
@@ -102,7 +101,7 @@ impl RunLog {
         }
     }
 
-    // The bulkheads that were asked, and their answers, in their order.
+    // The questions to bulkheads, with their answers, in their order.
     pub(crate) fn asked(&self) -> &[Asked]
         ensures { result.now ≡ self.now.asked }
     {

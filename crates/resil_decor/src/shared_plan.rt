@@ -1,7 +1,7 @@
 //! Plans that several owners share.
 //!
-//! A job, its run, and whoever compares the run with the job that was submitted need the plan all at
-//! once. So it stands on the heap once, and each of them has a pointer to it.
+//! A job, its run, and anyone who compares the run with the job that was submitted need the plan at
+//! the same time. So it is on the heap once, and each of them has a pointer to it.
 
 ghost use Rattle.std.specs.Prelude.{◌≡◌, IfOk, IfErr};
 
@@ -11,7 +11,7 @@ use std::alloc::Global;
 use std::marker::Model;
 use std::sync::Arc;
 
-/// A plan with one owner or more, in any threads.
+/// A plan with one or more owners, in any threads.
 ///
 /// ```
 /// let submitted = job.shared_plan()?;
@@ -33,11 +33,11 @@ impl Model for SharedPlan {
 }
 
 impl SharedPlan {
-    /// A plan with one owner.
+    /// Makes a plan with one owner.
     ///
     /// # Errors
     ///
-    /// The plan itself, when out of memory.
+    /// The plan itself, if out of memory.
     pub fn new(alloc: Global, plan: Plan) -> Result<SharedPlan, Plan>
         ensures made { IfOk result (λ shared. shared ≡ plan) }
         ensures plan_back { IfErr result (λ back. back ≡ plan) }
@@ -48,11 +48,11 @@ impl SharedPlan {
         }
     }
 
-    /// One more owner of the plan. It takes no memory.
+    /// Makes one more owner of the plan. It doesn't allocate.
     ///
     /// # Errors
     ///
-    /// `Memory` where there are more owners than can be counted.
+    /// `Memory` if there are more owners than can be counted.
     pub fn share(&self) -> Result<SharedPlan, DecorError>
         ensures shared { IfOk result (λ shared. shared ≡ self.now) }
         ensures refused { IfErr result (λ error. error ≡ DecorError.Memory) }
@@ -61,7 +61,7 @@ impl SharedPlan {
         Ok(SharedPlan { plan })
     }
 
-    /// The plan.
+    /// Returns the plan.
     pub fn plan(&self) -> &Plan
         ensures { result.now ≡ self.now }
     {

@@ -34,7 +34,7 @@ abbrev pub IsRefusedFor : Request → List ℕ → Refusal → Type 0
 IsRefusedFor requested input refusal.TooLong = input_limit < length input
 IsRefusedFor requested input why = FitsLimit input × IsRefusalFor requested input why
 
--- A thread may be missing for an input of any length where its head and its rows are read without a
--- refusal, and the run of them answers so.
+-- A thread may be missing for an input of any length if its head and its rows are read without a
+-- refusal, and the run of them ends this way.
 abbrev pub LacksThread : RunOptions → List ℕ → Type 0
 LacksThread words input = FitsLimit input × HasRun MayAnswerOnThreads words input (Err run_error.NoThread)

@@ -1,6 +1,6 @@
--- Which texts a command of one thread may write for an input, and why it may refuse the input. Each
--- definition is a relation: a given text is one that the command may write, and a given refusal is
--- that of the first step that refuses the input.
+-- Which texts a single-threaded command may write for an input, and why it may refuse the input.
+-- Each definition is a relation: a given text is one that the command may write, and a given
+-- refusal is that of the first step that refuses the input.
 use Rattle.std.specs.Prelude.{ℕ, List}
 use Rattle.resil_replay.specs.Audit.{IsAuditText, IsAuditRefusal}
 use Rattle.resil_chain.specs.Chain.{IsChainText, IsChainRefusal}

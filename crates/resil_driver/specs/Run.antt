@@ -25,11 +25,10 @@ use Rattle.resil_heads.specs.declared.refusal.Refusal.TheVariants as refusal
 use Rattle.resil_heads.specs.declared.refusal.RunRefusal.TheVariants as run
 use Rattle.resil_driver.specs.declared.run.runner.RunSettings.{RunSettings}
 
--- in all of these it is given what a run with these settings, with these bulkheads and of these rows
--- may answer
+-- all of these are given what a run with these settings, with these bulkheads and of these rows may return
 module _ (MayAnswer : RunSettings → List BulkheadView → List JobRow → Result PoolReport RunError → Type 0) where
   -- The input splits into a head and a body of jobs, neither of which is refused, and a run of these
-  -- jobs that the head and the words say answers this.
+  -- jobs, as the head and the words say, returns this.
   abbrev pub HasRun : RunOptions → List ℕ → Result PoolReport RunError → Type 0
   HasRun words input answer = (said : RunHeadView) × (body : List ℕ) × (jobs : List ScriptedJob)
       × SplitsInto run_head_of input said body × IsRunBody words.callers body jobs × HasPlayed MayAnswer said words jobs answer
@@ -46,6 +45,6 @@ module _ (MayAnswer : RunSettings → List BulkheadView → List JobRow → Resu
   IsRunRefusal words input (refusal.Run run.ReceiptsDiffer) = HasRun words input (Err run_error.ReceiptsDiffer)
   IsRunRefusal words input why = IsPartRefusal run_head_of (IsRunBodyError words.callers) input why
 
-  -- an error of the command: memory, a thread that can't be started where a run answered so, or a refusal
+  -- an error of the command: memory, a thread that can't be started if a run returned that, or a refusal
   abbrev pub IsErrorFor : RunOptions → List ℕ → CommandError → Type 0
   IsErrorFor words input = IsRunError (HasRun words input (Err run_error.NoThread)) (IsRunRefusal words input)

@@ -1,4 +1,4 @@
-//! The commands that one thread carries out, by their name.
+//! The single-threaded commands, by their name.
 
 ghost use Rattle.std.specs.Prelude.{MatchResult};
 ghost use Rattle.resil_heads.specs.CommandError.{IsError};
@@ -9,7 +9,7 @@ use resil_replay::{audit, replay};
 use resil_words::Single;
 use std::alloc::Global;
 
-/// The text that a command gives for an input. It doesn't ask whether the input is too long.
+/// Returns the text that a command writes for an input. It doesn't check whether the input is too long.
 ///
 /// # Errors
 ///

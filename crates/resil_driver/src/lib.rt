@@ -1,10 +1,10 @@
-//! The program but for its `main`: what the words request, and what is written for an input.
+//! The program except for its `main`: what the words request, and what is written for an input.
 //!
-//! `command` picks the text of a command of one thread by its name, and `program` reads the words and
-//! the input, refuses an input that is too long, and writes the answer with its status.
+//! `command` picks the text of a single-threaded command by its name, and `program` reads the words
+//! and the input, refuses an input that is too long, and writes the answer with its status.
 //!
-//! `run` is the command of that name, which alone starts threads and may wait. So there are two
-//! entries: `drive_single` for the other commands, which has no runtime, and `drive` for all.
+//! `run` is the command of that name. It is the only one that starts threads and may wait. So there are
+//! two entry points: `drive_single` for the other commands, which has no runtime, and `drive` for all.
 #![tactic(auto)]
 
 mod command;

@@ -1,9 +1,8 @@
 //! The program over any reader and writer.
 //!
-//! All input is read before anything is answered, and an answer is made whole before its first byte
-//! is written. An input that is too long is refused here, before any command sees it, so the commands
-//! are defined on inputs of the limit at most. The reader and the writer say themselves whether a call to them has failed, so that
-//! is known apart from every other end.
+//! All input is read before anything is answered, and an answer is complete before its first byte is written. An input that is too
+//! long is refused here, before any command sees it, so the commands are defined on inputs within the limit. The reader and the
+//! writer themselves say whether a call to them has failed, so that this is distinguished from every other end.
 
 ghost use Rattle.std.specs.Prelude.{◌≡◌, ◌≤◌, ◌⊎◌, ◌||◌, ◌+◌, ℕ, List, Option, true, false, Some, None, map, is_err, IfErr, IfOk, IfSome};
 ghost use Rattle.resil_input.specs.Io.{ConsumesAtMost, input_limit};
@@ -20,8 +19,7 @@ use std::alloc::Global;
 use std::sync::Wait;
 use std::thread::Threads;
 
-// The output of a command that one thread carries out, for what a reader gives. Errors: a read
-// failed.
+// The output of a single-threaded command, for what a reader returns. Errors: a read failed.
 fn single_output<R: InputReader>(
     alloc: Global,
     single: Single,
@@ -46,7 +44,7 @@ fn single_output<R: InputReader>(
     }
 }
 
-// The output of `run`, for what a reader gives. Errors: a read failed.
+// The output of `run`, for what a reader returns. Errors: a read failed.
 fn run_output<R: Threads + Wait + Sync, S: InputReader>(
     rt: &R,
     alloc: Global,
@@ -73,7 +71,7 @@ fn run_output<R: Threads + Wait + Sync, S: InputReader>(
     }
 }
 
-// Writes the output, where no read failed, and gives the number of its status.
+// Writes the output, if no read failed, and returns the number of its status.
 fn write_answer<W: OutputWriter>(writer: &mut W, output: Result<Output, ReadError>) -> u8
     ensures drives { (requested : Option Request) (input : Option (List ℕ)) → IfOk output (IsAnswerTo requested input) → DrivesTo requested input (W.contents writer.old) (W.contents writer.new) result }
     ensures memory { IfOk output (λ out. out ≡ Output.NoMemory → WritesNoMemory (W.contents writer.old) (W.contents writer.new) result) }
@@ -87,12 +85,10 @@ fn write_answer<W: OutputWriter>(writer: &mut W, output: Result<Output, ReadErro
     }
 }
 
-/// The program for all commands that one thread carries out: it reads the words, then the input,
-/// and writes the answer. The number is that of a [`Status`]. `None`, with nothing read and nothing
-/// written, is for words that name `run`.
+/// The program for all single-threaded commands: it reads the words, then the input, and writes the answer. It returns the number
+/// of a [`Status`], or `None`, with nothing read and nothing written, if the words name `run`.
 ///
-/// It needs the words, with the program's name first, and any reader and writer; of those of `std`
-/// a `FailureTracking` makes them.
+/// It needs the words, with the program's name first, and any reader and writer; a `FailureTracking` makes them from those of `std`.
 pub fn drive_single<R: InputReader, W: OutputWriter>(
     alloc: Global,
     words: &[&str],
@@ -119,12 +115,10 @@ pub fn drive_single<R: InputReader, W: OutputWriter>(
     }
 }
 
-/// The whole program: the words (the program's name first), all input, all output. The number is
-/// that of a [`Status`]. All commands but `run` are those of [`drive_single`]; `run` starts
-/// threads, and waits for them.
+/// The whole program: the words (the program's name first), all input, all output. It returns the number of a [`Status`]. All
+/// commands but `run` are those of [`drive_single`]; `run` starts threads, and waits for them.
 ///
-/// It needs what [`drive_single`] needs, and a runtime: for memory, and where the words name `run`
-/// for threads.
+/// It needs what [`drive_single`] needs, and a runtime: for memory, and for threads if the words name `run`.
 pub fn drive<R: Threads + Wait + Sync + AllocGlobal, S: InputReader, W: OutputWriter>(
     rt: &R,
     words: &[&str],

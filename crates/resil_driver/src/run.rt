@@ -1,10 +1,9 @@
-//! `run`: carries out jobs on a pool of threads, and writes its history and its results.
+//! `run`: runs jobs on a pool of threads, and writes its history and its results.
 //!
-//! The steps are split, head, rows, carried out and text, as of each command: `head` and `rows` are
-//! what is read, and `report` is the text, which begins as that of `replay`. Carrying out the jobs
-//! alone may find no thread: `play` opens a pool for them, whose bulkheads `bulkheads` makes, and
-//! has them carried out by a `runner`; `grants` compares the answers that a report shows with the
-//! bulkheads.
+//! The steps are those of each command: split, head, rows, run, text. `head` and `rows` are what is
+//! read, and `report` is the text, which begins as that of `replay`. Only running the jobs may find
+//! that a thread can't be started: `play` opens a pool for them, with the bulkheads that `bulkheads`
+//! makes, and a `runner` runs them; `grants` compares the answers in a report with the bulkheads.
 
 ghost use Rattle.std.specs.Prelude.{◌≡◌, ◌≤◌, ℕ, Err, List, MatchResult};
 ghost use Rattle.resil_rule.specs.Limits.{AreLimits};
@@ -40,12 +39,12 @@ use std::thread::Threads;
 // The words take as many callers as a pool does.
 const _: () = prove!(resil_words::MAX_CALLERS == resil_workers::MAX_CALLERS);
 
-/// The text of the report of the jobs of an input, which this runner carries out. It may wait.
+/// Returns the text of the report of the jobs of an input, which this runner runs. It may wait.
 ///
 /// # Errors
 ///
-/// In this order: `Refused` as `NoBody`; as `Head`; as `BadHeader` or `BadRow`; then `NoThread`
-/// where a thread can't be started, or `Refused` as `Run`. `Memory` may come at any step.
+/// In this order: `Refused` as `NoBody`; as `Head`; as `BadHeader` or `BadRow`; then `NoThread` if
+/// a thread can't be started, or `Refused` as `Run`. `Memory` may come at any step.
 pub fn text<J: JobRunner, R: Threads + Wait + Sync>(
     runner: &J,
     rt: &R,
@@ -61,8 +60,8 @@ pub fn text<J: JobRunner, R: Threads + Wait + Sync>(
     text_for(runner, rt, alloc, RunRequest { head: &head, words }, body)
 }
 
-// The text of the report of the jobs of a body, for an input that it is the body of. Errors: as for
-// `text`, but for those of the head.
+// The text of the report of the jobs of a body, for the input that it is the body of. Errors: as
+// for `text`, except those of the head.
 fn text_for<J: JobRunner, R: Threads + Wait + Sync>(
     runner: &J,
     rt: &R,

@@ -126,7 +126,7 @@ module _ {W : Type 0} where
       ends = ends;
       at_once = λ sizes.
           let few = running-within_workers (limits_of key) (events_in k.log) legal in
-          let most = workers-within_opening (limits_of key) (events_in k.log) sizes legal in
+          let most = workers-within_opening (limits_of key) (events_in k.log) sizes.max.0 legal in
           omega (arith, few, most);
       out_runs = λ id due. among-some id (running (events_in k.log)) (let outs = stood.outs id in let runs = stood.state.runs id in omega (arith, outs, runs, due));
       once = once;

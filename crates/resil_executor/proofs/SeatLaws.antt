@@ -1,10 +1,9 @@
 -- What a seat sees of what its turn wrote, and what it may have written.
-use Rattle.std.proofs.Common.{◌≡◌, ◌≤◌, ◌+◌, inl, inr, ℕ, Bool, true, false, cond, List, [], ◌++◌, ◌∙◌, Option, Some, None, length, sym, refl, ap, subst, arith, append-nil}
-use Rattle.std.proofs.lemmas.Bool.{OnTrue_at, OnTrue_from, OnFalse_at, OnFalse_from}
+use Rattle.std.proofs.Common.{◌≡◌, ◌<◌, ◌≤◌, ◌+◌, inl, inr, ℕ, Bool, true, false, cond, List, [], ◌++◌, ◌∙◌, Option, Some, None, length, sym, refl, ap, subst, arith, append-nil}
 use Rattle.std.proofs.lemmas.List.{nil_from_length}
 use Rattle.std.specs.Prelude.{IfErr, IfOk, OnOk, OnErr, Result, Ok, Err, Contains}
 use Rattle.std.specs.Bool.{OnTrue, OnFalse}
-use Rattle.resil_executor.specs.Words.{IsPrefix, Sizes, IsLegal, times, is_among, is_same_id, running, submissions, is_closed, ids_out, RuleView, ids_of, busy, made_by, Id, Event, Reply, Rank, View, Look, Found, Nothing, Over, OnFound, OnNothing, OnOver, IsCovered, left_view, Opening, State, PickedJob, Numbers}
+use Rattle.resil_executor.specs.Words.{IsPrefix, Sizes, IsLegal, times, is_among, is_same_id, running, submissions, is_closed, ids_out, RuleView, ids_of, busy, made_by, Id, Event, Reply, Rank, View, Look, Found, Nothing, Over, OnFound, OnNothing, OnOver, IsCovered, left_view, holder_view, Opening, State, PickedJob, Numbers}
 use Rattle.resil_rule.specs.declared.event.Event.TheVariants as event
 use Rattle.resil_rule.specs.declared.event.Reply.TheVariants as reply
 use Rattle.resil_rule.proofs.IdLaws.{same_id-self, same_id-equal}
@@ -17,7 +16,7 @@ use Rattle.resil_executor.specs.declared.state.Refused.{Refused}
 use Rattle.resil_executor.specs.declared.state.Refused.TheVariants as refused
 use Rattle.resil_executor.specs.Kept.{KeepsUp, Keeps, unfinished}
 use Rattle.resil_executor.specs.Log.{Entry, Note, StandsFor, MayHaveWritten, picked_id, ended_id, job_of, beyond_submission, entry_of, entries_of, events_in, accepted_in, picked_in, ended_in, beyond_submissions_in, IsOver}
-use Rattle.resil_executor.specs.Turn.{Steps, IsPlain, IsVisit, Writes, WritesNone, Accepts, Refuses, Picks, IsOverNow, SeesLast, SeesMore, HasSeen, SeesAccepted, SeesRefusal, IsDue, HasPicked, HasRested, SeesOver, AreNumbersAfter}
+use Rattle.resil_executor.specs.Turn.{Steps, IsPlain, IsVisit, Writes, WritesNone, Accepts, Refuses, Picks, IsOverNow, SeesLast, SeesMore, SeesAccepted, SeesRefusal, IsDue, HasPicked, HasRested, SeesOver, AreNumbersAfter}
 use Rattle.resil_executor.proofs.KeptLaws.{keeps-up}
 use Rattle.resil_executor.proofs.LogLaws.{more-some, more-none, more-empty, still-there, prefix-more}
 use Rattle.resil_executor.proofs.OneLogLaws.{picked-once}
@@ -30,6 +29,8 @@ pub record HasTurned {W K : Type 0} (limits : Sizes) (old locked new : View K (E
   pub own : locked.own ≡ old.own
   pub saw : new.seen ≡ locked.seen ++ entries_of after last
   pub wrote : new.own ≡ locked.own ++ entries_of after last
+  pub turned : new.turns ≡ old.turns + 1
+  pub made : new.made ≡ old.made
 
 -- what a state under the lock keeps
 abbrev IsHome : {W H : Type 0} → (List Event → H → Type 0) → (ℕ → H → Type 0) → (H → Option ℕ) → Opening H → List (Entry W) → State W H → Type 0
@@ -48,14 +49,16 @@ module _ {W H : Type 0} {IsRecordOf : List Event → H → Type 0} {HasRoom : �
 
 -- what a turn's proof begins with
 module _ {W H : Type 0} {key : Opening H} {lent s : State W H} where
-  pub turned : (old locked new : View (Opening H) (Entry W)) (next : State W H) → lent ≡ s → StandsFor locked.key.limits locked.seen s.rule → locked.key ≡ old.key → old.key ≡ key → IsPrefix old.seen locked.seen → locked.own ≡ old.own → new ≡ left_view locked (entries_of next.rule next.last)
+  pub turned : (old locked new : View (Opening H) (Entry W)) (next : State W H) → lent ≡ s → StandsFor locked.key.limits locked.seen s.rule → locked.key ≡ old.key → old.key ≡ key → IsPrefix old.seen locked.seen → locked.own ≡ old.own → new ≡ left_view locked (entries_of next.rule next.last) → locked ≡ holder_view old locked.seen
       → HasTurned key.limits old locked new lent.rule next.rule next.last
-  turned old locked new next same stands keyed mine begins own seen = record {
+  turned old locked new next same stands keyed mine begins own seen took = record {
     found = subst (λ (o : Opening H). StandsFor o.limits locked.seen lent.rule) (keyed ∙ mine) (subst (λ (x : State W H). StandsFor locked.key.limits locked.seen x.rule) (sym same) stands);
     begins = begins;
     own = own;
     saw = ap (λ (v : View (Opening H) (Entry W)). v.seen) seen;
     wrote = ap (λ (v : View (Opening H) (Entry W)). v.own) seen;
+    turned = ap (λ (v : View (Opening H) (Entry W)). v.turns) seen ∙ ap (λ (v : View (Opening H) (Entry W)). v.turns + 1) took;
+    made = ap (λ (v : View (Opening H) (Entry W)). v.made) seen ∙ ap (λ (v : View (Opening H) (Entry W)). v.made) took;
   }
 
 -- a turn of a seat: its view before, with the lock, and after; the rule that it found, and what it left and noted
@@ -78,11 +81,15 @@ module _ {W K : Type 0} {limits : Sizes} {old locked new : View K (Entry W)} {v 
   seen-still : WritesNone v after last → new.seen ≡ locked.seen
   seen-still w = t.saw ∙ (ap (λ (l : Option Note). locked.seen ++ entries_of after l) w.none ∙ append-nil locked.seen)
 
+  turned-more : old.turns < new.turns
+  turned-more = let one = t.turned in omega (arith, one)
+
   pub more-sees : WritesNone v after last → SeesMore limits old new
   more-sees w = record {
     begins = begins-new;
     wrote = wrote-new ∙ (ap (λ (l : Option Note). old.own ++ entries_of after l) w.none ∙ append-nil old.own);
     legal = legal-new w.steps;
+    turned = turned-more;
   }
 
   pub last-sees : (event : Event) → Writes v event after last → SeesLast limits old event new
@@ -94,6 +101,7 @@ module _ {W K : Type 0} {limits : Sizes} {old locked new : View K (Entry W)} {v 
     wrote = wrote-new ∙ ap (λ (l : Option Note). old.own ++ entries_of after l) w.wrote;
     allowed = w.allowed limits locked.seen t.found;
     legal = legal-new w.steps;
+    turned = turned-more;
   }
 
   pub accepted-sees : (id : Id) (r : Reply) (work : W) → Accepts v id r work after last → SeesAccepted limits old id r work new
@@ -136,17 +144,6 @@ module _ {W K : Type 0} {limits : Sizes} {old locked new : View K (Entry W)} {v 
           finished = omega (arith, ends, jobs);
           closed = closed ∙ now.state.numbers.closed_is;
         }))
-
--- what a seat that began so has seen
-module _ {W K : Type 0} (limits : Sizes) (start before after : View K (Entry W)) (Holds : List Event → Type 0) (same : start ≡ before) (sees : SeesMore limits start after) where
-  pub has_seen : Holds (events_in after.seen) → HasSeen limits before Holds
-  has_seen holds = record { after = after; sees = rw same at sees; holds = holds }
-
-  pub true_seen : (b : Bool) → OnTrue b (Holds (events_in after.seen)) → OnTrue b (HasSeen limits before Holds)
-  true_seen b told = OnTrue_from _ _ (λ is. has_seen (OnTrue_at is told))
-
-  pub false_seen : (b : Bool) → OnFalse b (Holds (events_in after.seen)) → OnFalse b (HasSeen limits before Holds)
-  false_seen b told = OnFalse_from _ _ (λ is. has_seen (OnFalse_at is told))
 
 -- no more works were accepted than there were submissions
 pub few-accepted : {W H : Type 0} (IsRecordOf : List Event → H → Type 0) (HasRoom : ℕ → H → Type 0) (limits : Sizes) (log : List (Entry W)) (v : RuleView W) (count : ℕ) (r : H) → StandsFor limits log v → KeepsUp IsRecordOf HasRoom log v count r

@@ -1,9 +1,9 @@
 -- Laws of what clauses say, whatever the bodies.
 use Rattle.std.specs.Prelude.{◌≡◌, ◌⊎◌, ◌≤◌, ◌<◌, ◌+◌, ℕ, ◌++◌, ◌∷◌, [], true, List, Option, length}
-use Rattle.resil_executor.specs.Words.{IsPrefix, Sizes, AreLimits, IsAllowed, IsLegal, is_closed, is_among, times, waiting, running, finished, RuleView, Id, Event, Finish, View, is_there, total, IsSeatAt}
+use Rattle.resil_executor.specs.Words.{IsPrefix, Sizes, AreSizes, IsAllowed, IsLegal, is_closed, is_among, times, waiting, running, finished, RuleView, Id, Event, Finish, View, is_there, total, IsSeatAt}
 use Rattle.resil_lock.specs.declared.protocol.Rank.TheVariants as rank
 use Rattle.resil_executor.specs.Log.{Entry, Note, MayHaveWritten, entries_of, events_in, picked_in, ended_in, IsOver}
-use Rattle.resil_executor.specs.Turn.{Picks, HasPicked, HasWorked, SeesLast}
+use Rattle.resil_executor.specs.Turn.{Picks, HasPicked, HasWorked, SeesLast, SeesMore}
 
 -- K is the key of the lock.
 module _ {W C O : Type 0} (K : Type 0) (HasRun : C → W → O → C → Type 0) where
@@ -22,6 +22,11 @@ module _ (W : Type 0) where
   OnlyWorkersPick =
       (own : List (Entry W)) (v after : RuleView W) (last : Option Note) (id : Id) (work : W) → Picks v id work after last
       → (MayHaveWritten rank.Visitor (own ++ entries_of after last) → ⊥) × (MayHaveWritten rank.Opener (own ++ entries_of after last) → ⊥)
+
+module _ (W K : Type 0) where
+  -- A look is a turn, which its view counts: nobody sees a thing that he hasn't looked at.
+  abbrev pub ALookIsATurn : Type 0
+  ALookIsATurn = (limits : Sizes) (blank : View K (Entry W)) → SeesMore limits blank blank → ⊥
 
 -- The end of a pool stays: whatever may still come, it is closed, nothing waits, nothing runs, and each accepted job is finished.
 abbrev pub EndStays : Type 0
@@ -53,7 +58,7 @@ module _ {W K : Type 0} where
     pub gone_fits : (index : ℕ) (v : View K (Entry W)) → IsSeatAt gone index v → MayHaveWritten v.rank v.own
     pub picks : (id : Id) → total (λ v. times id (picked_in v.own)) views + total (λ v. times id (picked_in v.own)) gone ≡ times id (picked_in log)
     pub ends : (id : Id) → total (λ v. times id (ended_in v.own)) views + total (λ v. times id (ended_in v.own)) gone ≡ times id (ended_in log)
-    pub at_once : AreLimits limits → length (running (events_in log)) ≤ limits.max
+    pub at_once : AreSizes limits → length (running (events_in log)) ≤ limits.max
     pub out_runs : (id : Id) → times id (ended_in log) < times id (picked_in log) → is_among id (running (events_in log)) ≡ true
     pub once : (id : Id) → times id (picked_in log) ≤ 1
     pub ended_few : (id : Id) → times id (ended_in log) ≤ times id (picked_in log)

@@ -5,3 +5,4 @@ pub mod Turn
 pub mod Seats
 pub mod Dispatch
 pub mod Words
+pub mod Joining

@@ -1,6 +1,6 @@
 -- Whose a seat is, and what it knows: the words in which contracts speak of a pool, and of what submits, works and closes there.
-use Rattle.std.specs.Prelude.{◌≡◌}
-use Rattle.resil_executor.specs.Words.{Seat, Sizes, View, first_view, visitor_view, Opening}
+use Rattle.std.specs.Prelude.{◌≡◌, ◌+◌}
+use Rattle.resil_executor.specs.Words.{Seat, Sizes, View, first_view, visitor_view, made_one, Opening}
 use Rattle.resil_executor.specs.Log.{Entry}
 use Rattle.resil_executor.specs.declared.executor.Executor.{Executor}
 use Rattle.resil_executor.specs.Turn.{HasWorkedSinceHiredBy, SeesOver}
@@ -36,6 +36,10 @@ module _ {W H : _} where
 abbrev pub known_to : {S V : Type 0} → Seat S V → V
 known_to seat = seat.me.0
 
--- a seat of the same pool, which knows the same
-abbrev pub IsLike : {S V : Type 0} → Seat S V → Seat S V → Type 0
-IsLike one other = (other.table_id ≡ one.table_id) × (other.me ≡ one.me)
+-- a seat of the same pool, which knows the same, but for that it has made one seat more
+pub record HasHired {S K E : Type 0} (before after : Seat S (View K E)) : Type 0 where
+  pub source : after.table_id ≡ before.table_id
+  pub me : after.me ≡ (made_one before.me.0, before.me.1)
+  pub key : after.me.0.key ≡ before.me.0.key
+  pub own : after.me.0.own ≡ before.me.0.own
+  pub made : after.me.0.made ≡ before.me.0.made + 1

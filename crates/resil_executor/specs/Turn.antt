@@ -97,7 +97,7 @@ pub record NothingFree (limits : Sizes) (history : List Event) : Type 0 where
 
 -- What a seat sees, whatever the key of its lock.
 module _ {W K : Type 0} where
-  -- A seat wrote this event, and nothing else: it sees a legal log, which begins with what it had seen and ends with the event, which was
+  -- A seat had a turn and wrote this event, and nothing else: it sees a legal log, which begins with what it had seen and ends with the event, which was
   -- allowed where it stands.
   pub record SeesLast (limits : Sizes) (before : View K (Entry W)) (event : Event) (after : View K (Entry W)) : Type 0 where
     pub log : List (Entry W)
@@ -107,12 +107,14 @@ module _ {W K : Type 0} where
     pub wrote : after.own ≡ before.own ++ record { note = note.Event event; payload = work } ∷ []
     pub allowed : IsAllowed limits (events_in log) event
     pub legal : IsLegal limits (events_in after.seen)
+    pub turned : before.turns < after.turns
 
-  -- A seat wrote nothing: it sees a legal log, which begins with what it had seen.
+  -- A seat had a turn and wrote nothing: it sees a legal log, which begins with what it had seen.
   pub record SeesMore (limits : Sizes) (before after : View K (Entry W)) : Type 0 where
     pub begins : IsPrefix before.seen after.seen
     pub wrote : after.own ≡ before.own
     pub legal : IsLegal limits (events_in after.seen)
+    pub turned : before.turns < after.turns
 
   -- A seat sees that its work was accepted, with the work, and wrote nothing else.
   pub record SeesAccepted (limits : Sizes) (before : View K (Entry W)) (id : Id) (reply : Reply) (work : W) (after : View K (Entry W)) : Type 0 where
@@ -126,20 +128,6 @@ module _ {W K : Type 0} where
   SeesRefusal limits before refused.Closed after = (id : Id) × (sees : SeesLast limits before (Submit id reply.Closed) after) × (is_closed (events_in sees.log) ≡ true)
   SeesRefusal limits before refused.Spent after = SeesMore limits before after × (length (submissions (events_in after.seen) 1) ≡ 18446744073709551615)
   SeesRefusal limits before refused.Memory after = IsPrefix before.seen after.seen × (after.own ≡ before.own)
-
-  -- A seat that began so has seen that this work was accepted under this id, whichever the reply.
-  abbrev pub WasAccepted : Sizes → View K (Entry W) → Id → W → Type 0
-  WasAccepted limits before id work = (given : Reply) × (after : View K (Entry W)) × SeesAccepted limits before id given work after
-
-  -- A seat that began so has seen that a work of this type was refused, and why.
-  abbrev pub WasRefused : Sizes → View K (Entry W) → Refused → W → Type 0
-  WasRefused limits before why work = (after : View K (Entry W)) × SeesRefusal limits before why after
-
-  -- A seat that began so has seen a legal history of which this holds, and wrote nothing.
-  pub record HasSeen (limits : Sizes) (before : View K (Entry W)) (Holds : List Event → Type 0) : Type 0 where
-    pub after : View K (Entry W)
-    pub sees : SeesMore limits before after
-    pub holds : Holds (events_in after.seen)
 
   -- A seat picked this job, which was accepted with this work, and wrote nothing else.
   pub record HasPicked (limits : Sizes) (id : Id) (work : W) (before after : View K (Entry W)) : Type 0 where

@@ -3,7 +3,8 @@ pub use mathlib.Core.List.{IsPrefix}
 pub use Rattle.atomic_table.specs.declared.shared.Seat.{Seat}
 pub use Rattle.resil_rule.specs.Admission.{IsAllowed, IsLegal, reply_after}
 pub use Rattle.resil_rule.specs.History.{times, is_among, is_closed, waiting, running, accepted, finished, submissions, workers, core_size, max_size, is_same_id, is_close, started_id, queued_id, taken_id, finished_id, accepted_id, is_submit_of}
-pub use Rattle.resil_rule.specs.Limits.{Sizes, AreLimits}
+pub use Rattle.resil_rule.specs.Limits.{Sizes}
+pub use Rattle.resil_rule.specs.Sizes.{AreSizes}
 pub use Rattle.resil_rule.specs.RuleState.{IsStateOf, HasNoneToPick, Follows, IsPicked}
 pub use Rattle.resil_rule.specs.RuleView.{RuleView, busy, owed, made_by, HasOneToPick, is_acceptance, with_submission, with_pick, with_take, with_finish, ids_of}
 pub use Rattle.resil_rule.specs.Slots.{ids_out}
@@ -16,7 +17,7 @@ pub use Rattle.resil_rule.specs.declared.record.Record.{Ghosts}
 pub use Rattle.resil_rule.specs.declared.rule.Picked.{Picked}
 pub use Rattle.resil_rule.specs.declared.slots.Slot.{Slot}
 pub use Rattle.resil_lock.specs.BetweenSteps.{IsSeatAt, HoldsBetweenSteps}
-pub use Rattle.resil_lock.specs.Lock.{first_view, visitor_view, is_there, total, weigh, IsCovered, left_view}
+pub use Rattle.resil_lock.specs.Lock.{first_view, visitor_view, is_there, total, weigh, IsCovered, left_view, holder_view, made_one}
 pub use Rattle.resil_lock.specs.Work.{AfterRounds, OnFound, OnNothing, OnOver}
 pub use Rattle.resil_lock.specs.declared.log.Logged.{Logged}
 pub use Rattle.resil_lock.specs.declared.protocol.Rank.{Rank}

@@ -7,14 +7,14 @@ use crate::log::Entry;
 use crate::opening::Opening;
 use crate::state::BoxedState;
 use resil_lock::{Lock, LockSeat};
-use resil_rule::{Limits, NoRecord, Record};
+use resil_rule::{NoRecord, Record, Sizes};
 use std::alloc::Global;
 
 /// A pool of threads for one's own work, which threads share by `&`. `H` is the record of its history: `NoRecord`
 /// keeps none, `LastEvents` the last events, and `AllEvents` all of them.
 ///
 /// ```
-/// let (pool, mut closer) = Executor::open(alloc, Limits::new(2, 4, 100)?, NoRecord)?;
+/// let (pool, mut closer) = Executor::open(alloc, Sizes::new(2, 4, 100)?, NoRecord)?;
 /// let submitted = pool.submit_job(&rt, &mut pool.visitor(), work);
 /// pool.close(&rt, &mut closer);
 /// ```
@@ -23,7 +23,7 @@ pub struct Executor<W: Drop, H: Record = NoRecord> {
     /// The lock over the pool's state.
     pub lock: Lock<BoxedState<W, H>>,
     // The sizes of the opening.
-    pub(crate) limits: Limits,
+    pub(crate) limits: Sizes,
     // Where memory is asked for as threads are started.
     pub(crate) alloc: Global,
     ghost sizes: { lock.table.shared.key.limits ≡ limits },

@@ -25,6 +25,7 @@ mod log;
 mod no_answer;
 mod opening;
 mod pool_text;
+mod seen;
 mod state;
 mod submission;
 mod theorems;
@@ -37,10 +38,11 @@ pub use executor::{Executor, ExecutorCloser};
 pub use history::LastHistory;
 pub use no_answer::NoAnswer;
 pub use pool_text::PoolText;
+pub use seen::Seen;
 pub use state::{Numbers, Refused};
 pub use theorems::{
-    end_stays, ended_was_picked, holds_of_the_log, nothing_left_is_over, only_workers_pick,
-    picked_is_ended,
+    a_look_is_a_turn, end_stays, ended_was_picked, holds_of_the_log, nothing_left_is_over,
+    only_workers_pick, picked_is_ended,
 };
 pub use threads::{Ended, Workers, work_while, work_while_with};
 pub use works::WorkPool;

@@ -14,13 +14,13 @@ use thiserror::Error;
 #[derive(Clone, Copy, PartialEq, Eq, Debug, Error)]
 pub enum NoAnswer {
     /// The pool refused the work, which wasn't run (Resilience4j: `BulkheadFullException`).
-    #[error("the pool refused the work: {0:?}")]
+    #[error("the pool refused the job: {0:?}")]
     Refused(Refused),
     /// It didn't come in time, or the clock couldn't be read. The work is run all the same.
     #[error("no answer came in time")]
     OutOfTime,
     /// The work was let go without a run, as by a pool that is dropped before its end.
-    #[error("the work was let go without a run")]
+    #[error("the job was dropped without a run")]
     Unrun,
 }
 

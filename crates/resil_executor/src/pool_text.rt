@@ -26,7 +26,7 @@ impl fmt::Display for Label<'_> {
 /// How a pool stands: its sizes, and its works.
 ///
 /// ```
-/// println!(rt; "{}", PoolText { name: "orders", numbers: pool.numbers(&rt) })?;
+/// println!(rt; "{}", PoolText { name: "orders", numbers: pool.numbers(&rt).into_value() })?;
 /// ```
 #[derive(Drop)]
 pub struct PoolText<'a> {

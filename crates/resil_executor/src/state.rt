@@ -7,7 +7,7 @@ ghost use Rattle.std.specs.Prelude.{◌≡◌, ◌≤◌, ◌⊎◌, ◌+◌, �
 ghost use Rattle.std.specs.Bool.{OnTrue, OnFalse};
 ghost use Rattle.resil_rule.specs.History.{is_among};
 ghost use Rattle.resil_rule.specs.Slots.{ids_out};
-ghost use Rattle.resil_rule.specs.Limits.{IsResizeRefusal};
+ghost use Rattle.resil_rule.specs.Sizes.{IsRefusedResize};
 ghost use Rattle.resil_rule.specs.RuleState.{IsStateOf, Follows};
 ghost use Rattle.resil_rule.specs.RuleView.{opened, busy, owed, made_by, is_acceptance, with_finish, MayEndIdle};
 ghost use Rattle.resil_rule.specs.declared.event.Event.{Event as AnEvent};
@@ -21,7 +21,7 @@ use crate::job::PickedJob;
 use crate::log::Entry;
 use crate::opening::Opening;
 use resil_lock::{Guarded, Look, Note};
-use resil_rule::{AdmitError, Event, Id, Limits, Origin, Record, Refusal, Reply, Rule, Slot};
+use resil_rule::{AdmitError, Event, Id, Origin, Record, Refusal, Reply, Rule, Sizes, Slot};
 use resil_task::by_hand::Run;
 use std::alloc::{AllocError, Global};
 
@@ -154,7 +154,7 @@ impl<W: Drop, H: Record> State<W, H> {
     /// # Errors
     ///
     /// `Memory` where memory runs out.
-    pub fn new(alloc: Global, limits: Limits, blank: H) -> Result<State<W, H>, AdmitError>
+    pub fn new(alloc: Global, limits: Sizes, blank: H) -> Result<State<W, H>, AdmitError>
         requires blank { H.IsRecordOf [] blank }
         ensures opened { IfOk result (λ s. (s.rule ≡ opened limits 2) × (s.last ≡ nothing) × (s.accepted ≡ 0)) }
         ensures history { IfOk result (λ s. IsStateOf [] s.rule) }
@@ -385,7 +385,7 @@ impl<W: Drop, H: Record> State<W, H> {
         requires room { H.HasRoom (owed self.old.rule) self.old.kept }
         ensures resized { OnOk result (Writes self.old.rule (Event.Resized core max) self.new.rule self.new.last) }
         ensures refused { OnErr result (WritesNone self.old.rule self.new.rule self.new.last) }
-        ensures why { IfErr result (IsResizeRefusal self.old.rule.limits core max) }
+        ensures why { IfErr result (IsRefusedResize self.old.rule.limits core max) }
         ensures memory { IfErr result (λ e. e ≡ AdmitError.Memory → ¬ H.HasRoom (owed self.old.rule + 1) self.old.kept) }
         ensures plain { IsPlain self.new.rule self.new.last }
         ensures keeps { Keeps H.IsRecordOf H.HasRoom self.old.rule self.old.accepted self.old.kept self.new.rule self.new.last self.new.accepted self.new.kept }

@@ -1,6 +1,9 @@
 //! Works in a chain: each call submits one and waits for its answer.
 
 ghost use Rattle.std.specs.Prelude.{◌≡◌, false, IfOk, IfErr, OnOk};
+ghost use Rattle.std.specs.Duration.{as_nanos};
+ghost use Rattle.resil_clock.specs.Waits.{IsOutOfTime};
+ghost use Rattle.resil_executor.specs.declared.no_answer.NoAnswer.TheVariants.{OutOfTime};
 ghost use Rattle.resil_executor.specs.Turn.{SeesRefusal};
 ghost use Rattle.resil_executor.specs.Seats.{limits_of, new_visitor, IsOf, known_to};
 ghost use Rattle.resil_executor.specs.Dispatch.{is_refused, SeesItAccepted, SeesNoAnswer, WasSubmitted, WasUnanswered};
@@ -8,12 +11,13 @@ ghost use Rattle.resil_executor.specs.Dispatch.{is_refused, SeesItAccepted, Sees
 use crate::executor::{Executor, Visitor};
 use crate::no_answer::NoAnswer;
 use crate::state::Refused;
+use resil_clock::Reads;
 use resil_rule::Record;
 use resil_task::by_hand::Task;
 use resil_task::{Answers, Pending};
 use std::alloc::Global;
 use std::sync::Wait;
-use std::time::{Clock, Duration};
+use std::time::Duration;
 
 impl<X: Answers, H: Record> Executor<Task<X>, H> {
     /// Submits a work, in one turn, and waits for its answer so long at most (Resilience4j user guide, Decorators:
@@ -23,13 +27,13 @@ impl<X: Answers, H: Record> Executor<Task<X>, H> {
     /// # Errors
     ///
     /// In this order: `Refused` where the pool refuses it, with why; `OutOfTime` where nothing came in time, or the clock couldn't be read;
-    /// `Unrun` where the work was let go without a run.
+    /// `Unrun` if the job was dropped without a run.
     ///
     /// ```
     /// let ask = || prices.submit_within(&rt, alloc, PriceOf { item: 7 }, longest);
     /// let price: u32 = FromFn(ask).retried(&policy, Sleep::new(&rt)).or_else(|_none| 0).call();
     /// ```
-    pub fn submit_within<R: Wait + Clock>(
+    pub fn submit_within<R: Wait + Reads>(
         &self,
         rt: &R,
         alloc: Global,
@@ -40,6 +44,7 @@ impl<X: Answers, H: Record> Executor<Task<X>, H> {
         ensures answered { IfOk result (X.IsAnswer work) }
         ensures accepted { OnOk result (WasSubmitted (limits_of self.now) (new_visitor self.now) work) }
         ensures none { IfErr result (WasUnanswered (limits_of self.now) (new_visitor self.now) work) }
+        ensures out_of_time { IfErr result (λ none. none ≡ OutOfTime → IsOutOfTime (R.HasSaid rt.now) (as_nanos longest)) }
     {
         let mut visitor = self.visitor();
         self.submit_within_by(rt, alloc, &mut visitor, work, longest)
@@ -55,7 +60,7 @@ impl<X: Answers, H: Record> Executor<Task<X>, H> {
     /// let mut visitor = prices.visitor();
     /// let price = prices.submit_within_by(&rt, alloc, &mut visitor, PriceOf { item: 7 }, longest);
     /// ```
-    pub fn submit_within_by<R: Wait + Clock>(
+    pub fn submit_within_by<R: Wait + Reads>(
         &self,
         rt: &R,
         alloc: Global,
@@ -69,6 +74,7 @@ impl<X: Answers, H: Record> Executor<Task<X>, H> {
         ensures answered { IfOk result (X.IsAnswer work) }
         ensures accepted { OnOk result (SeesItAccepted (limits_of self.now) (known_to visitor.old.seat) work (known_to visitor.new.seat)) }
         ensures none { IfErr result (SeesNoAnswer (limits_of self.now) (known_to visitor.old.seat) work (known_to visitor.new.seat)) }
+        ensures out_of_time { IfErr result (λ none. none ≡ OutOfTime → IsOutOfTime (R.HasSaid rt.now) (as_nanos longest)) }
     {
         match self.submit_awaited(rt, alloc, visitor, work, longest) {
             Ok(awaited) => awaited.answer(rt),
@@ -109,9 +115,10 @@ struct Awaited<X: Answers> {
 
 impl<X: Answers> Awaited<X> {
     // Waits for the answer.
-    fn answer<R: Wait + Clock>(self, rt: &R) -> Result<X::Output, NoAnswer>
+    fn answer<R: Wait + Reads>(self, rt: &R) -> Result<X::Output, NoAnswer>
         ensures answered { IfOk result (X.IsAnswer self.pending) }
         ensures none { IfErr result (λ none. is_refused none ≡ false) }
+        ensures out_of_time { IfErr result (λ none. none ≡ OutOfTime → IsOutOfTime (R.HasSaid rt.now) (as_nanos self.longest)) }
     {
         match self.pending.wait_for(rt, self.longest) {
             Ok(Ok(answer)) => Ok(answer),

@@ -6,7 +6,7 @@ ghost use Rattle.resil_lock.specs.declared.protocol.View.{View as ViewOf};
 ghost use Rattle.resil_executor.specs.declared.opening.Opening.{Opening as OpeningOf};
 ghost use Rattle.resil_executor.specs.Log.{Entry as EntryOf};
 ghost use Rattle.resil_executor.specs.declared.state.State.{State as StateOf};
-ghost use Rattle.resil_executor.specs.Laws.{PickedIsEnded, EndedWasPicked, OnlyWorkersPick, EndStays, NothingLeftIsOver, HoldsOfTheLog};
+ghost use Rattle.resil_executor.specs.Laws.{PickedIsEnded, EndedWasPicked, OnlyWorkersPick, ALookIsATurn, EndStays, NothingLeftIsOver, HoldsOfTheLog};
 
 use crate::log::Entry;
 use crate::opening::Opening;
@@ -42,6 +42,16 @@ pub fn ended_was_picked<C, W: Run<C>, H>()
 /// ```
 pub fn only_workers_pick<W>()
     ensures { OnlyWorkersPick W }
+{}
+
+/// A look is a turn: a visitor that is made and has had none meets no clause of a call that looks, such as `Executor::numbers`,
+/// `join_for` and `submit`, so no body of these that doesn't look can meet them either.
+///
+/// ```
+/// a_look_is_a_turn::<Errand, NoRecord>(); // From here on a proof has ALookIsATurn.
+/// ```
+pub fn a_look_is_a_turn<W, H>()
+    ensures { ALookIsATurn W (Opening H) }
 {}
 
 /// The end of a pool stays. No event that may come after it accepts, starts or ends a job: what is left are refused

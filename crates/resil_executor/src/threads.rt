@@ -1,8 +1,8 @@
 //! The threads of a pool, and its end.
-ghost use Rattle.std.specs.Prelude.{◌≡◌, ◌≤◌, [], IfOk, IfErr, OnErr, length, vec_capacity};
+ghost use Rattle.std.specs.Prelude.{◌≡◌, ◌≤◌, ◌+◌, [], IfOk, IfErr, OnErr, length, vec_capacity};
 ghost use Rattle.std.specs.List.{All};
 ghost use Rattle.resil_executor.specs.Turn.{HasWorkedBy, HasWorkedSinceHired, SeesOver, WasRun};
-ghost use Rattle.resil_executor.specs.Seats.{limits_of, IsLike, IsOf, HasLeft, known_to};
+ghost use Rattle.resil_executor.specs.Seats.{limits_of, IsOf, HasLeft, known_to};
 
 use crate::executor::{Executor, ExecutorCloser, ExecutorWorker};
 use resil_rule::Record;
@@ -35,6 +35,7 @@ impl<W: Drop, H: Record> Executor<W, H> {
         requires mine { IsOf self.now closer.old.seat }
         ensures mine { IsOf self.now result.seat }
         ensures closer { IsOf self.now closer.new.seat }
+        ensures hired { (known_to closer.new.seat).made ≡ (known_to closer.old.seat).made + 1 }
         ensures worked { HasWorkedSinceHired (limits_of self.now) W.HasRun (known_to result.seat) }
         ensures over { SeesOver (limits_of self.now) (known_to result.seat) }
     {
@@ -109,6 +110,8 @@ pub struct Ended<T, F, W: Drop, H: Record> {
     pub worker: ExecutorWorker<W, H>,
     /// The workers of the threads that were started, one for each. Contracts see in them that each ran what it ended.
     pub workers: Vec<ExecutorWorker<W, H>>,
+    /// What closed the pool. Contracts see in it how many workers were hired.
+    pub closer: ExecutorCloser<W, H>,
 }
 
 /// Who works for a pool while a closure runs, and in which contexts.
@@ -214,7 +217,9 @@ fn start_workers<
 ) -> Crew<'s, C, W, H>
     requires mine { IsOf pool.now closer.old.seat }
     requires none { crew.threads.items ≡ [] }
-    ensures same { IsLike closer.old.seat closer.new.seat }
+    ensures mine { IsOf pool.now closer.new.seat }
+    ensures own { (known_to closer.new.seat).own ≡ (known_to closer.old.seat).own }
+    ensures hired { (known_to closer.new.seat).made ≤ (known_to closer.old.seat).made + length contexts.items }
     ensures workers { result.workers ≡ crew.entry.workers }
     ensures room { vec_capacity result.threads ≡ vec_capacity crew.entry.threads }
     ensures promised { All (λ t. t.promise.pool.now ≡ pool.entry.now) result.threads.items }
@@ -325,6 +330,8 @@ pub fn work_while<
     ensures mine { IsOf pool.now result.worker.seat }
     ensures worked { HasWorkedSinceHired (limits_of pool.now) W.HasRun (known_to result.worker.seat) }
     ensures over { SeesOver (limits_of pool.now) (known_to result.worker.seat) }
+    ensures closer { IsOf pool.now result.closer.seat }
+    ensures hired { (known_to result.closer.seat).made ≤ (known_to closer.seat).made + (limits_of pool.now).max + 1 }
     ensures few { length result.workers.items ≤ (limits_of pool.now).max }
     ensures none { OnErr result.answer (length result.workers.items ≡ 0) }
     ensures each { All (λ worker. HasLeft pool.now W.WasRunThere worker.seat) result.workers.items }
@@ -356,6 +363,8 @@ pub fn work_while_with<
     ensures mine { IsOf pool.now result.worker.seat }
     ensures worked { HasWorkedSinceHired (limits_of pool.now) W.HasRun (known_to result.worker.seat) }
     ensures over { SeesOver (limits_of pool.now) (known_to result.worker.seat) }
+    ensures closer { IsOf pool.now result.closer.seat }
+    ensures hired { (known_to result.closer.seat).made ≤ (known_to closer.seat).made + length workers.contexts.items + 1 }
     ensures few { length result.workers.items ≤ length workers.contexts.items }
     ensures none { OnErr result.answer (length result.workers.items ≡ 0) }
     ensures each { All (λ worker. HasLeft pool.now W.WasRunThere worker.seat) result.workers.items }
@@ -376,6 +385,7 @@ pub fn work_while_with<
             requires mine { IsOf pool.now closer.seat }
             requires user { F.pre user }
             ensures mine { IsOf pool.entry.now result.0.seat }
+            ensures hired { (known_to result.0.seat).made ≤ (known_to closer.seat).made + length contexts.items }
             ensures answer { IfOk result.1 (F.post user) }
             ensures back { IfErr result.1 (λ back. back ≡ user) }
             ensures few { length result.2.items ≤ length contexts.items }
@@ -400,5 +410,6 @@ pub fn work_while_with<
         answer,
         worker,
         workers,
+        closer,
     }
 }

@@ -1,27 +1,31 @@
 //! The calls of a pool: each is one turn at the state under its lock.
-ghost use Rattle.std.specs.Prelude.{◌≡◌, ◌≤◌, ◌<◌, [], true, length, IfOk, IfErr, OnOk, OnErr};
+ghost use Rattle.std.specs.Prelude.{◌≡◌, ◌≤◌, ◌<◌, ◌+◌, [], true, length, IfOk, IfErr, OnOk, OnErr};
 ghost use Rattle.std.specs.Bool.{OnTrue, OnFalse};
+ghost use Rattle.std.specs.Duration.{as_nanos};
 ghost use Rattle.resil_rule.specs.History.{is_closed, submissions};
-ghost use Rattle.resil_rule.specs.Limits.{IsResizeRefusal};
+ghost use Rattle.resil_rule.specs.Sizes.{IsRefusedResize};
 ghost use Rattle.resil_rule.specs.RuleView.{is_acceptance};
 ghost use Rattle.resil_executor.specs.Log.{events_in};
+ghost use Rattle.resil_executor.specs.Joining.{IsLook, HasJoinedBy, HasJoinedSince};
 ghost use Rattle.resil_executor.specs.Kept.{LacksRoom};
-ghost use Rattle.resil_executor.specs.Turn.{SeesLast, SeesMore, SeesAccepted, SeesRefusal, HasSeen, AreNumbersAfter, AllFinished};
-ghost use Rattle.resil_executor.specs.Seats.{limits_of, blank_of, new_visitor, IsAt, IsOf, known_to, IsLike};
+ghost use Rattle.resil_executor.specs.Turn.{SeesLast, SeesMore, SeesAccepted, SeesRefusal, AreNumbersAfter, AllFinished};
+ghost use Rattle.resil_executor.specs.Seats.{limits_of, blank_of, new_visitor, IsAt, IsOf, known_to, HasHired};
 
 use crate::executor::{Executor, ExecutorCloser, ExecutorWorker, Visitor};
 use crate::opening::Opening;
+use crate::seen::Seen;
 use crate::state::{BoxedState, Numbers, Refused, State};
+use resil_clock::{Reads, TimeLeft};
 use resil_lock::Lock;
-use resil_rule::{AdmitError, Event, Id, Limits, Record, Reply};
+use resil_rule::{AdmitError, Event, Id, Record, Reply, Sizes};
 use std::alloc::Global;
 use std::snapshot::Snapshot;
 use std::sync::Wait;
 use std::thread;
-use std::time::{Clock, Duration, Instant};
+use std::time::{Clock, Duration};
 
 impl<W: Drop, H: Record> Executor<W, H> {
-    /// An open pool of these limits, with a record of no event yet, and what closes it. It takes all its memory here, but
+    /// An open pool of these sizes, with a record of no event yet, and what closes it. It takes all its memory here, but
     /// for the record of all events, which grows by each submission and resize, and the handles of threads (`work_while`).
     ///
     /// # Errors
@@ -29,7 +33,7 @@ impl<W: Drop, H: Record> Executor<W, H> {
     /// `Memory` where memory runs out.
     pub fn open(
         alloc: Global,
-        limits: Limits,
+        limits: Sizes,
         blank: H,
     ) -> Result<(Executor<W, H>, ExecutorCloser<W, H>), AdmitError>
         requires blank { H.IsRecordOf [] blank }
@@ -57,16 +61,16 @@ impl<W: Drop, H: Record> Executor<W, H> {
     }
 
     /// The sizes of the opening.
-    pub fn limits(&self) -> Limits
+    pub fn limits(&self) -> Sizes
         ensures { result ≡ limits_of self.now }
     {
         self.limits
     }
 
-    /// A worker of this pool, which has seen nothing yet.
+    /// A worker of this pool, which has seen nothing yet. The closer counts it.
     pub fn hire(&self, closer: &mut ExecutorCloser<W, H>) -> ExecutorWorker<W, H>
         requires { IsAt self.now closer.old.seat }
-        ensures closer { IsLike closer.old.seat closer.new.seat }
+        ensures closer { HasHired closer.old.seat closer.new.seat }
         ensures source { IsAt self.now result.seat }
         ensures limits { (known_to result.seat).key ≡ (known_to closer.old.seat).key }
         ensures blank { ((known_to result.seat).seen ≡ []) × ((known_to result.seat).own ≡ []) }
@@ -127,6 +131,7 @@ impl<W: Drop, H: Record> Executor<W, H> {
     pub fn close<R: Wait>(&self, rt: &R, closer: &mut ExecutorCloser<W, H>) -> bool
         requires mine { IsOf self.now closer.old.seat }
         ensures mine { IsOf self.now closer.new.seat }
+        ensures made { (known_to closer.new.seat).made ≡ (known_to closer.old.seat).made }
         ensures closed { OnTrue result (SeesLast (limits_of self.now) (known_to closer.old.seat) Event.Close (known_to closer.new.seat)) }
         ensures was_closed { OnFalse result (SeesMore (limits_of self.now) (known_to closer.old.seat) (known_to closer.new.seat) × (is_closed (events_in (known_to closer.new.seat).seen) ≡ true)) }
     {
@@ -155,7 +160,7 @@ impl<W: Drop, H: Record> Executor<W, H> {
         ensures mine { IsOf self.now closer.new.seat }
         ensures resized { OnOk result (SeesLast (limits_of self.now) (known_to closer.old.seat) (Event.Resized core max) (known_to closer.new.seat)) }
         ensures refused { OnErr result (SeesMore (limits_of self.now) (known_to closer.old.seat) (known_to closer.new.seat)) }
-        ensures why { IfErr result (IsResizeRefusal (limits_of self.now) core max) }
+        ensures why { IfErr result (IsRefusedResize (limits_of self.now) core max) }
         ensures memory { IfErr result (λ e. e ≡ AdmitError.Memory → LacksRoom H.HasRoom) }
     {
         let mut state = self.lock.take(rt, &mut closer.seat);
@@ -183,21 +188,24 @@ impl<W: Drop, H: Record> Executor<W, H> {
 
     /// Waits until all that was accepted is finished, and says whether it is, as its last look saw it: at most so long, or until the
     /// clock can't be read. It looks each millisecond, and once at least. It closes nothing, writes nothing, and counts works that are
-    /// submitted meanwhile (ExecutorService, `awaitTermination`, of an open pool). What the clauses say was seen by a visitor of the call's
-    /// own; `join_for_by` takes one.
+    /// submitted meanwhile (ExecutorService, `awaitTermination`, of an open pool). The answer comes with the visitor of the call's own that
+    /// saw it; `join_for_by` takes one.
     ///
     /// ```
-    /// if !pool.join_for(&rt, Duration::from_secs(2)) {
+    /// if !*pool.join_for(&rt, Duration::from_secs(2)) {
     ///     println!(rt; "some works aren't finished")?;
     /// }
     /// ```
-    #[tactic(auto, using(crate::proofs::SeatLaws::true_seen, crate::proofs::SeatLaws::false_seen))]
-    pub fn join_for<R: Clock + Wait>(&self, rt: &R, duration: Duration) -> bool
-        ensures joined { OnTrue result (HasSeen (limits_of self.now) (new_visitor self.now) AllFinished) }
-        ensures not_joined { OnFalse result (HasSeen (limits_of self.now) (new_visitor self.now) (λ history. ¬ AllFinished history)) }
+    pub fn join_for<R: Clock + Reads + Wait>(&self, rt: &R, duration: Duration) -> Seen<bool, W, H>
+        ensures mine { IsOf self.now result.visitor.seat }
+        ensures sees { SeesMore (limits_of self.now) (new_visitor self.now) (known_to result.visitor.seat) }
+        ensures joined { OnTrue result.value (AllFinished (events_in (known_to result.visitor.seat).seen)) }
+        ensures not_joined { OnFalse result.value (¬ AllFinished (events_in (known_to result.visitor.seat).seen)) }
+        ensures by_the_clock { HasJoinedBy (R.HasSaid rt.now) (as_nanos duration) (limits_of self.now) (new_visitor self.now) (known_to result.visitor.seat) result.value }
     {
         let mut visitor = self.visitor();
-        self.join_for_by(rt, &mut visitor, duration)
+        let value = self.join_for_by(rt, &mut visitor, duration);
+        Seen { value, visitor }
     }
 
     /// The same by a visitor, which has seen then what the last look saw.
@@ -205,7 +213,7 @@ impl<W: Drop, H: Record> Executor<W, H> {
     /// ```
     /// let joined = pool.join_for_by(&rt, &mut visitor, Duration::from_secs(2));
     /// ```
-    pub fn join_for_by<R: Clock + Wait>(
+    pub fn join_for_by<R: Clock + Reads + Wait>(
         &self,
         rt: &R,
         visitor: &mut Visitor<W, H>,
@@ -216,28 +224,67 @@ impl<W: Drop, H: Record> Executor<W, H> {
         ensures sees { SeesMore (limits_of self.now) (known_to visitor.old.seat) (known_to visitor.new.seat) }
         ensures joined { OnTrue result (AllFinished (events_in (known_to visitor.new.seat).seen)) }
         ensures not_joined { OnFalse result (¬ AllFinished (events_in (known_to visitor.new.seat).seen)) }
+        ensures by_the_clock { HasJoinedBy (R.HasSaid rt.now) (as_nanos duration) (limits_of self.now) (known_to visitor.old.seat) (known_to visitor.new.seat) result }
     {
-        let start = Instant::now(rt).ok();
+        let first = self.have_all_finished(rt, visitor);
+        if first || duration.is_zero() {
+            return first;
+        }
+        match TimeLeft::start(rt, duration) {
+            Some(time) => self.join_until(rt, visitor, time),
+            None => first,
+        }
+    }
+
+    // Looks each millisecond until all is finished, or the time, which began just now, is over.
+    fn join_until<R: Clock + Reads + Wait>(
+        &self,
+        rt: &R,
+        visitor: &mut Visitor<W, H>,
+        mut time: TimeLeft,
+    ) -> bool
+        requires mine { IsOf self.now visitor.old.seat }
+        requires begins { time.last ≡ time.start }
+        ensures mine { IsOf self.now visitor.new.seat }
+        ensures sees { SeesMore (limits_of self.now) (known_to visitor.old.seat) (known_to visitor.new.seat) }
+        ensures joined { OnTrue result (AllFinished (events_in (known_to visitor.new.seat).seen)) }
+        ensures not_joined { OnFalse result (¬ AllFinished (events_in (known_to visitor.new.seat).seen)) }
+        ensures by_the_clock { HasJoinedSince (R.HasSaid rt.now) (as_nanos time.longest) time.start (limits_of self.now) (known_to visitor.old.seat) (known_to visitor.new.seat) result }
+    {
         for _ in rt.forever() {
-            let numbers = self.numbers_by(rt, visitor);
-            if numbers.running == 0 && numbers.waiting == 0 {
+            if self.have_all_finished(rt, visitor) {
                 return true;
             }
-            if !has_time(rt, start, duration) {
+            let Some(_left) = time.left(rt) else {
                 return false;
-            }
+            };
             thread::sleep(rt, Duration::from_millis(1));
         }
         unreachable!()
     }
 
-    /// How the pool stands, in one turn, which writes nothing. What the clause says was seen by a visitor of the call's own; `numbers_by`
-    /// takes one.
-    pub fn numbers<R: Wait>(&self, rt: &R) -> Numbers
-        ensures { HasSeen (limits_of self.now) (new_visitor self.now) (λ history. AreNumbersAfter (limits_of self.now) history result) }
+    // Whether all that was accepted is finished, as one look sees it.
+    fn have_all_finished<R: Wait>(&self, rt: &R, visitor: &mut Visitor<W, H>) -> bool
+        requires mine { IsOf self.now visitor.old.seat }
+        ensures mine { IsOf self.now visitor.new.seat }
+        ensures look { IsLook (limits_of self.now) (known_to visitor.old.seat) (known_to visitor.new.seat) }
+        ensures finished { OnTrue result (AllFinished (events_in (known_to visitor.new.seat).seen)) }
+        ensures unfinished { OnFalse result (¬ AllFinished (events_in (known_to visitor.new.seat).seen)) }
+    {
+        let numbers = self.numbers_by(rt, visitor);
+        numbers.running == 0 && numbers.waiting == 0
+    }
+
+    /// How the pool stands, in one turn, which writes nothing. The numbers come with the visitor of the call's own that saw them;
+    /// `numbers_by` takes one.
+    pub fn numbers<R: Wait>(&self, rt: &R) -> Seen<Numbers, W, H>
+        ensures mine { IsOf self.now result.visitor.seat }
+        ensures sees { SeesMore (limits_of self.now) (new_visitor self.now) (known_to result.visitor.seat) }
+        ensures numbers { AreNumbersAfter (limits_of self.now) (events_in (known_to result.visitor.seat).seen) result.value }
     {
         let mut visitor = self.visitor();
-        self.numbers_by(rt, &mut visitor)
+        let value = self.numbers_by(rt, &mut visitor);
+        Seen { value, visitor }
     }
 
     /// The same by a visitor, which has seen then what the numbers are of.
@@ -249,19 +296,12 @@ impl<W: Drop, H: Record> Executor<W, H> {
         requires mine { IsOf self.now visitor.old.seat }
         ensures mine { IsOf self.now visitor.new.seat }
         ensures sees { SeesMore (limits_of self.now) (known_to visitor.old.seat) (known_to visitor.new.seat) }
+        ensures one_turn { (known_to visitor.new.seat).turns ≡ (known_to visitor.old.seat).turns + 1 }
         ensures numbers { AreNumbersAfter (limits_of self.now) (events_in (known_to visitor.new.seat).seen) result }
     {
         let mut state = self.lock.take(rt, &mut visitor.seat);
         let numbers = state.inner.numbers();
         self.lock.release(&mut visitor.seat, state);
         numbers
-    }
-}
-
-// Whether less time than this has gone by since the start.
-fn has_time<R: Clock>(rt: &R, start: Option<Instant>, duration: Duration) -> bool {
-    match start {
-        Some(start) => matches!(start.elapsed(rt), Ok(spent) if spent < duration),
-        None => false,
     }
 }

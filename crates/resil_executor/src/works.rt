@@ -1,10 +1,11 @@
 //! Works that answer: submitted, and waited for, in one call each.
 ghost use Rattle.std.specs.Prelude.{◌≡◌, IfOk, IfErr};
 ghost use Rattle.resil_rule.specs.declared.event.Reply.{Reply as AReply};
-ghost use Rattle.resil_executor.specs.Turn.{SeesAccepted, SeesRefusal, WasAccepted, WasRefused};
+ghost use Rattle.resil_executor.specs.Turn.{SeesAccepted, SeesRefusal};
 ghost use Rattle.resil_executor.specs.Seats.{limits_of, new_visitor, IsOf, known_to};
 
 use crate::executor::{Executor, Visitor};
+use crate::seen::Seen;
 use crate::state::Refused;
 use resil_rule::{Id, NoRecord, Record};
 use resil_task::by_hand::Task;
@@ -16,7 +17,7 @@ use std::sync::Wait;
 /// its history, as `Executor` says.
 ///
 /// ```
-/// let (prices, closer) = WorkPool::open(alloc, Limits::new(2, 4, 100)?, NoRecord)?;
+/// let (prices, closer) = WorkPool::open(alloc, Sizes::new(2, 4, 100)?, NoRecord)?;
 /// let ended = work_while(&rt, &prices, closer, 20, || {
 ///     let (_id, price) = prices.submit(&rt, alloc, PriceOf { item: 7 }).ok()?;
 ///     price.wait(&rt).ok()
@@ -26,7 +27,8 @@ pub type WorkPool<W, H = NoRecord> = Executor<Task<W>, H>;
 
 impl<X: Answers, H: Record> Executor<Task<X>, H> {
     /// Submits a work, in one turn, and gives its number and what its answer is waited for with (Resilience4j user guide,
-    /// ThreadPoolBulkhead: `executeSupplier`). What the clauses say was seen by a visitor of the call's own; `submit_by` takes one.
+    /// ThreadPoolBulkhead: `executeSupplier`). The number comes with the visitor of the call's own that saw it, and so does a refusal;
+    /// `submit_by` takes one.
     ///
     /// # Errors
     ///
@@ -35,7 +37,7 @@ impl<X: Answers, H: Record> Executor<Task<X>, H> {
     /// ```
     /// match prices.submit(&rt, alloc, PriceOf { item: 7 }) {
     ///     Ok((_id, pending)) => show(pending.wait(&rt)),
-    ///     Err((refused, work)) => keep(refused, work),
+    ///     Err((refused, work)) => keep(refused.into_value(), work),
     /// }
     /// ```
     pub fn submit<R: Wait>(
@@ -43,16 +45,21 @@ impl<X: Answers, H: Record> Executor<Task<X>, H> {
         rt: &R,
         alloc: Global,
         work: X,
-    ) -> Result<(Id, Pending<X>), (Refused, X)>
+    ) -> Result<(Seen<Id, Task<X>, H>, Pending<X>), (Seen<Refused, Task<X>, H>, X)>
         requires can { X.CanRun work }
+        ensures mine { IfOk result (λ r. IsOf self.now r.0.visitor.seat) }
+        ensures mine_too { IfErr result (λ e. IsOf self.now e.0.visitor.seat) }
         ensures pending { IfOk result (λ r. r.1 ≡ work) }
-        ensures accepted { IfOk result (λ r. WasAccepted (limits_of self.now) (new_visitor self.now) r.0 work) }
-        ensures own { IfOk result (λ r. r.0.caller ≡ 1) }
-        ensures refused { IfErr result (λ e. WasRefused (limits_of self.now) (new_visitor self.now) e.0 work) }
+        ensures accepted { IfOk result (λ r. (reply : AReply) × SeesAccepted (limits_of self.now) (new_visitor self.now) r.0.value reply work (known_to r.0.visitor.seat)) }
+        ensures own { IfOk result (λ r. r.0.value.caller ≡ 1) }
+        ensures refused { IfErr result (λ e. SeesRefusal (limits_of self.now) (new_visitor self.now) e.0.value (known_to e.0.visitor.seat)) }
         ensures work_back { IfErr result (λ e. e.1 ≡ work) }
     {
         let mut visitor = self.visitor();
-        self.submit_by(rt, alloc, &mut visitor, work)
+        match self.submit_by(rt, alloc, &mut visitor, work) {
+            Ok((value, pending)) => Ok((Seen { value, visitor }, pending)),
+            Err((value, work)) => Err((Seen { value, visitor }, work)),
+        }
     }
 
     /// The same by a visitor, which has seen the submission then: only a turn at this pool can have shown it.

@@ -1,6 +1,6 @@
-//! What a body is refused for: the header, or the row by its line, its text and its field.
+//! What is wrong with a body that is refused: its header, or a row, by its line, its text and its field.
 
-use crate::place::{Line, Listed};
+use crate::place::{Line, NameList};
 use csv::{ByteRecord, ReaderBuilder};
 use resil_heads::forms::{Body, Form, Row};
 use resil_heads::subject::Subject;
@@ -11,17 +11,17 @@ use std::fmt;
 /// What is wrong with a row.
 #[derive(Clone, Copy)]
 pub(crate) enum RowFault {
-    /// How many fields it has, in place of those of the header; and the row that it is by its first field, if it is one.
+    /// It has this many fields, not as many as this header; and the row that its first field names, if it names one.
     Width(usize, &'static [&'static str], Option<Row>),
-    /// It is a resize, which needs this header.
+    /// It is a resize, and that needs this header.
     Resize(&'static [&'static str]),
-    /// A field, and what that has to be.
+    /// A field, and what it must be.
     Field(&'static str, Form),
-    /// The first field, and what there is for it.
+    /// The first field, and what it may be.
     Word(&'static str, &'static [Row]),
 }
 
-// Writes how a row is written under a header, with the names of the fields that it uses.
+// Writes the form of a row under a header: the names of the fields that it uses.
 fn write_row<W: fmt::Write>(
     f: &mut fmt::Formatter<W>,
     header: &[&str],
@@ -42,37 +42,37 @@ impl fmt::Display for RowFault {
         match *self {
             RowFault::Width(found, header, row) => {
                 let wanted = header.len();
-                write!(f, "the header has {wanted} fields, and it has {found}")?;
+                write!(f, "it has {found} fields, but the header has {wanted}")?;
                 match row {
                     Some(row) => write_row(f, header, row),
                     None => Ok(()),
                 }
             }
             RowFault::Resize(header) => {
-                let header = Listed(header, ",");
+                let header = NameList(header, ",");
                 write!(f, "a resize needs the header `{header}`")
             }
-            RowFault::Field(column, form) => write!(f, "the field {column} has to be {form}"),
+            RowFault::Field(column, form) => write!(f, "the field {column} must be {form}"),
             RowFault::Word(column, words) => {
-                let rows = Listed(words, ", ");
-                write!(f, "the field {column} has to be one of {rows}")
+                let rows = NameList(words, ", ");
+                write!(f, "the field {column} must be one of {rows}")
             }
         }
     }
 }
 
-/// What in a line is often meant otherwise than `csv` reads it.
+/// A hint at what in a line is often not read as it was meant.
 pub(crate) fn remark(line: &[u8]) -> &'static str {
     if line.starts_with(b"#") {
-        "; a body has no comment lines"
+        "; a body can't have comment lines"
     } else if line.contains(&b' ') || line.contains(&b'\t') {
-        "; blanks count, and it has some"
+        "; remove the blanks, which aren't ignored"
     } else {
         ""
     }
 }
 
-/// The record of a body at a position, where the header is at 0, if there is one; `None` when out of memory.
+/// The record at a position of a body, the header being at 0, if there is one. `None` when out of memory.
 pub(crate) fn read_record(
     alloc: Global,
     body: &[u8],
@@ -93,7 +93,7 @@ pub(crate) fn read_record(
     Some(Some(record))
 }
 
-/// The line of a record that was read in the body of an input: behind the line ends before it.
+/// The line of a record of the body of an input, after the line ends before it.
 pub(crate) fn line_of<'a>(input: &'a [u8], body: &[u8], record: &ByteRecord) -> Line<'a> {
     let start = start_of(record);
     let rest = body.iter().skip(start);
@@ -103,7 +103,7 @@ pub(crate) fn line_of<'a>(input: &'a [u8], body: &[u8], record: &ByteRecord) -> 
     Line::from(input, place.saturating_add(ends.count()))
 }
 
-/// The body up to the end of its record at a position, where the header is at 0; `None` when out of memory.
+/// The body up to the end of its record at a position, the header being at 0. `None` when out of memory.
 pub(crate) fn part_upto(alloc: Global, body: &[u8], position: usize) -> Option<&[u8]> {
     match read_record(alloc, body, position.saturating_add(1))? {
         Some(next) => body.get(..start_of(&next)),
@@ -111,20 +111,20 @@ pub(crate) fn part_upto(alloc: Global, body: &[u8], position: usize) -> Option<&
     }
 }
 
-// Where a record that was read begins, with the line ends before it.
+// The place at which a record begins, with the line ends before it.
 fn start_of(record: &ByteRecord) -> usize {
     let position = record.position().map_or(0, |position| position.byte());
     usize::try_from(position).unwrap_or(0)
 }
 
-// The row that a record is by its first field, if it is one.
+// The row that a record's first field names, if it names one.
 fn row_of(body: Body, record: &ByteRecord) -> Option<Row> {
     let word = record.get(0)?;
     let found = body.rows.iter().find(|row| row.0.as_bytes() == word);
     found.copied()
 }
 
-// The fields that a record uses, by its first field; none where that is no row.
+// The fields that a record uses, by its first field; none if that names no row.
 fn used(body: Body, record: &ByteRecord) -> Option<&'static [usize]> {
     if body.rows.is_empty() {
         return Some(&[0, 1]);
@@ -132,7 +132,7 @@ fn used(body: Body, record: &ByteRecord) -> Option<&'static [usize]> {
     Some(row_of(body, record)?.1)
 }
 
-// What is wrong with a record of as many fields as the header, if it is no row; there are this many callers.
+// What is wrong with a record that has as many fields as the header, if it is no row. There are `callers` callers.
 fn field_fault(body: Body, record: &ByteRecord, callers: u16) -> Option<RowFault> {
     let Some(used) = used(body, record) else {
         return Some(RowFault::Word(body.header.first()?, body.rows));
@@ -150,7 +150,7 @@ fn field_fault(body: Body, record: &ByteRecord, callers: u16) -> Option<RowFault
     None
 }
 
-/// What the bodies of a command under this header may have.
+/// What a command's body may have under this header.
 pub(crate) fn body_under<S: Subject>(subject: S, header: &ByteRecord) -> Body {
     let mut others = subject.other_bodies().iter();
     match others.find(|(_, other)| has_fields(header, other.header)) {
@@ -159,7 +159,7 @@ pub(crate) fn body_under<S: Subject>(subject: S, header: &ByteRecord) -> Body {
     }
 }
 
-/// What is wrong with a record, if it is no row under a header of these bodies.
+/// What is wrong with a record that is no row under a header of these bodies.
 pub(crate) fn row_fault(
     bodies: Body,
     record: &ByteRecord,

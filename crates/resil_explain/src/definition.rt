@@ -1,7 +1,7 @@
-//! Where a head defines a value.
+//! Finds the place at which a head defines a value.
 //!
-//! A head that is refused for what it says is TOML, so its lines are read once more by the parser's own readers, as far as the
-//! definition. What leads to it are steps: the key of a table, or the place of a table in an array.
+//! A head that is refused for what it says is valid TOML, so its lines are read once more by the parser's own readers, up to the
+//! definition. Steps lead to it: the key of a table, or the place of a table in an array.
 
 use std::alloc::{AllocError, Global};
 use toml_parser::text::{first, skip_blank, skip_ws};
@@ -9,49 +9,49 @@ use toml_parser::{ErrorKind, Key, ParseError, dotted_key, quoted, starts_string,
 
 /// A step to a value.
 #[derive(Clone, Copy)]
-pub(crate) enum Step<'a> {
-    /// To the value at a key of a table.
+pub(crate) enum PathStep<'a> {
+    /// The value at a key of a table.
     Key(&'a str),
-    /// To the item at this place of an array, from 0.
+    /// The item at this place of an array, from 0.
     Item(usize),
 }
 
-// What comes behind some bytes of a text.
+// What follows the first `count` bytes of a text.
 fn behind(text: &str, count: usize) -> &str {
     text.get(count..).unwrap_or("")
 }
 
-// How many steps are gone behind a name, or `None` where they lead elsewhere.
-fn after_name(steps: &[Step<'_>], gone: usize, name: &str) -> Option<usize> {
+// How many steps have been taken after a name, or `None` if it leads elsewhere.
+fn after_name(steps: &[PathStep<'_>], gone: usize, name: &str) -> Option<usize> {
     match steps.get(gone) {
         None => Some(gone),
-        Some(Step::Key(key)) if *key == name => Some(gone.saturating_add(1)),
+        Some(PathStep::Key(key)) if *key == name => Some(gone.saturating_add(1)),
         Some(_) => None,
     }
 }
 
-// How far the headers so far have come.
+// How far the headers read so far have led.
 #[derive(Clone, Copy)]
 struct Walk {
-    // How many steps are gone behind the last header, or `None` where they lead elsewhere.
+    // How many steps have been taken after the last header, or `None` if it leads elsewhere.
     gone: Option<usize>,
-    // How many tables the array has so far of which a step chooses one.
+    // How many tables the array has so far, if a step chooses one of them.
     tables: usize,
 }
 
 impl Walk {
-    // How many steps are gone behind a name, which in an array of tables is one of its last table's.
-    fn after(self, steps: &[Step<'_>], gone: usize, name: &str) -> Option<usize> {
+    // How many steps have been taken after a name. In an array of tables the name belongs to the last table.
+    fn after(self, steps: &[PathStep<'_>], gone: usize, name: &str) -> Option<usize> {
         match steps.get(gone) {
-            Some(Step::Item(place)) if place.saturating_add(1) == self.tables => {
+            Some(PathStep::Item(place)) if place.saturating_add(1) == self.tables => {
                 after_name(steps, gone.saturating_add(1), name)
             }
             _ => after_name(steps, gone, name),
         }
     }
 
-    // How many steps are gone behind a key that may have dots.
-    fn after_key(self, steps: &[Step<'_>], before: usize, key: &Key) -> Option<usize> {
+    // How many steps have been taken after a key, which may have dots.
+    fn after_key(self, steps: &[PathStep<'_>], before: usize, key: &Key) -> Option<usize> {
         let mut gone = before;
         for name in key.path.iter() {
             gone = self.after(steps, gone, name.as_str())?;
@@ -59,12 +59,12 @@ impl Walk {
         self.after(steps, gone, key.last.as_str())
     }
 
-    // Goes to the table of a header, which may be one more of an array.
-    fn enter(&mut self, steps: &[Step<'_>], key: &Key, is_item: bool) {
+    // Enters the table of a header, which may be one more table of an array.
+    fn enter(&mut self, steps: &[PathStep<'_>], key: &Key, is_item: bool) {
         self.gone = self.after_key(steps, 0, key);
         if is_item
             && let Some(gone) = self.gone
-            && let Some(Step::Item(place)) = steps.get(gone)
+            && let Some(PathStep::Item(place)) = steps.get(gone)
         {
             self.tables = self.tables.saturating_add(1);
             let is_chosen = place.saturating_add(1) == self.tables;
@@ -73,7 +73,7 @@ impl Walk {
     }
 }
 
-// What comes behind a value.
+// What follows a value.
 fn behind_value(alloc: Global, value: &str) -> Result<&str, ParseError> {
     if starts_string(value) {
         return Ok(quoted(alloc, value)?.1);
@@ -107,7 +107,7 @@ fn behind_value(alloc: Global, value: &str) -> Result<&str, ParseError> {
     Ok(rest)
 }
 
-// A key with its dots, and the value behind `=`.
+// A key with its dots, and the value after `=`.
 fn key_and_value(alloc: Global, start: &str) -> Result<(Key, &str), ParseError> {
     let (key, rest) = dotted_key(alloc, start)?;
     match rest.strip_prefix('=') {
@@ -116,13 +116,13 @@ fn key_and_value(alloc: Global, start: &str) -> Result<(Key, &str), ParseError> 
     }
 }
 
-// What comes behind an item of an array or a pair of an inline table, from the next one on.
+// What follows an item of an array or a pair of an inline table, from the next one on.
 fn behind_item(alloc: Global, value: &str) -> Result<&str, ParseError> {
     let rest = skip_blank(behind_value(alloc, value)?, true);
     Ok(skip_blank(rest.strip_prefix(',').unwrap_or(rest), true))
 }
 
-// The item at a place of an array, twice, as a pair is its key and its value.
+// The item at a place of an array, twice, in the form of a pair: its key and its value.
 fn item(alloc: Global, array: &str, wanted: usize) -> Result<Option<(&str, &str)>, ParseError> {
     let Some(items) = array.strip_prefix('[') else {
         return Ok(None);
@@ -137,11 +137,11 @@ fn item(alloc: Global, array: &str, wanted: usize) -> Result<Option<(&str, &str)
     Ok((first(start) != b']').then_some((start, start)))
 }
 
-// The pair of an inline table on which the steps go on, with its value.
+// The pair of an inline table that the next step leads to, with its value.
 fn pair<'a>(
     alloc: Global,
     table: &'a str,
-    steps: &[Step<'_>],
+    steps: &[PathStep<'_>],
     gone: usize,
 ) -> Result<Option<(&'a str, &'a str)>, ParseError> {
     let Some(pairs) = table.strip_prefix('{') else {
@@ -162,17 +162,17 @@ fn pair<'a>(
     Ok(None)
 }
 
-// What the steps that aren't gone lead to in a value.
+// What the steps not yet taken lead to in a value.
 fn inside<'a>(
     alloc: Global,
     outer: &'a str,
-    steps: &[Step<'_>],
+    steps: &[PathStep<'_>],
     gone: usize,
 ) -> Result<Option<&'a str>, ParseError> {
     let (mut found, mut value) = (outer, outer);
     for index in gone..steps.len() {
         let inner = match steps.get(index) {
-            Some(Step::Item(place)) => item(alloc, value, *place)?,
+            Some(PathStep::Item(place)) => item(alloc, value, *place)?,
             _ => pair(alloc, value, steps, index)?,
         };
         let Some((start, rest)) = inner else {
@@ -184,11 +184,11 @@ fn inside<'a>(
     Ok(Some(found))
 }
 
-// Goes to the table of a header. Gives the header, where the steps lead to it, and what follows.
+// Enters the table of a header. Returns the header, if the steps lead to it, and what follows.
 fn take_header<'a>(
     alloc: Global,
     walk: &mut Walk,
-    steps: &[Step<'_>],
+    steps: &[PathStep<'_>],
     start: &'a str,
 ) -> Result<(Option<&'a str>, &'a str), ParseError> {
     let (key, rest) = dotted_key(alloc, skip_ws(start.trim_start_matches('[')))?;
@@ -198,11 +198,11 @@ fn take_header<'a>(
     Ok((is_found.then_some(start), next))
 }
 
-// Reads a key with its value. Gives what of them the steps lead to, and what follows.
+// Reads a key with its value. Returns what the steps lead to in them, and what follows.
 fn take_pair<'a>(
     alloc: Global,
     walk: Walk,
-    steps: &[Step<'_>],
+    steps: &[PathStep<'_>],
     start: &'a str,
 ) -> Result<(Option<&'a str>, &'a str), ParseError> {
     let (key, value) = key_and_value(alloc, start)?;
@@ -219,11 +219,11 @@ fn take_pair<'a>(
     Ok((found, next))
 }
 
-// The definition that these steps lead to, of those of a document without a byte order mark, from there on.
+// The rest of a document, which has no byte order mark, from the definition on that these steps lead to.
 fn find<'a>(
     alloc: Global,
     document: &'a str,
-    steps: &[Step<'_>],
+    steps: &[PathStep<'_>],
 ) -> Result<Option<&'a str>, ParseError> {
     let mut walk = Walk {
         gone: Some(0),
@@ -247,15 +247,15 @@ fn find<'a>(
     Ok(None)
 }
 
-/// Where the definition begins that these steps lead to in a head, or `None` where there is none.
+/// The place in a head at which the definition begins that these steps lead to, or `None` if there is none.
 ///
 /// # Errors
 ///
-/// Memory runs out.
+/// Out of memory.
 pub(crate) fn place_of(
     alloc: Global,
     head: &str,
-    steps: &[Step<'_>],
+    steps: &[PathStep<'_>],
 ) -> Result<Option<usize>, AllocError> {
     match find(alloc, head.trim_start_matches('\u{feff}'), steps) {
         Ok(found) => Ok(found.map(|rest| head.len().saturating_sub(rest.len()))),

@@ -1,9 +1,9 @@
-//! What a head is refused for: the part that its reader names, the key, its line, and what is allowed there.
+//! What is wrong with a head that is refused: the part that its reader names, the key, its line, and what is allowed there.
 
-use crate::definition::{Step, place_of};
-use crate::place::{Line, Listed, Shown};
+use crate::definition::{PathStep, place_of};
+use crate::place::{Line, NameList, ShownBytes};
 use crate::table::said_of;
-use crate::told::Told;
+use crate::told::Context;
 use resil_heads::forms::{Form, Key, PERMIT_COUNT};
 use resil_heads::layers::{EXPONENTIAL_RETRY_KEYS, title_and_keys};
 use resil_heads::subject::Subject;
@@ -15,10 +15,10 @@ use toml::{Table, Value};
 /// What is wrong with a head.
 #[derive(Clone, Copy)]
 pub(crate) struct Explained<'a> {
-    // Where it stands, from its key on.
+    // Its line, from its key on.
     line: Option<Line<'a>>,
     part: Part,
-    // What the part is called, or nothing.
+    // The name of the part, or nothing.
     title: &'static str,
     // The key that it is about.
     key: &'a str,
@@ -28,25 +28,27 @@ pub(crate) struct Explained<'a> {
 // What is wrong at a key.
 #[derive(Clone, Copy)]
 enum Fault<'a> {
-    // It is none of these keys.
+    // It is an unknown key; these are known.
     Unknown(&'static [Key]),
-    // It is a key of a retry whose waits grow.
+    // It is a key for a retry with growing waits only.
     NeedsGrowth,
-    // It isn't there, and has to be of this form.
+    // It is missing, and must be of this form.
     Missing(Form),
     // Its value isn't of this form.
     Value(Form),
-    // The item at this place of its value is no kind of error.
+    // The item at this place of its value names no kind of error.
     Kind(usize),
-    // This, its value or what it is, is no name.
+    // This, its value or the key itself, is no name.
     Name(&'a str),
-    // The core size, which is from the least to the greatest.
+    // The core size: the least and the greatest allowed.
     Core(i64, i64),
-    // The greatest size, where the core size is the first of these, up to the second.
+    // The maximum size: the least allowed, which is the core size, and the greatest.
     Greatest(i64, i64),
-    // The capacity of the queue, from the least to the greatest.
+    // The maximum sizes of an array: the greatest allowed.
+    EachMaximum(i64),
+    // The capacity of the queue: the least and the greatest allowed.
     Places(i64, i64),
-    // The attempts, which come to this with those of the other retries.
+    // The attempts: the product of those of all retries.
     Calls(u128),
     // What is allowed there.
     Other(&'static str),
@@ -70,45 +72,52 @@ impl fmt::Display for Explained<'_> {
             write!(f, ", {title}")?;
         }
         if let Some(line) = self.line {
-            let text = Shown(line.text);
+            let text = ShownBytes(line.text);
             write!(f, ", `{text}`")?;
         }
         f.write_str(": ")?;
-        let key = Shown(self.key.as_bytes());
+        let key = ShownBytes(self.key.as_bytes());
         match self.fault {
             Fault::Unknown(words) => {
-                let keys = Listed(words, ", ");
+                let keys = NameList(words, ", ");
                 write!(f, "unknown key `{key}`; the keys are {keys}")
             }
-            Fault::NeedsGrowth => write!(f, "`{key}` needs `backoff = \"exponential\"` beside it"),
-            Fault::Missing(form) => write!(f, "the key `{key}` is missing; it is {form}"),
-            Fault::Value(form) => write!(f, "the value of `{key}` is not {form}"),
+            Fault::NeedsGrowth => write!(
+                f,
+                "`{key}` is allowed only with `backoff = \"exponential\"`"
+            ),
+            Fault::Missing(form) => write!(f, "missing key `{key}`; it must be {form}"),
+            Fault::Value(form) => write!(f, "`{key}` must be {form}"),
             Fault::Kind(place) => {
                 let number = place.saturating_add(1);
                 write!(
                     f,
-                    "item {number} of `{key}` is none of the texts `E0` to `E65535`, `FULL` and `EXCEEDED`"
+                    "item {number} of `{key}` must be a string from `E0` to `E65535`, `FULL` or `EXCEEDED`"
                 )
             }
             Fault::Name(name) => {
-                let name = Shown(name.as_bytes());
+                let name = ShownBytes(name.as_bytes());
                 write!(
                     f,
-                    "the name `{name}` is not 1 to 64 bytes of ASCII letters, digits, `-`, `_` and `.`"
+                    "the name `{name}` must be 1 to 64 bytes of ASCII letters, digits, `-`, `_` and `.`"
                 )
             }
-            Fault::Core(least, most) => write!(f, "the core size is from {least} to {most}"),
-            Fault::Greatest(0, most) => write!(f, "the greatest size is from 1 to {most}"),
+            Fault::Core(least, most) => write!(f, "the core size must be from {least} to {most}"),
+            Fault::Greatest(0, most) => write!(f, "the maximum size must be from 1 to {most}"),
             Fault::Greatest(core, most) => {
                 write!(
                     f,
-                    "the greatest size is from the core size, {core}, to {most}"
+                    "the maximum size must be from the core size, {core}, to {most}"
                 )
             }
-            Fault::Places(least, most) => write!(f, "the queue has {least} to {most} places"),
+            Fault::EachMaximum(most) => write!(
+                f,
+                "each maximum size must be from 1 to {most}, and at least one must not be below a core size"
+            ),
+            Fault::Places(least, most) => write!(f, "the queue must have {least} to {most} places"),
             Fault::Calls(calls) => write!(
                 f,
-                "the attempts of all retries of a chain come to at most 1000, multiplied, and here to {calls}"
+                "the attempts of all retries in a chain may multiply to at most 1000, and here they multiply to {calls}"
             ),
             Fault::Other(allowed) => f.write_str(allowed),
         }
@@ -133,13 +142,13 @@ fn calls_in(head: &Table) -> Option<u128> {
     Some(calls)
 }
 
-// What a key's value may be, of these keys.
+// What the value of one of these keys may be.
 fn form_of(keys: &[Key], name: &str) -> Option<Form> {
     let key = keys.iter().find(|key| key.name() == name)?;
     Some(key.form())
 }
 
-// The least and the greatest that a key's integers may be, of these keys.
+// The least and the greatest integer that one of these keys may have.
 fn range_of(keys: &[Key], name: &str) -> Option<(i64, i64)> {
     match form_of(keys, name)? {
         Form::Integer(least, most) | Form::Count(least, most) => Some((least, most)),
@@ -148,7 +157,7 @@ fn range_of(keys: &[Key], name: &str) -> Option<(i64, i64)> {
     }
 }
 
-// The greatest size that a head of these keys may have, where it has one core size and one greatest size.
+// What the maximum size of a head of these keys may be, or each of them if it has arrays.
 fn greatest(keys: &[Key], head: &Table) -> Option<Fault<'static>> {
     let (_, most) = range_of(keys, "max")?;
     Some(
@@ -157,14 +166,12 @@ fn greatest(keys: &[Key], head: &Table) -> Option<Fault<'static>> {
             head.get("max")?.as_integer(),
         ) {
             (Some(core), Some(_)) => Fault::Greatest(core, most),
-            _ => Fault::Other(
-                "a greatest size is from 1 to 64, and one of them at least is no lower than a core size",
-            ),
+            _ => Fault::EachMaximum(most),
         },
     )
 }
 
-// A part of a head, by what it is called, the keys that it may have, and its table.
+// A part of a head: its name, the keys that it may have, and its table.
 #[derive(Clone, Copy)]
 struct PartOfHead<'a> {
     part: Part,
@@ -173,7 +180,7 @@ struct PartOfHead<'a> {
     table: &'a Table,
 }
 
-// The part of a head of these keys.
+// The part of a head that has these keys.
 fn part_of<'a>(keys: &'static [Key], head: &'a Table, part: Part) -> Option<PartOfHead<'a>> {
     let (title, keys, table) = match part {
         Part::Head => ("", keys, head),
@@ -193,7 +200,7 @@ fn part_of<'a>(keys: &'static [Key], head: &'a Table, part: Part) -> Option<Part
 }
 
 impl<'a> PartOfHead<'a> {
-    // The name of a key of the part, empty where it is none.
+    // The name of a key of the part, empty if it is none.
     fn name_of(self, key: FaultyKey) -> Option<&'a str> {
         Some(match (self.part, key) {
             (Part::Configuration(place), _) | (_, FaultyKey::Other(place)) => {
@@ -204,7 +211,7 @@ impl<'a> PartOfHead<'a> {
         })
     }
 
-    // What its reader says of a key of it, by the name of the refusal.
+    // What is wrong at a key of the part, by the name of the refusal.
     fn fault(
         self,
         head: &Table,
@@ -237,7 +244,7 @@ impl<'a> PartOfHead<'a> {
         })
     }
 
-    // Where a head has a key of the part with what is wrong there, or where the part begins that lacks it. Errors: memory runs out.
+    // The line at which a head has the faulty key, or at which the part begins that lacks it. Errors: out of memory.
     fn place(
         self,
         alloc: Global,
@@ -246,31 +253,31 @@ impl<'a> PartOfHead<'a> {
         fault: Fault<'_>,
     ) -> Result<Option<usize>, AllocError> {
         let is_there = self.table.get(name).is_some();
-        let key = Step::Key(name);
-        let layer = Step::Key("layer");
+        let key = PathStep::Key(name);
+        let layer = PathStep::Key("layer");
         match (self.part, fault) {
-            (Part::Configuration(_), _) => place_of(alloc, head, &[Step::Key("permits"), key]),
+            (Part::Configuration(_), _) => place_of(alloc, head, &[PathStep::Key("permits"), key]),
             (Part::Layer(place), Fault::Kind(kind)) => {
-                let (place, kind) = (Step::Item(place), Step::Item(kind));
+                let (place, kind) = (PathStep::Item(place), PathStep::Item(kind));
                 match place_of(alloc, head, &[layer, place, key, kind])? {
                     None => place_of(alloc, head, &[layer, place, key]),
                     found => Ok(found),
                 }
             }
             (Part::Layer(place), _) if is_there => {
-                place_of(alloc, head, &[layer, Step::Item(place), key])
+                place_of(alloc, head, &[layer, PathStep::Item(place), key])
             }
-            (Part::Layer(place), _) => place_of(alloc, head, &[layer, Step::Item(place)]),
+            (Part::Layer(place), _) => place_of(alloc, head, &[layer, PathStep::Item(place)]),
             (Part::Head, _) if is_there => place_of(alloc, head, &[key]),
             (Part::Head, _) => Ok(None),
         }
     }
 }
 
-/// What the head of an input is refused for by this name, as its reader says, or by that name alone where its reader takes it. `None`
+/// Why the head of an input is refused by this name: what its reader says, or what the name alone says if its reader accepts it. `None`
 /// when out of memory.
 pub(crate) fn fault_of<'a, S: Subject>(
-    told: Told<'a, S>,
+    told: Context<'a, S>,
     head: &str,
     table: &'a Table,
     name: &str,

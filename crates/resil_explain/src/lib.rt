@@ -1,14 +1,13 @@
-//! What the programs say on standard error behind a refusal, and behind `illegal`: where the fault is, and what is allowed there.
+//! What the programs report on standard error after a refusal, and after `illegal`: where the fault is, and what is allowed there.
 //!
-//! The line on standard output is that of the program, and no clause speaks of what is said here. It is made from the line itself and
-//! from the input, which `kept` of `resil_input` keeps while it hands each byte on. What the rule would have answered is asked of `Rule`
-//! of `resil_rule`, over the rows before the one that is told, and the key of a head that is at fault of what reads the head. Where memory
-//! for it isn't there, nothing is said.
+//! No clause covers these reports. A report is made from the line on standard output and from the input, which `kept` of `resil_input`
+//! keeps while it passes each byte on. `Rule` of `resil_rule` gives the reply that the rule would have had, over the rows before the
+//! faulty one, and the reader of a head gives its faulty key. When out of memory, nothing is reported.
 //!
-//! Each command says what its heads and bodies may have by a `Subject` of `resil_heads`, beside what reads them, and what is said of its
-//! own refusals. Here is the frame: `head` has the line of a head's fault, which `definition` finds, and `body` the fault of a row;
-//! `table` what is said of a refusal by its name alone; `told` brings these together; `words` has the words that a program is started
-//! with, and at which of them they are refused; and `program` is how both programs start.
+//! Each command has a `Subject` of `resil_heads`, next to what reads its heads and bodies. It says what they may have, and what to report
+//! of the command's own refusals. The rest is here: `head` reports a head's fault, whose line `definition` finds, and `body` a row's;
+//! `table` has the reports that follow from a refusal's name alone; `told` brings these together; `words` reports arguments that are
+//! refused; and `program` starts both programs.
 #![tactic(auto)]
 
 mod body;

@@ -1,4 +1,4 @@
-//! Where something stands in an input, and how bytes of it are shown.
+//! Places in an input, and how bytes of it are shown.
 
 ghost use Rattle.std.specs.Prelude.{◌≡◌, ◌==◌, ◌+◌, ℕ, count_by, take};
 
@@ -8,25 +8,25 @@ use std::fmt;
 // How many bytes of a text are shown.
 const SHOWN_LEN: usize = 80;
 
-/// A line of an input. It is written as what a fault in it begins with.
+/// A line of an input, written as the beginning of a report.
 #[derive(Clone, Copy)]
 pub(crate) struct Line<'a> {
     /// Its number, from 1.
     pub number: usize,
-    /// In bytes, from 1, where its text is shown from the fault on, which is far from its start; else 0.
+    /// The column of the fault, in bytes from 1, if the text is shown from there on since it is far from the start; else 0.
     pub column: usize,
     /// Its text from some byte on, without its end.
     pub text: &'a [u8],
 }
 
-// How many lines of a text are ended.
+// The number of line ends in a text.
 fn ended_lines(text: &[u8]) -> usize
     ensures { result ≡ count_by (λ byte. byte == 10) text.now }
 {
     text.iter().filter(|byte| **byte == b'\n').count()
 }
 
-// The number of the line that a place is in.
+// The number of the line of a place.
 fn number_at(input: &[u8], place: usize) -> usize
     ensures { result ≡ count_by (λ byte. byte == 10) (take place input.now) + 1 }
 {
@@ -53,7 +53,7 @@ impl<'a> Line<'a> {
         }
     }
 
-    /// The line of a place of the input, with all its text where the place is among what is shown of that.
+    /// The line of a place of the input, with all its text if what is shown of that has the place.
     pub(crate) fn around(input: &'a [u8], place: usize) -> Line<'a>
         ensures number { result.number ≡ count_by (λ byte. byte == 10) (take place input.entry.now) + 1 }
     {
@@ -77,7 +77,7 @@ impl<'a> fmt::Display for Line<'a> {
         if column > 0 {
             write!(f, ", column {column}")?;
         }
-        let text = Shown(self.text);
+        let text = ShownBytes(self.text);
         write!(f, ", `{text}`: ")
     }
 }
@@ -93,11 +93,11 @@ pub(crate) fn near_separator(input: &[u8]) -> Option<Line<'_>> {
     })
 }
 
-/// Bytes as they are shown: 80 at most, and those that aren't printable ASCII as `\xNN`.
+/// Bytes as they are shown: at most 80, and those that aren't printable ASCII as `\xNN`.
 #[derive(Clone, Copy)]
-pub(crate) struct Shown<'a>(pub &'a [u8]);
+pub(crate) struct ShownBytes<'a>(pub &'a [u8]);
 
-impl fmt::Display for Shown<'_> {
+impl fmt::Display for ShownBytes<'_> {
     fn fmt<W: fmt::Write>(&self, f: &mut fmt::Formatter<W>) -> fmt::Result {
         for byte in self.0.iter().take(SHOWN_LEN) {
             match *byte {
@@ -112,7 +112,7 @@ impl fmt::Display for Shown<'_> {
     }
 }
 
-/// What stands in a list by its name.
+/// Something that a list shows by its name.
 pub(crate) trait Named {
     /// The name.
     fn name(&self) -> &'static str;
@@ -136,11 +136,11 @@ impl<T> Named for (&'static str, T) {
     }
 }
 
-/// What has the words as names, and what stands between two of them.
+/// A list of names, and what separates them.
 #[derive(Clone, Copy)]
-pub(crate) struct Listed<'a, T>(pub &'a [T], pub &'static str);
+pub(crate) struct NameList<'a, T>(pub &'a [T], pub &'static str);
 
-impl<T: Named> fmt::Display for Listed<'_, T> {
+impl<T: Named> fmt::Display for NameList<'_, T> {
     fn fmt<W: fmt::Write>(&self, f: &mut fmt::Formatter<W>) -> fmt::Result {
         for (index, word) in self.0.iter().enumerate() {
             if index > 0 {

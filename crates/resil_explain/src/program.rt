@@ -1,13 +1,13 @@
-//! How a program starts: with its words, its standard input and its standard output.
+//! Starts a program with its arguments, its standard input and its standard output.
 
 pub use resil_input::io::FailureTracking;
 pub use resil_input::kept::{KeptFront, KeptInput};
 pub use resil_input::output::{Output, write_output};
 
-/// Hands the words of a program, its input and its output to an expression, which gives a status, and that with the words, the
-/// front of the output and the input to a function, which says on standard error what they mean. What it gives is the status.
+/// Passes a program's arguments, its input and its output to an expression that returns a status. Passes that, with the arguments, the
+/// front of the output and the input, to a function that explains them on standard error. The value is the status.
 ///
-/// It is no function: a thread of a `run` would rest on a bound that is assumed of the thread of the caller alone.
+/// This is a macro, since in a function a thread of a `run` would rest on a bound that is assumed only of the caller's thread.
 #[macro_export]
 macro_rules! start {
     ($rt:expr, |$words:ident, $reader:ident, $writer:ident| $drive:expr, $say:path) => {{

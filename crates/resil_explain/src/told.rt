@@ -1,8 +1,8 @@
-//! What is said behind the line of an output, by what the line names.
+//! Explains the line of an output, by what the line names.
 
 use crate::body::{body_under, line_of, part_upto, read_record, remark, row_fault};
 use crate::head::fault_of;
-use crate::place::{Line, Listed, Shown, near_separator};
+use crate::place::{Line, NameList, ShownBytes, near_separator};
 use crate::table::said_of;
 use resil_heads::forms::Body;
 use resil_heads::subject::Subject;
@@ -14,18 +14,17 @@ use resil_rule::{Event, Limits, Rule, answer_to, rule_at_last};
 use std::alloc::Global;
 use std::{fmt, str};
 
-/// An input of which something is said, what it is for, and where memory for that comes from.
+/// An input to explain, the command that it is for, and the allocator to use.
 #[derive(Clone, Copy)]
-pub(crate) struct Told<'a, S> {
+pub(crate) struct Context<'a, S> {
     pub alloc: Global,
     pub subject: S,
     pub input: &'a [u8],
 }
 
-/// Says on standard error what the line of an output means for its input, in one to three lines, each of which begins with `resil: `:
-/// by what the line names, which is a row, by its number from 1, the head, the header, or nothing that has a place; then the command
-/// that takes what this one refuses. Where the line is no refusal and no `illegal`, or where memory for it isn't there, it says
-/// nothing.
+/// Explains on standard error what the line of an output means for its input, in one to three lines that each begin with `resil: `: first
+/// what the line names, which is a row (by its number from 1), the head, the header, or nothing with a place; then the command that
+/// accepts what this one refuses. If the line is neither a refusal nor `illegal`, or when out of memory, it reports nothing.
 pub(crate) fn explain<R: Eprint + AllocGlobal, S: Subject>(
     rt: &R,
     subject: S,
@@ -33,7 +32,7 @@ pub(crate) fn explain<R: Eprint + AllocGlobal, S: Subject>(
     input: &[u8],
 ) -> Option<()> {
     let alloc = rt.alloc();
-    let told = Told {
+    let told = Context {
         alloc,
         subject,
         input,
@@ -56,7 +55,7 @@ pub(crate) fn explain<R: Eprint + AllocGlobal, S: Subject>(
     explain_name(rt, other)
 }
 
-// What is said of a part of an input that another command takes, if one does; or `None` where memory to read that part isn't there.
+// What to report of a part of an input that another command accepts, if one does. `None` when out of memory for that part.
 fn other_command<S: Subject>(
     alloc: Global,
     subject: S,
@@ -79,23 +78,23 @@ fn other_command<S: Subject>(
     Some(subject.other_command(alloc, name, head, read.as_ref()))
 }
 
-// Says this, if it is anything.
+// Reports this, if it is anything.
 fn explain_name<R: Eprint>(rt: &R, said: Option<&'static str>) -> Option<()> {
     let allowed = said?;
     eprintln!(rt; "resil: {allowed}").ok()
 }
 
-// Says what is wrong in the line of a place.
+// Reports what is wrong in the line of a place.
 fn explain_line<R: Eprint>(rt: &R, input: &[u8], place: usize, what: &str) -> Option<()> {
     let line = Line::around(input, place);
     eprintln!(rt; "resil: {line}{what}").ok()
 }
 
-// Says where the line that parts a head from a body nearly is, or where it has to be.
-fn explain_separator<R: Eprint, S: Subject>(rt: &R, told: Told<'_, S>) -> Option<()> {
+// Reports the line that is nearly the separator of head and body, or where the separator must be.
+fn explain_separator<R: Eprint, S: Subject>(rt: &R, told: Context<'_, S>) -> Option<()> {
     if let Some(line) = near_separator(told.input) {
         return eprintln!(rt;
-            "resil: {line}this is not `---` alone, which parts the head from the body"
+            "resil: {line}this line must be just `---`, which separates the head from the body"
         ).ok();
     }
     let keys = told.subject.keys();
@@ -105,12 +104,12 @@ fn explain_separator<R: Eprint, S: Subject>(rt: &R, told: Told<'_, S>) -> Option
         ""
     };
     eprintln!(rt;
-        "resil: no line is `---` alone, which parts the head from the body; put {sizes}`---` before the rows"
+        "resil: missing `---` line between head and body; add {sizes}`---` before the rows"
     ).ok()
 }
 
-// Says what a head is refused for.
-fn explain_head<R: Eprint, S: Subject>(rt: &R, told: Told<'_, S>, name: &str) -> Option<()> {
+// Reports why a head is refused.
+fn explain_head<R: Eprint, S: Subject>(rt: &R, told: Context<'_, S>, name: &str) -> Option<()> {
     let (head, _) = split_input(told.input)?;
     let text = match str::from_utf8(head) {
         Ok(text) => text,
@@ -127,14 +126,18 @@ fn explain_head<R: Eprint, S: Subject>(rt: &R, told: Told<'_, S>, name: &str) ->
     }
 }
 
-// Says what the header of a body is, unless it is that of another command, and what stands in its place.
-fn explain_header<R: Eprint, S: Subject>(rt: &R, told: Told<'_, S>, is_other: bool) -> Option<()> {
+// Reports what is there instead of a header, and which headers a body may have, unless it is another command's.
+fn explain_header<R: Eprint, S: Subject>(
+    rt: &R,
+    told: Context<'_, S>,
+    is_other: bool,
+) -> Option<()> {
     let (_, text) = split_input(told.input)?;
     match read_record(told.alloc, text, 0)? {
         Some(record) => {
             let line = line_of(told.input, text, &record);
             let remark = remark(line.text);
-            eprintln!(rt; "resil: {line}this is no header of a body{remark}").ok()?;
+            eprintln!(rt; "resil: {line}this isn't a valid header{remark}").ok()?;
         }
         None => eprintln!(rt; "resil: the body is empty").ok()?,
     }
@@ -142,8 +145,8 @@ fn explain_header<R: Eprint, S: Subject>(rt: &R, told: Told<'_, S>, is_other: bo
         return Some(());
     }
     let body = told.subject.body();
-    let header = Listed(body.without_resizes().header, ",");
-    eprintln!(rt; "resil: a body begins with the header `{header}`").ok()?;
+    let header = NameList(body.without_resizes().header, ",");
+    eprintln!(rt; "resil: the body must begin with the header `{header}`").ok()?;
     let others = OtherHeaders {
         resized: body.has_resizes.then_some(body.header),
         others: told.subject.other_bodies(),
@@ -154,10 +157,10 @@ fn explain_header<R: Eprint, S: Subject>(rt: &R, told: Told<'_, S>, is_other: bo
     eprintln!(rt; "resil: {others}").ok()
 }
 
-// The other headers that a body may have, and when.
+// The other headers that a body may have, each with its condition.
 #[derive(Clone, Copy)]
 struct OtherHeaders {
-    // That of a pool that is resized, if it is another.
+    // The header for a pool that is resized, if it is another.
     resized: Option<&'static [&'static str]>,
     others: &'static [(&'static str, Body)],
 }
@@ -172,12 +175,12 @@ impl fmt::Display for OtherHeaders {
     fn fmt<W: fmt::Write>(&self, f: &mut fmt::Formatter<W>) -> fmt::Result {
         let mut with = "with ";
         if let Some(header) = self.resized {
-            let header = Listed(header, ",");
-            write!(f, "or, where the pool is resized, with `{header}`")?;
+            let header = NameList(header, ",");
+            write!(f, "or, if the pool is resized, with `{header}`")?;
             with = "";
         }
         for (when, other) in self.others {
-            let header = Listed(other.header, ",");
+            let header = NameList(other.header, ",");
             let before = if with.is_empty() { ", " } else { "" };
             write!(f, "{before}or, {when}, {with}`{header}`")?;
             with = "";
@@ -186,10 +189,10 @@ impl fmt::Display for OtherHeaders {
     }
 }
 
-// Says what a row is refused for, or what the rule answers there.
+// Reports why a row is refused, or what the rule replies there.
 fn explain_row<R: Eprint, S: Subject>(
     rt: &R,
-    told: Told<'_, S>,
+    told: Context<'_, S>,
     row: usize,
     name: &str,
 ) -> Option<()> {
@@ -206,9 +209,12 @@ fn explain_row<R: Eprint, S: Subject>(
     if name == "TimeGoesBack" {
         let before = read_record(told.alloc, body, row.saturating_sub(1))??;
         let place = rows.header.iter().position(|column| *column == "at")?;
-        let (time, earlier) = (Shown(record.get(place)?), Shown(before.get(place)?));
+        let (time, earlier) = (
+            ShownBytes(record.get(place)?),
+            ShownBytes(before.get(place)?),
+        );
         return eprintln!(rt;
-            "resil: row {row}, {line}its time {time} is lower than that of the row before it, {earlier}"
+            "resil: row {row}, {line}its time, {time}, is before that of the previous row, {earlier}"
         ).ok();
     }
     let part = part_upto(told.alloc, body, row)?;
@@ -222,7 +228,7 @@ fn explain_row<R: Eprint, S: Subject>(
     eprintln!(rt; "resil: row {row}, {line}{allowed}").ok()
 }
 
-// Says what the rule of admission answers at a row, by the events up to it, and what the pool has there.
+// Reports what the rule of admission replies at a row, by the events up to it, and the pool's state there.
 fn explain_answer<R: Eprint>(
     rt: &R,
     alloc: Global,
@@ -237,7 +243,7 @@ fn explain_answer<R: Eprint>(
     say_pool(rt, &rule)
 }
 
-// Says what the whole rule of the JDK's pools answers at a row, by the events up to it, and what the pool has there.
+// Reports what the whole rule of the JDK's pools replies at a row, by the events up to it, and the pool's state there.
 fn explain_whole_answer<R: Eprint>(
     rt: &R,
     alloc: Global,
@@ -250,15 +256,15 @@ fn explain_whole_answer<R: Eprint>(
     let answer = JdkInWords(rule.answer_to(event));
     eprintln!(rt; "resil: row {row}, {line}{answer}").ok()?;
     let state = StateInWords(rule.state());
-    eprintln!(rt; "resil: the pool there: {state}").ok()
+    eprintln!(rt; "resil: the pool at this point: {state}").ok()
 }
 
-// Says what numbers a pool has.
+// Reports the numbers of a pool.
 fn say_pool<R: Eprint>(rt: &R, rule: &Rule<()>) -> Option<()> {
     let (workers, running) = (rule.workers(), rule.running());
     let (core, max) = (rule.core(), rule.max());
     let (waiting, queue) = (rule.waiting(), rule.limits().queue());
     eprintln!(rt;
-        "resil: the pool there: workers {workers}, with a job {running}; core size {core}, greatest size {max}; waiting {waiting} of {queue}"
+        "resil: the pool at this point: workers {workers}, busy {running}; core size {core}, maximum size {max}; waiting {waiting} of {queue}"
     ).ok()
 }

@@ -1,6 +1,6 @@
-//! The words that a program is started with, and at which of them they are refused.
+//! The arguments that a program is started with, and which of them is refused.
 
-use crate::place::Shown;
+use crate::place::ShownBytes;
 use crate::told::explain;
 use resil_heads::subject::Subject;
 use resil_input::output::Output;
@@ -12,7 +12,7 @@ use std::rt::Env;
 // The version of both programs, which is that of the crates for rustc.
 const VERSION: &str = "0.5.0";
 
-/// The words that a program was started with, as texts (beyond the port). Errors: `Usage` where a word is no text, `NoMemory`.
+/// The arguments that a program was started with, as strings (beyond the port). Errors: `Usage` if one isn't UTF-8; `NoMemory`.
 pub fn own_words(rt: &(impl Env + AllocGlobal)) -> Result<Vec<String>, Output> {
     match env::args(rt) {
         Ok(args) => args.collect(rt.alloc()).map_err(|_| Output::NoMemory),
@@ -21,34 +21,40 @@ pub fn own_words(rt: &(impl Env + AllocGlobal)) -> Result<Vec<String>, Output> {
     }
 }
 
-/// The same words, borrowed (beyond the port). Errors: memory runs out.
+/// The same arguments, borrowed (beyond the port). Errors: out of memory.
 pub fn borrowed<'a>(alloc: Global, words: &'a [String]) -> Result<Vec<&'a str>, AllocError> {
     words.iter().map(|word| word.as_str()).collect(alloc)
 }
 
-/// Says on standard error at which word the words are refused, if there is one, and what is allowed there.
+/// Reports on standard error which argument is refused, if there is one, and what is allowed there.
 pub fn say_words<R: Eprint>(rt: &R, word: Option<&&str>, allowed: &str) {
     match word {
         Some(word) => {
-            let word = Shown(word.as_bytes());
-            drop(eprintln!(rt; "resil: the words are refused at `{word}`; {allowed}"));
+            let word = ShownBytes(word.as_bytes());
+            drop(eprintln!(rt; "resil: unexpected argument `{word}`; {allowed}"));
         }
-        None => drop(eprintln!(rt; "resil: there is no command; {allowed}")),
+        None => drop(eprintln!(rt; "resil: missing argument; {allowed}")),
     }
 }
 
-/// The same where no word names a command, with the version.
+/// Reports on standard error that a word names no command, or that there is none, with the commands and the version.
 pub fn say_commands<R: Eprint>(rt: &R, word: Option<&&str>, commands: &str) {
-    say_words(rt, word, commands);
-    drop(eprintln!(rt; "resil: this is version {VERSION}"));
+    match word {
+        Some(word) => {
+            let word = ShownBytes(word.as_bytes());
+            drop(eprintln!(rt; "resil: unknown command `{word}`; {commands}"));
+        }
+        None => drop(eprintln!(rt; "resil: missing command; {commands}")),
+    }
+    drop(eprintln!(rt; "resil: version {VERSION}"));
 }
 
-/// Whether something is said of an output with this status and this first line: it refuses the input, or the history is illegal.
+/// Whether an output with this status and this first line is explained: it refuses the input, or the history is illegal.
 pub fn is_explained(code: u8, line: &[u8]) -> bool {
     code == 1 || line.starts_with(b"illegal ")
 }
 
-/// Says on standard error what the status and the first line of an output mean for an input of a command, where it is refused or illegal.
+/// Explains on standard error what the status and the first line of an output mean for a command's input, if it is refused or illegal.
 pub fn explain_input<R: Eprint + AllocGlobal, S: Subject>(
     rt: &R,
     subject: S,

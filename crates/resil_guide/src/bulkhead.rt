@@ -1,6 +1,6 @@
 //! A bulkhead of one permit: a call under it, a permit for a scope, and what an operator sees.
 //!
-//! What owns the bulkhead has no `?` behind it: that keeps the proof short.
+//! The function that owns the bulkhead uses no `?` after it: that keeps the proof short.
 
 ghost use Rattle.std.specs.Prelude.{◌≡◌, IfOk};
 ghost use Rattle.resil_permit.specs.Passes.{held_by};
@@ -33,7 +33,7 @@ fn seven<R: Wait>(rt: &R, bulkhead: &Bulkhead, pass: &mut Pass) -> Result<u8, No
     bulkhead.call(rt, pass, &mut FromFn(|| six + 1))
 }
 
-/// The number in a text, read under a permit, which each way out releases.
+/// Reads the number in a text under a permit, which every way out releases.
 fn number<R: Wait>(
     rt: &R,
     bulkhead: &Bulkhead,
@@ -49,7 +49,7 @@ fn number<R: Wait>(
     Ok(number)
 }
 
-/// Prints what three calls come to, one after the other, each of which waits 50 ms at most for its permit.
+/// Prints the outcomes of three calls, one after the other. Each waits at most 50 ms for its permit.
 fn print_in_turn<R: Clock + Print + Wait>(rt: &R, bulkhead: &Bulkhead) -> anyhow::Result<()> {
     let mut letters = bulkhead.client();
     let longest = Duration::from_millis(50);
@@ -60,7 +60,7 @@ fn print_in_turn<R: Clock + Print + Wait>(rt: &R, bulkhead: &Bulkhead) -> anyhow
     Ok(())
 }
 
-/// Prints what calls come to, and the permits that are free, before, while and after another has the one permit.
+/// Prints the outcomes of calls, and the free permits, before, while and after another holds the one permit.
 fn print_calls<R: Clock + Print + Wait>(
     rt: &R,
     bulkhead: &Bulkhead,
@@ -84,7 +84,8 @@ fn print_calls<R: Clock + Print + Wait>(
     print_in_turn(rt, bulkhead)
 }
 
-/// A bulkhead of one permit, with a pass for the calls, one for an operator, and one for whoever has the permit meanwhile.
+/// A bulkhead of one permit, with a pass for the calls, one for an operator, and one for another caller that holds the
+/// permit meanwhile.
 pub fn show<R: AllocGlobal + Clock + Print + Wait>(rt: &R) -> anyhow::Result<()> {
     let (bulkhead, mut pass) = Bulkhead::new(rt.alloc(), "letters", 1)?;
     let mut operator = bulkhead.split(&mut pass);

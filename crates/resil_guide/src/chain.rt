@@ -1,7 +1,6 @@
-//! A neighbour that times out, called under a bulkhead, tried again after growing waits, and
-//! replaced by 0 where no attempt is left.
+//! A backend that times out, called under a bulkhead, retried after growing waits, and replaced by 0 if no attempt is left.
 //!
-//! What owns the bulkhead has no `?` behind it: that keeps the proof short.
+//! The function that owns the bulkhead uses no `?` after it: that keeps the proof short.
 
 ghost use Rattle.std.specs.Prelude.{◌≤◌};
 
@@ -25,7 +24,7 @@ impl From<NoPermit> for PriceError {
     }
 }
 
-/// A neighbour that times out this many times before it answers.
+/// A backend that times out this many times before it answers.
 #[derive(Drop)]
 struct Flaky {
     failures: u32,
@@ -43,7 +42,7 @@ impl Call for Flaky {
     }
 }
 
-/// A layer of one's own: a call that counts its errors.
+/// A layer of your own: a call that counts its errors.
 #[derive(Drop)]
 struct Counted<C> {
     call: C,
@@ -64,7 +63,7 @@ impl<T: Drop, E: Drop, C: Call<Output = Result<T, E>>> Call for Counted<C> {
     }
 }
 
-/// The price that the neighbour says, or 0.
+/// The backend's price, or 0.
 fn price<R: Clock + Wait>(
     rt: &R,
     policy: &RetryPolicy<Interval, EveryError>,
@@ -80,7 +79,7 @@ fn price<R: Clock + Wait>(
     chain.call()
 }
 
-/// Prints what a chain answers that is called twice, of a neighbour that answers at its fifth call, and how often it failed.
+/// Prints the answers of a chain that is called twice, with a backend that answers its fifth call, and how often it failed.
 fn print_two<R: Clock + Print + Wait>(
     rt: &R,
     policy: &RetryPolicy<Interval, EveryError>,
@@ -99,7 +98,7 @@ fn print_two<R: Clock + Print + Wait>(
     Ok(())
 }
 
-/// Prints the prices of a neighbour that answers at once, at its third call, and too late.
+/// Prints the prices of a backend that answers at once, at its third call, and too late.
 fn print_prices<R: Clock + Print + Wait>(
     rt: &R,
     policy: &RetryPolicy<Interval, EveryError>,

@@ -1,14 +1,14 @@
-//! Works that need something of their worker: each thread has a connection, and lends it to the works that it runs.
+//! Jobs that need something of their worker: each thread has a connection, and lends it to the jobs that it runs.
 
-use resil_pools::{Answers, Limits, NoRecord, WorkAt, WorkPool, Workers, work_while_with};
+use resil_pools::{Answers, NoRecord, Sizes, WorkAt, WorkPool, Workers, work_while_with};
 use std::sync::Wait;
 use std::thread::Threads;
 
-/// A connection to the neighbour, which counts the calls that it makes.
+/// A connection to the backend, which counts the calls that it makes.
 #[derive(Drop)]
 struct Connection(u32);
 
-/// Asks the neighbour for the price of an item.
+/// Asks the backend for the price of an item.
 #[derive(Drop)]
 struct PriceOf(u32);
 
@@ -31,7 +31,7 @@ pub fn show<R: AllocGlobal + Print + Threads + Wait + Sync>(rt: &R) -> anyhow::R
         own: Connection(0),
         keep_alive: 20,
     };
-    let (prices, closer) = WorkPool::open(alloc, Limits::new(1, 2, 8)?, NoRecord)?;
+    let (prices, closer) = WorkPool::open(alloc, Sizes::new(1, 2, 8)?, NoRecord)?;
     let ended = work_while_with(rt, &prices, closer, workers, || {
         let (_id, price) = prices.submit(rt, alloc, PriceOf(7)).ok()?;
         price.wait(rt).ok()

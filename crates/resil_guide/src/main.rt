@@ -1,5 +1,5 @@
-//! Calls that are limited and tried again, and pools of threads: each module is the program of a chapter of docs/GUIDE.md,
-//! which `main` runs one after the other.
+//! Calls that are limited and retried, and pools of threads: each module is the program of a chapter of docs/GUIDE.md.
+//! `main` runs them one after the other.
 #![tactic(auto)]
 
 mod bulkhead;

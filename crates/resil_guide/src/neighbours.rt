@@ -1,14 +1,16 @@
-//! A service that asks two neighbours, each on a pool of its own: while the slow one is waited for, the fast one's answers come.
-//! Inside its work a neighbour is asked under a bulkhead, asked again where it has no time, and 0 stands for no answer.
+//! A service that asks two backends, each on a pool of its own: while it waits for the slow one, the fast one's answers come.
+//! Each job asks its backend under a bulkhead, and again if the backend has no time; 0 means no answer.
 
 use resil_calls::{Bulkhead, Call, Decorate, FromFn, NoPause, NoPermit, RetryPolicy};
-use resil_pools::{AllEvents, Answers, Limits, WorkAt, WorkPool, Workers, audit, work_while_with};
+use resil_pools::{
+    AllEvents, Answers, Sizes, WorkAt, WorkPool, Workers, audit_by, work_while_with,
+};
 use std::alloc::Global;
 use std::sync::Wait;
 use std::thread::{Threads, sleep};
 use std::time::{Clock, Duration};
 
-/// Asks how many of an item there are. The neighbour has no time at first, and answers after this many milliseconds then.
+/// Asks how many of an item there are. The backend has no time at first, and then answers after this many milliseconds.
 #[derive(Drop)]
 struct CountOf(u32, u64);
 
@@ -36,7 +38,7 @@ impl<R: Wait + Clock> WorkAt<(&R, &Bulkhead)> for CountOf {
 
 type Counts = WorkPool<CountOf, AllEvents>;
 
-/// How many of an item there are, by the pool of a neighbour; 0 where that refuses.
+/// How many of an item there are, by the pool of a backend; 0 if the pool refuses.
 fn count<R: Wait>(rt: &R, alloc: Global, pool: &Counts, item: u32) -> u32 {
     match pool.submit(rt, alloc, CountOf(item, 1)) {
         Ok((_id, count)) => count.wait(rt).unwrap_or(0),
@@ -52,7 +54,7 @@ fn ask_both<R: Threads + Wait + Clock + Sync>(
 ) -> anyhow::Result<Option<(u32, u32)>> {
     let (bulkhead, _pass) = Bulkhead::new(alloc, "stock", 1)?;
     let workers = Workers::alike(alloc, (rt, &bulkhead), 1, 20)?;
-    let (stock, closer) = Counts::open(alloc, Limits::new(1, 1, 8)?, AllEvents::new(alloc))?;
+    let (stock, closer) = Counts::open(alloc, Sizes::new(1, 1, 8)?, AllEvents::new(alloc))?;
     let ended = work_while_with(rt, &stock, closer, workers, || {
         let (_id, slow) = stock.submit(rt, alloc, CountOf(7, 50)).ok()?;
         let sum = count(rt, alloc, prices, 2).saturating_add(count(rt, alloc, prices, 4));
@@ -66,12 +68,12 @@ pub fn show<R: AllocGlobal + Print + Threads + Wait + Clock + Sync>(rt: &R) -> a
     let alloc = rt.alloc();
     let (bulkhead, _pass) = Bulkhead::new(alloc, "prices", 2)?;
     let workers = Workers::alike(alloc, (rt, &bulkhead), 2, 20)?;
-    let (prices, closer) = Counts::open(alloc, Limits::new(1, 2, 8)?, AllEvents::new(alloc))?;
+    let (prices, closer) = Counts::open(alloc, Sizes::new(1, 2, 8)?, AllEvents::new(alloc))?;
     let ask = || ask_both(rt, alloc, &prices);
     let ended = work_while_with(rt, &prices, closer, workers, ask);
     println!(rt; "{:?}", ended.answer.ok().transpose()?.flatten())?;
     let history = prices.history(rt, alloc, &mut prices.visitor())?;
-    let verdict = audit(alloc, &prices.limits(), &history)?;
+    let verdict = audit_by(alloc, &prices.limits(), &history)?;
     println!(rt; "{} events: {verdict:?}", history.len())?;
     Ok(())
 }

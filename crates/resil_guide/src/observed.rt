@@ -1,4 +1,4 @@
-//! A chain that counts: what was called and what came of it, and its failures as they come.
+//! A chain that counts its calls and their outcomes, and reports its failures as they come.
 
 use resil_bulkhead::{Bulkhead, NoPermit};
 use resil_call::{Call, FromFn, TellsRefusal};
@@ -24,7 +24,7 @@ impl TellsRefusal for PriceError {
     }
 }
 
-/// Asks for three prices, of which the third times out, and then for one more while another has the one permit.
+/// Asks for three prices, the third of which times out, and then for one more while another caller holds the one permit.
 fn ask_four<R: Wait>(rt: &R, bulkhead: &Bulkhead, counts: &CallCounts) -> u32 {
     let mut failures: u32 = 0;
     let mut asked: u32 = 0;
@@ -54,7 +54,7 @@ fn ask_four<R: Wait>(rt: &R, bulkhead: &Bulkhead, counts: &CallCounts) -> u32 {
     failures
 }
 
-/// Prints the failures that the closure saw, and the counts as an operator's page has them.
+/// Prints the failures that the closure saw, and the counts as on an operator's page.
 pub fn show<R: AllocGlobal + Print + Wait>(rt: &R) -> anyhow::Result<()> {
     let (bulkhead, _pass) = Bulkhead::new(rt.alloc(), "prices", 1)?;
     let counts = [CallCounts::new("prices")];

@@ -1,7 +1,7 @@
 //! A pool of two workers: two callers submit a job each, from threads of their own. Then the pool is
 //! closed and drained, and its report is written.
 //!
-//! What owns the report has no `?`: that keeps the proof short.
+//! The function that owns the report uses no `?`: that keeps the proof short.
 
 use resil_admission::Limits;
 use resil_decor::{Chain, Passes, Plan};
@@ -11,7 +11,7 @@ use std::alloc::Global;
 use std::sync::Wait;
 use std::thread::Threads;
 
-/// What a caller submits: a job without layers, whose call answers this value.
+/// A caller's submission: a job without layers, with a call that returns this value.
 fn row(alloc: Global, caller: u16, value: i64) -> anyhow::Result<JobRow> {
     let chain = Chain::new(Vec::new(alloc)).map_err(|refused| refused.0)?;
     let script = Script::new(Vec::from_array(alloc, [Outcome::Value(value)])?)?;
@@ -32,7 +32,7 @@ fn report<R: Threads + Wait + Sync>(rt: &R, alloc: Global) -> anyhow::Result<Rep
     Ok(report)
 }
 
-/// Prints each job's outcome, and what each caller was told.
+/// Prints each job's outcome, and the replies to each caller.
 fn print(rt: &impl Print, report: &Report) -> anyhow::Result<()> {
     for result in &report.results {
         println!(rt; "{:?}", result.run.outcome())?;

@@ -1,7 +1,7 @@
-//! A pool in a chain: each attempt has a new work run by the pool, and 0 stands for no answer in time.
+//! A pool in a chain: the pool runs a new job for each attempt, and 0 means no answer in time.
 
 use resil_calls::{Call, Decorate, FromFn, NoPause, RetryPolicy};
-use resil_pools::{Answers, Limits, NoRecord, Work, WorkPool, work_while};
+use resil_pools::{Answers, NoRecord, Sizes, Work, WorkPool, work_while};
 use std::sync::Wait;
 use std::thread::Threads;
 use std::time::{Clock, Duration};
@@ -20,7 +20,7 @@ impl Work for HalfOf {
     }
 }
 
-/// A half by the pool, in three attempts, each waited for 2 s at most, and 0 where none has an answer.
+/// A half by the pool, in three attempts. Each waits at most 2 s, and the result is 0 if none has an answer.
 fn half_or_0<R: AllocGlobal + Clock + Wait>(rt: &R, pool: &WorkPool<HalfOf>) -> u32 {
     let longest = Duration::from_secs(2);
     FromFn(|| pool.submit_within(rt, rt.alloc(), HalfOf(14), longest))
@@ -31,7 +31,7 @@ fn half_or_0<R: AllocGlobal + Clock + Wait>(rt: &R, pool: &WorkPool<HalfOf>) -> 
 
 /// Asks while threads work for the pool, and once more when it is closed.
 pub fn show<R: AllocGlobal + Clock + Print + Threads + Wait + Sync>(rt: &R) -> anyhow::Result<()> {
-    let (pool, closer) = WorkPool::open(rt.alloc(), Limits::new(1, 2, 8)?, NoRecord)?;
+    let (pool, closer) = WorkPool::open(rt.alloc(), Sizes::new(1, 2, 8)?, NoRecord)?;
     let ended = work_while(rt, &pool, closer, 20, || half_or_0(rt, &pool));
     println!(rt; "{:?}, then {}", ended.answer.ok(), half_or_0(rt, &pool))?;
     Ok(())

@@ -1,13 +1,13 @@
-//! Bulkheads by name: how many calls each permits is looked up in a registry.
+//! Bulkheads by name: a registry says how many calls each permits.
 //!
-//! What owns the registry or a bulkhead has no `?`: that keeps the proof short.
+//! The function that owns the registry or a bulkhead uses no `?`: that keeps the proof short.
 
 use anyhow::anyhow;
 use resil_bulkhead::{Bulkhead, DEFAULT_MAX_CALLS};
 use resil_registry::Registry;
 use std::alloc::Global;
 
-/// Prints a bulkhead's name, and how many calls it permits at once.
+/// Prints a bulkhead's name, and how many concurrent calls it permits.
 fn print(rt: &impl Print, bulkhead: &Bulkhead) -> anyhow::Result<()> {
     println!(rt; "{}: {}", bulkhead.name(), bulkhead.max())?;
     Ok(())
@@ -27,7 +27,7 @@ fn print_instance(
     print(rt, &bulkhead)
 }
 
-/// Looks names up in a registry by whose default a bulkhead permits 25 calls. What is `small` permits 2.
+/// Looks names up in a registry. By its default a bulkhead permits 25 calls; one that is `small` permits 2.
 fn look_up(rt: &impl Print, alloc: Global, registry: &mut Registry<u32>) -> anyhow::Result<()> {
     registry
         .add_config("small", 2)

@@ -1,11 +1,11 @@
-//! A retry by rules of one's own: which answers, how long, and what waits; and one by the defaults.
+//! A retry by your own rules: which answers, how long, and how to wait; and one by the defaults.
 
 ghost use Rattle.std.specs.Prelude.{◌≤◌};
 
 use resil_call::{ByAttempt, FromFn, NoPause, PauseBy, RetryIf, RetryPolicy, Tried, retry};
 
-/// Counts until the count is 3 or more, in at most `attempts` attempts. The waits grow by 100 ms
-/// and are summed up, and not slept.
+/// Counts until the count is 3 or more, in at most `attempts` attempts. The waits grow by 100 ms,
+/// and are added up instead of slept.
 fn count_to_three(attempts: u32) -> (Tried<u32>, u64)
     requires { 1 ≤ attempts }
     ensures { result.0.attempts ≤ attempts }
@@ -28,7 +28,7 @@ fn count_to_three(attempts: u32) -> (Tried<u32>, u64)
     (tried, waited)
 }
 
-/// Calls a function that never succeeds: 3 attempts, whose waits are left out.
+/// Calls a function that never succeeds: 3 attempts, without the waits.
 fn refused() -> Tried<Result<u32, u16>>
     ensures { result.attempts ≤ 3 }
 {
@@ -36,7 +36,7 @@ fn refused() -> Tried<Result<u32, u16>>
     retry(&policy, &mut FromFn(|| Err(503)), &mut NoPause)
 }
 
-/// Prints what each of them came to.
+/// Prints the outcome of each.
 pub fn show(rt: &impl Print) -> anyhow::Result<()> {
     let (tried, waited) = count_to_three(4);
     println!(rt; "{} after {waited} ms: {:?}", tried.answer, tried.end)?;

@@ -1,8 +1,8 @@
-//! A service that asks two neighbours, from four threads: the bulkheads are those of a text, a full one is waited for, what
-//! fails is tried again after waits that grow and are drawn by chance, two seconds are the end, and 0 is the fallback. What
-//! came of the calls is counted by name.
+//! A service that asks two backends, from four threads. The bulkheads come from a text, a call waits if its bulkhead is
+//! full, failures are retried after waits that grow and are drawn at random, the time limit is two seconds, and the
+//! fallback is 0. The outcomes of the calls are counted by name.
 //!
-//! What owns the bulkheads has no `?` behind it: that keeps the proof short.
+//! The function that owns the bulkheads uses no `?` after them: that keeps the proof short.
 
 use resil_calls::{
     Call, CallCounts, CallError, CallsText, Decorate, DecorateWithin, EveryError, FromFn, Interval,
@@ -12,7 +12,8 @@ use std::sync::Wait;
 use std::thread::{self, Threads};
 use std::time::{Clock, Duration};
 
-/// The neighbours: the prices' answers 25 calls at once, as by default, and the stock's 2; a call waits 50 ms for a permit.
+/// The backends: that of the prices gets at most 25 concurrent calls, the default, and that of the stock 2; a call waits 50
+/// ms for a permit.
 const NEIGHBOURS: &str = "
 [permits]
 small = 2
@@ -25,7 +26,7 @@ config = 'small'
 wait = 50
 ";
 
-/// What a neighbour answers: the prices' 42; the stock's is down.
+/// What a backend answers: that of the prices answers 42; that of the stock is down.
 fn answer_of(name: &str) -> Result<u32, CallError<&'static str>> {
     match name {
         "prices" => Ok(42),
@@ -42,7 +43,7 @@ struct Service<'a> {
 }
 
 impl Service<'_> {
-    /// Asks a neighbour up to three times, in two seconds at most. There is none of another name.
+    /// Asks a backend up to three times, in at most two seconds. No backend has any other name.
     fn ask<R: Clock + Wait>(&self, rt: &R, name: &str) -> Option<u32> {
         let (bulkhead, wait) = self.neighbours.find(name)?;
         let counts = self.counts.iter().find(|counts| counts.name() == name)?;
@@ -60,7 +61,7 @@ impl Service<'_> {
         Some(chain.call())
     }
 
-    /// Asks both neighbours twenty times, and sums their answers up.
+    /// Asks both backends twenty times, and adds their answers up.
     fn serve<R: Clock + Wait>(&self, rt: &R) -> u32 {
         let mut sum: u32 = 0;
         for _round in 0..20 {
@@ -72,7 +73,7 @@ impl Service<'_> {
     }
 }
 
-/// Serves from four threads, and prints what they got together, and what came of the calls to the prices.
+/// Serves from four threads, and prints the sum of their answers, and the outcomes of the calls to the prices.
 fn serve_all<R: AllocGlobal + Clock + Print + Sync + Threads + Wait>(
     rt: &R,
     neighbours: &Neighbours,

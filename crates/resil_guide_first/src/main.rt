@@ -1,4 +1,4 @@
-//! The price that a neighbour says: 25 calls at once at most, three attempts, and 0 where all fail.
+//! The price from a backend: at most 25 concurrent calls, three attempts, and 0 if all of them fail.
 #![tactic(auto)]
 
 use resil_bulkhead::{Bulkhead, NoPermit};

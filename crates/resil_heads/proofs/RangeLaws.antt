@@ -1,5 +1,5 @@
 -- Laws of ranges: what is built of a head is in its ranges, whatever the head says.
-use Rattle.std.proofs.Common.{◌≡◌, ◌≤◌, ◌<◌, ◌+◌, ◌^◌, ◌∙◌, ◌∷◌, ℕ, ℤ, pos, negsuc, Bool, true, false, cond, List, [], Option, Some, None, IfOk, Result, Ok, Err, length, length-append, All, nat_lt, refl, sym, ap, subst, arith}
+use Rattle.std.proofs.Common.{◌≡◌, ◌≤◌, ◌<◌, ◌+◌, ◌^◌, ◌∙◌, ◌∷◌, ℕ, ℤ, pos, negsuc, Bool, true, false, cond, List, [], Option, Some, None, IfOk, Result, Ok, Err, length, length-append, All, refl, sym, ap, subst, arith}
 use Rattle.std.proofs.lemmas.Bool.Decides.{nat_tests}
 use Rattle.std.proofs.lemmas.List.Elements.{All-cons, All-head, All-nil, All-push, All-tail}
 use Rattle.std.proofs.lemmas.List.Quantifiers.{position-Some}
@@ -47,9 +47,6 @@ any-ok (Err why) = tt
 passed : {A : Type 0} (P : A → Type 0) (fails : Bool) (why : HeadError) (r : Result A HeadError) → (fails ≡ false → IfOk r P) → IfOk (cond fails (Err why) r) P
 passed P true why r h = tt
 passed P false why r h = h refl
-
-not_above : (a b : ℕ) → nat_lt a b ≡ false → b ≤ a
-not_above a b h = grind (arith, nat_tests, h)
 
 each-ok : {A B : Type 0} (P : B → Type 0) (read : A → Result B HeadError) → ((x : A) → IfOk (read x) P) → (xs : List A) → IfOk (each read xs) (All P)
 each-ok P read h [] = All-nil P

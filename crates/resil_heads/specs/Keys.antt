@@ -20,6 +20,10 @@ each read (x ∷ xs) = and_then (read x) (λ y. and_then (each read xs) (λ ys. 
 abbrev pub parse_at : {A : Type 0} → (Data → Result A HeadError) → A → List ℕ → Members → Result A HeadError
 parse_at read default key layer = option_map_or read (get_member key layer) (Ok default)
 
+-- what is read at a key, if it is there
+abbrev pub parse_known : {A : Type 0} → (Data → Result A HeadError) → List ℕ → Members → Result (Option A) HeadError
+parse_known read key head = parse_at (λ value. and_then (read value) (λ x. Ok (Some x))) None key head
+
 -- the value at a required key, as it is read
 abbrev pub parse_required_at : {A : Type 0} → (Data → Result A HeadError) → List ℕ → Members → Result A HeadError
 parse_required_at read key layer = and_then (ok_or (get_member key layer) error.MissingKey) read

@@ -3,7 +3,7 @@ pub mod ByteOrder
 pub mod Checks
 pub mod CommandError
 pub mod Document
-pub mod History
+pub mod Drawing
 pub mod Keys
 pub mod LayerBuild
 pub mod LayerBulkheads

@@ -9,9 +9,10 @@ use Rattle.toml_datetime.specs.declared.datetime.Time.{Time}
 use Rattle.resil_rule.specs.Limits.{Sizes}
 use Rattle.resil_heads.specs.Checks.{and_then}
 use Rattle.resil_heads.specs.Document.{Keys, check_keys, document_of}
-use Rattle.resil_heads.specs.History.{named_keys}
-use Rattle.resil_heads.specs.Keys.{parse_at, parse_short_text, parse_wait}
+use Rattle.resil_heads.specs.Drawing.{parse_used_drawing}
+use Rattle.resil_heads.specs.Keys.{parse_at, parse_known, parse_short_text, parse_wait}
 use Rattle.resil_heads.specs.Sizes.{parse_jdk_limits, required_sizes}
+use Rattle.resil_heads.specs.declared.drawing.Drawing.{Drawing}
 use Rattle.resil_heads.specs.declared.error.HeadError.{HeadError}
 use Rattle.resil_heads.specs.declared.error.HeadError.TheVariants as error
 use Rattle.resil_heads.specs.declared.pool_head.Moment.{Moment}
@@ -19,9 +20,17 @@ use Rattle.resil_heads.specs.declared.pool_head.PoolHead.{PoolHead}
 use Rattle.resil_heads.specs.declared.pool_head.Recorded.{Recorded}
 use Rattle.resil_heads.specs.declared.pool_head.Uses.{Uses}
 
--- the keys of the head: those of one that is counted or drawn, and those that recorders write
+-- the keys of the head of a `run`, of which the last three are read past
+abbrev pub run_keys : List (List ℕ)
+run_keys = codes "core" ∷ codes "max" ∷ codes "queue" ∷ codes "keep_alive" ∷ codes "permits" ∷ codes "layer" ∷ []
+
+-- the keys of the head: those of a `run`, a name, those that recorders write, and those of what is drawn
 abbrev pub pool_keys : Keys
-pool_keys = record { known = named_keys.known ++ codes "idle_for" ∷ codes "made" ∷ codes "record" ∷ codes "began" ∷ []; required = required_sizes }
+pool_keys = record {
+  known = run_keys ++ codes "name" ∷ codes "idle_for" ∷ codes "made" ∷ codes "record" ∷ codes "began"
+      ∷ codes "from" ∷ codes "to" ∷ codes "most_waiting" ∷ codes "most_workers" ∷ [];
+  required = required_sizes;
+}
 
 -- ---- Moments.
 
@@ -57,10 +66,6 @@ parse_moment value = ok_or (option_and_then moment_from (as_datetime value)) err
 -- a value that is from 0 to 365 days, in microseconds
 abbrev pub parse_year : Data → Result ℕ HeadError
 parse_year value = and_then (parse_wait value) (λ us. if nat_le us 31536000000000 then Ok us else Err error.BadValue)
-
--- what is read at a key, if it is there
-abbrev pub parse_known : {A : Type 0} → (Data → Result A HeadError) → List ℕ → Members → Result (Option A) HeadError
-parse_known read key head = parse_at (λ value. and_then (read value) (λ x. Ok (Some x))) None key head
 
 -- after how many microseconds an idle worker may end, if it is there
 abbrev pub parse_idle_for : Members → Result (Option ℕ) HeadError
@@ -103,14 +108,15 @@ parse_recorded uses head =
 
 -- ---- The head.
 
--- what a head says: the sizes of its pool, its name, and what its recorder wrote
+-- what a head says: the sizes of its pool, its name, what its recorder wrote, and what of its history is drawn
 pub record PoolHeadView : Type 0 where
   pub limits : Sizes
   pub name : List ℕ
   pub recorded : RecordedView
+  pub drawing : Drawing
 
 abbrev pub said_of : PoolHead → PoolHeadView
-said_of head = record { limits = head.limits; name = string_bytes head.name; recorded = recorded_view head.recorded }
+said_of head = record { limits = head.limits; name = string_bytes head.name; recorded = recorded_view head.recorded; drawing = head.drawing }
 
 -- what the bytes of a head say, or the first error
 unfoldable pub pool_head_of : Uses → List ℕ → Result PoolHeadView HeadError
@@ -119,4 +125,5 @@ pool_head_of uses bytes =
     and_then (check_keys pool_keys head) (λ _.
     and_then (parse_short_text (codes "name") head) (λ name.
     and_then (parse_recorded uses head) (λ recorded.
-    and_then (parse_jdk_limits head) (λ limits. Ok (record { limits = limits; name = name; recorded = recorded }))))))
+    and_then (parse_used_drawing uses.drawing head) (λ drawing.
+    and_then (parse_jdk_limits head) (λ limits. Ok (record { limits = limits; name = name; recorded = recorded; drawing = drawing })))))))

@@ -21,13 +21,13 @@ pub enum HeadError {
     #[error("the head is not TOML")]
     BadToml,
     /// A key isn't one that the command knows.
-    #[error("a key of the head is not known")]
+    #[error("the head has an unknown key")]
     UnknownKey,
     /// A required key is missing.
     #[error("a required key of the head is missing")]
     MissingKey,
     /// A value isn't of its kind, or isn't in its range.
-    #[error("a value of the head is not of its kind or not in its range")]
+    #[error("a value of the head has the wrong type or is out of range")]
     BadValue,
     /// The pool refuses the sizes.
     #[error(transparent)]
@@ -36,7 +36,7 @@ pub enum HeadError {
     #[error("there are more than 65535 permits")]
     TooManyPermits,
     /// A bulkhead of a text has the name of one before it, by the number of that one, from 1.
-    #[error("bulkhead {0} has that name already")]
+    #[error("bulkhead {0} already has that name")]
     SameName(usize),
     /// The registry refuses a configuration or a bulkhead.
     #[error(transparent)]

@@ -19,6 +19,8 @@ pub enum Form {
     Integer(i64, i64),
     /// An integer of a head that is read where it is from 0 to 4,294,967,295, and then taken from the least to the greatest.
     Count(i64, i64),
+    /// An integer of a head from 0 on, above that of another key where this is there.
+    Above(&'static str),
     /// One such integer, or an array of 1 to 8 of them.
     Sizes(u32, u32),
     AnyInteger,
@@ -32,6 +34,8 @@ pub enum Form {
     Made,
     /// An offset date-time.
     Moment,
+    /// How long a job runs that a history begins and doesn't finish.
+    Unfinished,
     /// The kind of a layer.
     Layer,
     Backoff,
@@ -72,39 +76,46 @@ impl fmt::Display for Form {
                     "an integer from {least} to {greatest}, or an array of 1 to 8 of them"
                 );
             }
+            Form::Above(key) => {
+                return write!(
+                    f,
+                    "an integer from 0 to 9223372036854775807, above the value of `{key}`"
+                );
+            }
             Form::Number(least, greatest) => {
                 return write!(
                     f,
                     "a number from {least} to {greatest}, without a sign or leading zeros"
                 );
             }
-            Form::ShortText(most) => return write!(f, "a text of at most {most} characters"),
+            Form::ShortText(most) => return write!(f, "a string of at most {most} characters"),
             Form::Tables(name) => return write!(f, "an array of tables, each `[[{name}]]`"),
-            Form::AnyInteger => "an integer of 64 bits",
+            Form::AnyInteger => "a 64-bit integer",
             Form::Wait => "an integer from 0 to 31536000000",
             Form::Flag => "true or false",
-            Form::Text => "a text",
+            Form::Text => "a string",
             Form::Made => "an integer from 0 to the number of events",
-            Form::Moment => "an offset date-time, as `2026-05-27T07:32:00.250000Z`",
+            Form::Moment => "an offset date-time such as `2026-05-27T07:32:00.250000Z`",
+            Form::Unfinished => "`\"run\"` or `\"takes\"`",
             Form::Layer => "`\"retry\"`, `\"bulkhead\"` or `\"fallback\"`",
             Form::Backoff => "`\"fixed\"` or `\"exponential\"`",
             Form::ResultTest => {
-                "`\"never\"`, or a text of `=`, `<` or `>=` and an integer of 64 bits"
+                "`\"never\"`, or a string of `=`, `<` or `>=` and a 64-bit integer"
             }
-            Form::Kinds => "an array of the texts `E0` to `E65535`, `FULL` and `EXCEEDED`",
+            Form::Kinds => "an array of strings, each from `E0` to `E65535`, `FULL` or `EXCEEDED`",
             Form::Fraction => "an array `[p, q]` of two integers, 1 <= q <= p <= 1000",
-            Form::Configurations => "a table that has an integer from 0 to 65535 for each name",
+            Form::Configurations => "a table with an integer from 0 to 65535 for each name",
             Form::Word => "a row of the command",
             Form::Caller => {
-                "a caller of this run, from 1 to what `--callers` says, 1 without it, without a sign or leading zeros"
+                "a caller of this run, from 1 to the number given by `--callers` (1 if absent), without a sign or leading zeros"
             }
             Form::Reply => "core, queued, extra, full or closed",
             Form::JdkReply => "core, first, queued, handed, extra, full or closed",
             Form::Switch => "on or off",
             Form::Script => {
-                "outcomes with `;` between them, each V and an integer, E and 0 to 65535, FULL or EXCEEDED, without leading zeros"
+                "outcomes separated by `;`, each of them V and an integer, E and a number from 0 to 65535, FULL or EXCEEDED, without leading zeros"
             }
-            Form::Grants => "letters y and n, or none",
+            Form::Grants => "the letters y and n, or empty",
             Form::Empty => "empty in such a row",
         };
         f.write_str(wanted)

@@ -2,7 +2,8 @@
 //!
 //! Each command has its head in its own crate. Here are how long an input may be (`length`), the TOML table and its keys (`document`),
 //! what keys and bodies may have (`forms`), the values at keys (`keys`), the three sizes of a pool (`sizes`), the head of a history
-//! (`history`), also of any pool of the JDK (`pool_head`), and the layers around a call with the bulkheads that they name (`layers`).
+//! of any pool of the JDK (`pool_head`) with what of it is drawn (`drawing`), and the layers around a call with the bulkheads that they
+//! name (`layers`).
 //! `bulkheads` reads a text that names the bulkheads of a service, by the same tables. A head that is refused tells its key (`error`).
 //! The error of each step of a command becomes a `CommandError` by `?` (`command_error`), and all lines of refusals are made by one
 //! module (`refusal`). `subject` is what a command says of its inputs to whoever explains a refusal.
@@ -11,9 +12,9 @@
 pub mod bulkheads;
 mod command_error;
 pub mod document;
+pub mod drawing;
 mod error;
 pub mod forms;
-pub mod history;
 pub mod keys;
 pub mod layers;
 pub mod length;

@@ -10,11 +10,12 @@ ghost use Rattle.resil_heads.specs.Checks.{GivesBy};
 ghost use Rattle.resil_heads.specs.PoolHead.{minutes_of, moment_from, parse_began, parse_idle_for, parse_made, parse_moment, parse_owner, parse_recorded, parse_used, parse_year, pool_head_of, recorded_view, said_of};
 
 use crate::document::{check_keys, read_document};
+use crate::drawing::{Drawing, drawing_at};
 use crate::error::{HeadError, HeadFault, at_key};
 use crate::forms::{Form, Key};
 use crate::keys::{parse_wait, short_text_at, value_at, wait_at};
 use crate::layers::{LAYER, PERMITS};
-use crate::run::{KEEP_ALIVE, NAME};
+use crate::run::KEEP_ALIVE;
 use crate::sizes::{JDK_CORE, JDK_MAX, JDK_QUEUE, parse_jdk_limits};
 use resil_jdk::JdkLimits;
 use std::alloc::Global;
@@ -32,14 +33,18 @@ pub const POOL_KEYS: &[Key] = &[
     KEEP_ALIVE,
     PERMITS,
     LAYER,
-    NAME,
+    Key::Optional("name", Form::ShortText(64)),
     Key::Optional("idle_for", Form::Integer(0, 31_536_000_000_000)),
     Key::Optional("made", Form::Made),
     Key::Optional("record", Form::ShortText(64)),
     Key::Optional("began", Form::Moment),
+    Key::Optional("from", Form::Integer(0, i64::MAX)),
+    Key::Optional("to", Form::Above("from")),
+    Key::Optional("most_waiting", Form::Integer(0, 4_294_967_295)),
+    Key::Optional("most_workers", Form::Integer(0, 4_294_967_295)),
 ];
 
-/// Which of the values that a recorder writes a command uses.
+/// Which of the values that a recorder writes a command uses, and whether it draws.
 #[derive(Clone, Copy, Debug)]
 pub struct Uses {
     /// `idle_for`, an integer from 0 to 31,536,000,000,000, a year in microseconds.
@@ -50,6 +55,8 @@ pub struct Uses {
     pub owner: bool,
     /// `began`, an offset date-time.
     pub began: bool,
+    /// `from`, `to`, `most_waiting` and `most_workers`, integers: what of the history is drawn, and on which scales.
+    pub drawing: bool,
 }
 
 impl Uses {
@@ -59,6 +66,7 @@ impl Uses {
         made: false,
         owner: false,
         began: false,
+        drawing: false,
     };
 }
 
@@ -101,6 +109,8 @@ pub struct PoolHead {
     pub name: String,
     /// What its recorder wrote.
     pub recorded: Recorded,
+    /// What of its history is drawn.
+    pub drawing: Drawing,
 }
 
 // How many minutes an offset is ahead of UTC.
@@ -211,8 +221,8 @@ fn parse_recorded(alloc: Global, uses: Uses, table: &Table) -> Result<Recorded, 
 }
 
 /// What the bytes of a head say: the sizes that `core`, `max` (workers, both required) and `queue` (jobs, 100 if it is absent) give
-/// to a pool of the JDK, its `name`, of at most 64 characters, and what its recorder wrote, as far as it is used. Each other key of
-/// `POOL_KEYS` may have any value.
+/// to a pool of the JDK, its `name`, of at most 64 characters, and what its recorder wrote and what is to be drawn, as far as it is used.
+/// Each other key of `POOL_KEYS` may have any value.
 ///
 /// # Errors
 ///
@@ -228,10 +238,12 @@ pub fn read_pool_head(alloc: Global, uses: Uses, bytes: &[u8]) -> Result<PoolHea
     check_keys(POOL_KEYS, &table)?;
     let name = short_text_at(alloc, "name", &table)?;
     let recorded = parse_recorded(alloc, uses, &table)?;
+    let drawing = drawing_at(uses.drawing, &table)?;
     let limits = parse_jdk_limits(&table)?;
     Ok(PoolHead {
         limits,
         name,
         recorded,
+        drawing,
     })
 }

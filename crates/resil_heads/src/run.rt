@@ -8,11 +8,5 @@ use crate::sizes::{CORE, MAX, QUEUE};
 /// The empty looks in a row after which a worker above the core ends.
 pub(crate) const KEEP_ALIVE: Key = Key::Optional("keep_alive", Form::Count(0, 4_294_967_295));
 
-/// What a history is called.
-pub(crate) const NAME: Key = Key::Optional("name", Form::ShortText(64));
-
 /// The keys of the head.
 pub const RUN_KEYS: &[Key] = &[CORE, MAX, QUEUE, KEEP_ALIVE, PERMITS, LAYER];
-
-/// The same with a name, where the history of the run is counted or drawn.
-pub const NAMED_KEYS: &[Key] = &[CORE, MAX, QUEUE, KEEP_ALIVE, PERMITS, LAYER, NAME];

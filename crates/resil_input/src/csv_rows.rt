@@ -1,8 +1,8 @@
 //! The rows of a body, from the records that `csv` reads in it: a header, then one record a row.
 //!
-//! What a body says is the list of its records; quotes, a byte order mark, empty lines and line
-//! ends are left to `csv`. The records that were read and those that the reader has yet to give are
-//! together that list after each read, so no record is lost and none is read twice.
+//! A body is the list of its records; `csv` handles quotes, a byte order mark, empty lines and line
+//! ends. After each read, the records already read and those still to come make up that list, so no
+//! record is lost and none is read twice.
 
 ghost use Rattle.std.specs.Prelude.{◌≡◌, ℕ, List, Option, map, MatchResult, IfOk, IfErr, IsTrue, ◌↔◌};
 ghost use Rattle.csv.specs.Records.{fields_of};
@@ -18,14 +18,14 @@ use thiserror::Error;
 /// Why the rows of a body can't be read.
 #[derive(Clone, Copy, Debug, Error)]
 pub enum BodyError {
-    /// Memory ran out.
+    /// Out of memory.
     #[error("out of memory")]
     Memory,
     /// The first record is missing, or isn't the header.
     #[error("the first record is not the header")]
     BadHeader,
     /// The record at this position is no row. The first one after the header has position 1.
-    #[error("row {0} is not allowed")]
+    #[error("row {0} is invalid")]
     BadRow(usize),
 }
 
@@ -60,7 +60,7 @@ pub fn has_fields(fields: &ByteRecord, names: &[&str]) -> bool
     true
 }
 
-// What a reader gives next.
+// What a reader reads next.
 #[derive(Clone, Copy)]
 enum Next {
     // A record with as many fields as the first one.
@@ -89,7 +89,7 @@ fn next_record(reader: &mut Reader<&[u8]>, fields: &mut ByteRecord) -> Result<Ne
 /// A body whose first record was read.
 #[derive(Drop)]
 pub struct OpenBody<'a> {
-    // What reads the records behind the first one.
+    // The reader of the records after the first one.
     reader: Reader<&'a [u8]>,
     // The first record.
     header: ByteRecord,
@@ -99,7 +99,7 @@ pub struct OpenBody<'a> {
 ///
 /// # Errors
 ///
-/// The first that is met: `Memory` when out of memory; `BadHeader` where there is no record.
+/// The first that is met: `Memory` when out of memory; `BadHeader` if there is no record.
 pub fn open_body(alloc: Global, body: &[u8]) -> Result<OpenBody<'_>, BodyError>
     ensures opened { IfOk result (IsOpened body.now) }
     ensures refused { IfErr result (IsUnopened body.now) }
@@ -122,8 +122,8 @@ impl OpenBody<'_> {
         has_fields(&self.header, names)
     }
 
-    /// Reads the rows behind the header, in order. `row_of` reads the row of a record with as many fields as the header, or `None`
-    /// where it is no row; it fails when out of memory.
+    /// Reads the rows after the header, in order. `row_of` reads the row of a record with as many fields as the header, or `None`
+    /// if it is no row; it fails when out of memory.
     ///
     /// # Errors
     ///
@@ -156,13 +156,13 @@ impl OpenBody<'_> {
     }
 }
 
-/// Reads the rows of a body, in order: the records behind one with the fields of the header.
-/// `row_of` reads the row of a record with as many fields as the header, or `None` where it is no
+/// Reads the rows of a body, in order: the records after one with the fields of the header.
+/// `row_of` reads the row of a record with as many fields as the header, or `None` if it is no
 /// row; it fails when out of memory.
 ///
 /// # Errors
 ///
-/// The first that is met: `Memory` when out of memory; `BadHeader` where the first record is
+/// The first that is met: `Memory` when out of memory; `BadHeader` if the first record is
 /// missing or isn't the header; `BadRow` with the position of the first record that is no row.
 pub fn read_rows<R: Drop, F: Fn(&ByteRecord) -> Result<Option<R>, AllocError> + Drop>(
     alloc: Global,
@@ -182,8 +182,8 @@ pub fn read_rows<R: Drop, F: Fn(&ByteRecord) -> Result<Option<R>, AllocError> + 
     opened.rows(alloc, row_of)
 }
 
-/// The law of bodies: a body alone determines how it is read. It has one list of rows at most, a
-/// body with rows has no error but `Memory`, and a body has one error at most beside `Memory`.
+/// The law of bodies: a body alone determines how it is read. It has at most one list of rows, a
+/// body with rows has no error but `Memory`, and a body has at most one error besides `Memory`.
 pub fn readings_unique<R>()
     ensures rows { (header : List (List ℕ)) (parse : List (List ℕ) → Option R) → RowsUnique header parse }
     ensures fault { (header : List (List ℕ)) (parse : List (List ℕ) → Option R) → RowsExcludeErrors header parse }

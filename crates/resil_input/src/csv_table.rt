@@ -1,8 +1,8 @@
 //! Tables of records, as `csv`'s default writer writes them.
 //!
 //! The fields of a record are joined by commas, and a newline ends it. No field that the program
-//! writes has a comma, a quote or a line end in it, so none is put between quotes. The writer has a
-//! buffer of its own and appends to it, so writing takes time in proportion to the text's length.
+//! writes has a comma, a quote or a line end in it, so none is quoted. The writer appends to a buffer
+//! of its own, so writing takes time in proportion to the text's length.
 
 ghost use Rattle.std.specs.Prelude.{◌≡◌, ◌++◌, ◌<◌, length, map, IfOk, OnOk};
 ghost use Rattle.resil_input.specs.CsvTable.{ArePlain, HasColumns, record_text, text_so_far};
@@ -39,7 +39,7 @@ impl CsvTable {
     ///
     /// # Errors
     ///
-    /// `AllocError` when out of memory. Nothing is known of the text of the table then.
+    /// `AllocError` when out of memory; nothing is known of the table's text then.
     pub fn push(&mut self, fields: &[&[u8]]) -> Result<(), AllocError>
         requires columns { HasColumns self.old (length fields.now) }
         requires plain { ArePlain (map (λ f. f.now) fields.now) }

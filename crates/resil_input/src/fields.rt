@@ -6,7 +6,7 @@ ghost use Rattle.resil_input.specs.TextEquality.{is_same};
 
 use csv::ByteRecord;
 
-/// The field at an index, from 0, which is empty where the record has none there.
+/// The field at an index, from 0; empty if the record has none there.
 pub fn field_at(fields: &ByteRecord, index: usize) -> &[u8]
     ensures { result.now ≡ get_or (fields_of fields.now) index [] }
 {

@@ -1,13 +1,13 @@
 //! The head and the body of an input.
 //!
-//! The first line that consists of `---` alone parts them. Lines are found by their bytes, before
-//! anything is known of the head: a line ends with a newline, or with the input. The separator
-//! may have one carriage return before its newline.
+//! The first line that is just `---` separates them. Lines are found by their bytes, before anything
+//! is known of the head: a line ends with a newline, or with the input. The separator may have one
+//! carriage return before its newline.
 
 ghost use Rattle.std.specs.Prelude.{◌≡◌, option_map};
 ghost use Rattle.resil_input.specs.Framing.{is_separator, parts_of};
 
-/// The head and the body, before and after the first separator line, or `None` where no line is
+/// The head and the body, before and after the first separator line, or `None` if no line is
 /// one.
 ///
 /// The head keeps its last newline. The separator is in neither part.
@@ -25,7 +25,7 @@ pub fn split_input(input: &[u8]) -> Option<(&[u8], &[u8])>
     None
 }
 
-// Whether a line is `---` alone, apart from its line end.
+// Whether a line is just `---`, apart from its line end.
 fn is_separator(line: &[u8]) -> bool
     ensures { result ≡ is_separator line.now }
 {

@@ -1,9 +1,8 @@
 //! Reads all of an input up to a limit, and writes a text, over any reader and writer.
 //!
-//! A reader and a writer are what `InputReader` and `OutputWriter` say: contracts see the bytes that
-//! are left to read, the bytes that were written, and whether a call to them has failed. So their
-//! owner can tell a failed call from every other end. `FailureTracking` makes them of a reader and a
-//! writer of `std`.
+//! `InputReader` and `OutputWriter` say what a reader and a writer are: contracts see the bytes left
+//! to read, the bytes written, and whether a call has failed. So their owner can distinguish a failed
+//! call from every other end. `FailureTracking` makes them from a reader and a writer of `std`.
 
 ghost use Rattle.std.specs.Prelude.{◌≡◌, ◌≤◌, ◌<◌, ◌+◌, ◌-◌, ◌||◌, false, length, vec_len, is_err, IfOk, OnOk, IfSome};
 ghost use Rattle.std.specs.Io.KnownBytes.{Appends, Keeps, ReadConsumes, WriteAppends};
@@ -16,7 +15,7 @@ use thiserror::Error;
 /// The greatest length of an input of the program `resil`, and of a head with its separator line, in bytes: one mebibyte.
 pub const MAX_INPUT_LEN: usize = 1_048_576;
 
-// The greatest number of bytes that one read asks for. Room for them is zeroed at each start, so there are few.
+// The most bytes that one read asks for. Room for them is zeroed at each start, so there are few.
 const MAX_READ_LEN: usize = 16_384;
 
 /// A read failed.
@@ -33,25 +32,25 @@ pub struct WriteError;
 pub trait InputReader {
     ghost use Rattle.std.specs.Prelude.{ℕ, Bool, List, Option};
 
-    /// The bytes that are left to read, where they are known.
+    /// The bytes left to read, if they are known.
     ghost remaining: { Self → Option (List ℕ) };
 
     /// Whether a call to it has failed.
     ghost has_failed: { Self → Bool };
 
-    /// Reads once, and answers how many bytes of `space` it filled: 0 at the end of the input, or
-    /// where `space` is empty.
+    /// Reads once. Returns how many bytes of `space` it filled: 0 at the end of the input, or if
+    /// `space` is empty.
     ///
     /// # Errors
     ///
-    /// `ReadFailure` where the read fails.
+    /// `ReadFailure` if the read fails.
     fn read(&mut self, space: &mut [u8]) -> Result<usize, ReadFailure>
         ensures within { IfOk result (λ count. count ≤ length space.new) }
         ensures bytes { ReadConsumes (remaining self.old) (remaining self.new) result space.new }
         ensures failed { has_failed self.new ≡ (has_failed self.old || is_err result) };
 
-    /// Is handed the whole input back once it is answered, where it was no longer than the limit: one that says
-    /// more of it keeps it, another drops it.
+    /// Gets the whole input back once it is answered, if it was no longer than the limit. A reader whose owner
+    /// explains the answer keeps it; another drops it.
     fn take_back(&mut self, input: Vec<u8>)
         ensures bytes { remaining self.new ≡ remaining self.old }
         ensures failed { has_failed self.new ≡ has_failed self.old };
@@ -61,28 +60,28 @@ pub trait InputReader {
 pub trait OutputWriter {
     ghost use Rattle.std.specs.Prelude.{ℕ, Bool, List, Option};
 
-    /// The bytes that it holds, where they are known.
+    /// The bytes that it holds, if they are known.
     ghost contents: { Self → Option (List ℕ) };
 
     /// Whether a call to it has failed.
     ghost has_failed: { Self → Bool };
 
-    /// Writes once, and answers how long a prefix of `text` was taken, in bytes.
+    /// Writes once. Returns the length of the prefix of `text` that was taken, in bytes.
     ///
     /// # Errors
     ///
-    /// `WriteError` where the write fails or takes no byte.
+    /// `WriteError` if the write fails or takes no byte.
     fn write(&mut self, text: &[u8]) -> Result<usize, WriteError>
         ensures some { IfOk result (λ count. 0 < count) }
         ensures within { IfOk result (λ count. count ≤ length text.now) }
         ensures bytes { WriteAppends (contents self.old) (contents self.new) result text.now }
         ensures failed { has_failed self.new ≡ (has_failed self.old || is_err result) };
 
-    /// Passes on what it still holds back.
+    /// Flushes what it still holds.
     ///
     /// # Errors
     ///
-    /// `WriteError` where the flush fails.
+    /// `WriteError` if the flush fails.
     fn flush(&mut self) -> Result<(), WriteError>
         ensures bytes { Keeps (contents self.old) (contents self.new) }
         ensures failed { has_failed self.new ≡ (has_failed self.old || is_err result) };
@@ -90,12 +89,12 @@ pub trait OutputWriter {
 
 /// A reader or writer of `std` that remembers whether a call to it failed.
 ///
-/// A call that is interrupted is made again, a flush among them, and hasn't failed. Only 2^64 - 1
+/// An interrupted call, a flush included, is made again and hasn't failed. Only 2^64 - 1
 /// interruptions in a row are a failure.
 ///
-/// `std` says nothing of when a call answers an error. So what it is for a call to this to fail is
-/// its own mark, which is set exactly where it answers an error; that it answers one only where the
-/// reader or writer inside did, or took no byte, is tested and not proved.
+/// `std` doesn't say when a call returns an error. So a call to this has failed exactly if it set its
+/// own mark, which it does if and only if it returns an error. That it returns one only if the inner
+/// reader or writer did, or took no byte, is tested and not proved.
 #[derive(Drop)]
 pub struct FailureTracking<S> {
     inner: S,
@@ -103,7 +102,7 @@ pub struct FailureTracking<S> {
 }
 
 impl<S> FailureTracking<S> {
-    /// Wraps a reader or writer, of which no call has failed yet.
+    /// Wraps a reader or writer. No call to it has failed yet.
     pub fn new(inner: S) -> FailureTracking<S>
         ensures inner { inner_of result ≡ inner }
         ensures fresh { has_failed result ≡ false }
@@ -183,16 +182,16 @@ impl<W: Write> OutputWriter for FailureTracking<W> {
 /// An input, as it was read.
 #[derive(Drop)]
 pub enum Input {
-    /// All its bytes, which are within the limit that it was read by.
+    /// All its bytes; they are within the limit of the read.
     Whole(Vec<u8>),
-    /// It has more bytes than that.
+    /// It has more bytes than the limit.
     TooLong,
 }
 
 /// Why an input wasn't read.
 #[derive(Clone, Copy, Debug, Error)]
 pub enum ReadError {
-    /// Memory ran out.
+    /// Out of memory.
     #[error("out of memory")]
     Memory,
     /// A read failed.
@@ -204,7 +203,7 @@ pub enum ReadError {
 ///
 /// # Errors
 ///
-/// The first that is met: `Reader` where a read fails; `Memory` when out of memory.
+/// The first that is met: `Reader` if a read fails; `Memory` when out of memory.
 pub fn read_input<R: InputReader>(alloc: Global, reader: &mut R) -> Result<Input, ReadError>
     ensures input { IfOk result (λ input. IfSome (R.remaining reader.old) (λ bytes. IsInput bytes input)) }
     ensures taken { ConsumesAtMost (input_limit + 1) (R.remaining reader.old) (R.remaining reader.new) }
@@ -217,7 +216,7 @@ pub fn read_input<R: InputReader>(alloc: Global, reader: &mut R) -> Result<Input
 ///
 /// # Errors
 ///
-/// As of `read_input`.
+/// Those of `read_input`.
 pub fn read_up_to<R: InputReader>(
     alloc: Global,
     reader: &mut R,
@@ -238,8 +237,8 @@ pub fn read_up_to<R: InputReader>(
     Ok(Input::TooLong)
 }
 
-// Reads once, to the first byte past the limit at most, and adds what was read to the bytes.
-// Answers how many they are: 0 at the end of the input. Errors: `Reader` where the read fails;
+// Reads once, at most to the first byte past the limit, and adds what was read to the bytes.
+// Returns how many bytes were read: 0 at the end of the input. Errors: `Reader` if the read fails;
 // `Memory` when out of memory.
 fn read_piece<R: InputReader>(
     reader: &mut R,
@@ -269,8 +268,8 @@ fn read_piece<R: InputReader>(
 ///
 /// # Errors
 ///
-/// `WriteError` at the first write that fails or takes no byte, or where the flush fails. A prefix
-/// of the text was written then.
+/// `WriteError` at the first write that fails or takes no byte, or if the flush fails. A prefix of
+/// the text was written then.
 pub fn write_text<W: OutputWriter>(writer: &mut W, text: &[u8]) -> Result<(), WriteError>
     ensures whole { OnOk result (Appends (W.contents writer.old) (W.contents writer.new) text.now) }
     ensures front { AppendsPrefix (W.contents writer.old) (W.contents writer.new) text.now }

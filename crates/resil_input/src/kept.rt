@@ -1,4 +1,4 @@
-//! A reader and a writer that hand on what another one reads and writes, and keep the input and the front of the output.
+//! A reader and a writer that pass on what another one reads and writes, and keep the input and the front of the output.
 
 ghost use Rattle.std.specs.Prelude.{◌≡◌};
 ghost use Rattle.resil_input.specs.Kept.{reader_of, writer_of};
@@ -8,7 +8,7 @@ use crate::io::{InputReader, OutputWriter, ReadFailure, WriteError};
 // How many bytes of an output are kept: more than the line of a refusal has.
 const FRONT_LEN: usize = 64;
 
-/// A reader that keeps the input that it is handed back.
+/// A reader that keeps the input that it gets back.
 #[derive(Drop)]
 pub struct KeptInput<R> {
     inner: R,
@@ -23,8 +23,8 @@ impl<R> KeptInput<R> {
         KeptInput { inner, kept: None }
     }
 
-    /// The whole input, in bytes, or `None` where it wasn't handed back: where none was read, it was too long, memory ran out, or a
-    /// read failed.
+    /// The whole input, in bytes, or `None` if it didn't come back: none was read, it was too long, a read failed, or out of
+    /// memory.
     pub fn input(&self) -> Option<&[u8]> {
         self.kept.as_ref().map(|input| input.as_slice())
     }
@@ -85,7 +85,7 @@ impl<W> KeptFront<W> {
         }
     }
 
-    /// The first bytes that were written, 64 at most.
+    /// The first bytes that were written, at most 64.
     pub fn front(&self) -> &[u8] {
         self.front.bytes.get(..self.front.len).unwrap_or(&[])
     }

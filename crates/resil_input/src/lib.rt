@@ -2,8 +2,8 @@
 //! output, the head and the body of an input, the rows of a body, the numbers, outcomes and replies in
 //! their fields, and the sentences for what the rule answers.
 //!
-//! Nothing here knows a command. An input is read in one way only: the first line of `---` alone
-//! parts head and body, the records of a body are those that `csv` reads, and a number or an
+//! Nothing here knows a command. An input is read in one way only: the first line that is just `---`
+//! separates head and body, the records of a body are those that `csv` reads, and a number or an
 //! outcome has exactly one text.
 #![tactic(auto)]
 

@@ -2,14 +2,14 @@
 //! leading zeros.
 //!
 //! A number is read from exactly one text, the decimal one that the program itself writes. So what
-//! the program wrote is read as what it was.
+//! the program wrote reads back as the same number.
 
 ghost use Rattle.std.specs.Prelude.{◌≡◌, ◌^◌};
 ghost use Rattle.resil_input.specs.Number.{parse_number, parse_caller, parse_from_zero, NumbersRoundTrip, NumbersAreDecimal};
 
 use crate::fields::is_text;
 
-/// Reads a number from 1 to 18,446,744,073,709,551,615, or `None` where a field isn't the decimal
+/// Reads a number from 1 to 18,446,744,073,709,551,615, or `None` if a field isn't the decimal
 /// text of one.
 pub fn parse_number(field: &[u8]) -> Option<u64>
     ensures { result ≡ parse_number field.now }
@@ -20,7 +20,7 @@ pub fn parse_number(field: &[u8]) -> Option<u64>
     }
 }
 
-/// Reads the number of a caller, from 1 to 65,535, or `None` where a field isn't the decimal text
+/// Reads the number of a caller, from 1 to 65,535, or `None` if a field isn't the decimal text
 /// of one.
 pub fn parse_caller(field: &[u8]) -> Option<u16>
     ensures { result ≡ parse_caller field.now }
@@ -28,7 +28,7 @@ pub fn parse_caller(field: &[u8]) -> Option<u16>
     u16::try_from(parse_number(field)?).ok()
 }
 
-/// Reads a number from 0 to 18,446,744,073,709,551,615, or `None` where a field isn't the decimal
+/// Reads a number from 0 to 18,446,744,073,709,551,615, or `None` if a field isn't the decimal
 /// text of one.
 pub fn parse_from_zero(field: &[u8]) -> Option<u64>
     ensures { result ≡ parse_from_zero (2 ^ 64) field.now }

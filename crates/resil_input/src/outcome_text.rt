@@ -2,7 +2,7 @@
 //!
 //! Each value has exactly one text, the one that the program itself writes, and is read from that
 //! text alone: no leading zeros, no plus sign, and a minus only before a value below 0. So what the
-//! program wrote is read as what it was. Reading takes no memory.
+//! program wrote reads back as the same value. Reading takes no memory.
 
 ghost use Rattle.std.specs.Prelude.{String, ◌≡◌, ◌<◌, ◌++◌, IfOk, OnOk};
 ghost use Rattle.std.specs.Fmt.{signed_decimal};
@@ -14,7 +14,7 @@ use itoa::Buffer;
 use resil_retry::{Kind, Outcome};
 use std::alloc::{AllocError, Global};
 
-// The integer below 0 of this size, or `None` where it is below -9,223,372,036,854,775,808.
+// The integer below 0 of this size, or `None` if it is below -9,223,372,036,854,775,808.
 fn negative(size: u64) -> Option<i64>
     requires { 0 < size }
     ensures { result ≡ negative size }
@@ -23,7 +23,7 @@ fn negative(size: u64) -> Option<i64>
     Some(-1 - less_by_one)
 }
 
-/// Reads an integer from -9,223,372,036,854,775,808 to 9,223,372,036,854,775,807, or `None` where a
+/// Reads an integer from -9,223,372,036,854,775,808 to 9,223,372,036,854,775,807, or `None` if a
 /// text isn't the decimal text of one.
 pub fn parse_signed(text: &[u8]) -> Option<i64>
     ensures { result ≡ parse_signed text.now }

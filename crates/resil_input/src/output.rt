@@ -1,7 +1,7 @@
 //! What is written, and the status that goes with it.
 //!
-//! An output is whole before its first byte is written, and its status is given only where all of
-//! it was written.
+//! An output is whole before its first byte is written, and its status is returned only if all of it
+//! was written.
 
 ghost use Rattle.std.specs.Prelude.{◌≡◌};
 ghost use Rattle.resil_input.specs.Output.{IsWritten, bytes_of, code_of, status_of};
@@ -15,9 +15,9 @@ pub enum Status {
     Done,
     /// 1: the input was refused, in one line.
     Refused,
-    /// 2: the words were refused, a call for help or the version among them.
+    /// 2: the arguments were refused, a request for help or the version included.
     Usage,
-    /// 3: memory ran out.
+    /// 3: out of memory.
     NoMemory,
     /// 3: a thread couldn't be started.
     NoThread,
@@ -48,11 +48,11 @@ pub enum Output {
     Text(Vec<u8>),
     /// The line of a refusal of the input.
     Line(String),
-    /// The line of refused words.
+    /// The line for refused arguments.
     Usage,
-    /// The line that says that memory ran out.
+    /// The line for being out of memory.
     NoMemory,
-    /// The line that says that a thread couldn't be started.
+    /// The line for a thread that couldn't be started.
     NoThread,
 }
 
@@ -72,7 +72,7 @@ impl Output {
     }
 }
 
-/// Writes an output, and gives its status, or `Failed` where a write failed behind a prefix of it.
+/// Writes an output. Returns its status, or `Failed` if a write failed after a prefix of it.
 pub fn write_output<W: OutputWriter>(writer: &mut W, output: &Output) -> Status
     ensures { IsWritten (W.contents writer.old) (W.contents writer.new) (W.has_failed writer.old) (W.has_failed writer.new) output.now result }
 {

@@ -1,7 +1,7 @@
 //! The script of a job, as one field of a row writes it: one outcome or more, with semicolons
 //! between them.
 //!
-//! An empty field is no script, for an empty text is no outcome.
+//! An empty field is no script, since an empty text is no outcome.
 
 ghost use Rattle.std.specs.Prelude.{◌≡◌, Contains, IfErr, IfOk};
 ghost use Rattle.resil_input.specs.Script.{parse_script};
@@ -16,7 +16,7 @@ use std::marker::Model;
 ///
 /// # Errors
 ///
-/// `AllocError` when out of memory, which happens only where there is a semicolon.
+/// `AllocError` when out of memory, which can happen only if there is a semicolon.
 pub fn parse_script(alloc: Global, text: &[u8]) -> Result<Option<Script>, AllocError>
     ensures script { IfOk result (λ script. script ≡ parse_script text.now) }
     ensures error { IfErr result (λ _. Contains text.now 59) }

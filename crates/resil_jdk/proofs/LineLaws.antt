@@ -1,5 +1,5 @@
 -- The line of those that were queued, and those of them that wait.
-use Rattle.std.proofs.Common.{◌≡◌, ◌≤◌, ◌<◌, ◌+◌, ◌∷◌, [], ◌++◌, ◌∙◌, ◌||◌, ◌&&◌, Bool, true, false, not, cond, List, Some, length, filter, drop, slice_get, slice_index_or, refl, sym, ap, arith}
+use Rattle.std.proofs.Common.{◌≡◌, ◌≤◌, ◌+◌, ◌∷◌, [], ◌++◌, ◌∙◌, ◌||◌, ◌&&◌, Bool, true, false, not, List, Some, filter, slice_get, refl, sym, ap, arith}
 use Rattle.std.proofs.lemmas.Bool.{cases_Bool}
 use Rattle.std.proofs.lemmas.List.Elements.{filter-append}
 use Rattle.std.proofs.lemmas.List.Folds.{list_any-append}
@@ -42,34 +42,6 @@ among-filter p x ids among =
 -- the line without those that don't wait
 pub kept-same : (waits line : List Id) → IsSameQueue waits line (those waits line)
 kept-same waits line = record { queue = filter-twice (λ id. is_among id waits) line; line = λ x. among-filter (λ id. is_among id waits) x line }
-
--- the first job of a line
-pub at-front : (y : Id) (line : List Id) → 0 < length line → y ≡ slice_index_or line 0 y → slice_get line 0 ≡ Some y
-at-front y [] some is = absurd (omega (arith, some))
-at-front y (z ∷ line) some is = ap Some (sym is)
-
--- the line without its first job, which doesn't wait
-pub dropped-same : (waits : List Id) (y : Id) (line : List Id) → slice_get line 0 ≡ Some y → is_among y waits ≡ false → IsSameQueue waits line (drop 1 line)
-dropped-same waits y [] front left = absurd (cc front)
-dropped-same waits y (z ∷ line) front left =
-    let first : z ≡ y = cc front in
-    record {
-      queue = ap (λ (b : Bool). cond b (z ∷ those waits line) (those waits line)) (sym (ap (λ (id : Id). is_among id waits) first ∙ left));
-      line = λ x among. grind (arith, among, cases_Bool (is_same_id x z));
-    }
-
--- the first job of a line waits, so it is the first that does
-pub front-those : (waits : List Id) (y : Id) (line : List Id) → slice_get line 0 ≡ Some y → is_among y waits ≡ true → slice_get (those waits line) 0 ≡ Some y
-front-those waits y [] front waiting = absurd (cc front)
-front-those waits y (z ∷ line) front waiting =
-    let first : z ≡ y = cc front in
-    ap (λ (b : Bool). slice_get (cond b (z ∷ those waits line) (those waits line)) 0) (ap (λ (id : Id). is_among id waits) first ∙ waiting) ∙ front
-
-pub same-again : (waits line : List Id) → IsSameQueue waits line line
-same-again waits line = record { queue = refl; line = λ x among. among }
-
-pub same-both : (waits a b c : List Id) → IsSameQueue waits a b → IsSameQueue waits b c → IsSameQueue waits a c
-same-both waits a b c one two = record { queue = two.queue ∙ one.queue; line = λ x among. one.line x (two.line x among) }
 
 -- the first of those that wait does
 pub front-waits : (waits line : List Id) (id : Id) → slice_get (those waits line) 0 ≡ Some id → is_among id waits ≡ true

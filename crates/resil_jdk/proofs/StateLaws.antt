@@ -2,7 +2,6 @@
 use Rattle.std.proofs.Common.{◌≡◌, ◌≤◌, ◌∷◌, [], ◌++◌, ◌∙◌, inl, inr, ◌||◌, suc, Bool, true, false, not, List, length, slice_get, refl, sym, ap, arith}
 use Rattle.std.specs.List.{filter_map}
 use Rattle.std.proofs.lemmas.Bool.{cases_Bool, or_cases, false_from_ne_true}
-use Rattle.std.proofs.lemmas.Grind.{common_steps}
 use Rattle.std.proofs.lemmas.List.Elements.{filter-append, filter_map-append}
 use Rattle.std.proofs.lemmas.List.Folds.{list_any-append}
 use Rattle.resil_rule.specs.Limits.{Sizes}
@@ -17,7 +16,7 @@ use Rattle.resil_jdk.specs.declared.event.JdkEvent.{JdkEvent}
 use Rattle.resil_jdk.specs.declared.event.JdkEvent.TheVariants.{Submit, Take, Finish, IdleEnd, Close, Resized, Start, Cull, Remove, Stop, TimeOut}
 use Rattle.resil_jdk.specs.History.{run_id, queued_id, taken_id, left_id, finished_id, is_begin, is_end, is_closing, is_stop, queued, accepted, left, without, waiting, running, is_closed, is_stopped, last_setting, new_core, new_max, new_time_out, next_number}
 use Rattle.resil_jdk.specs.Admission.{reply_after, IsAllowed, IsLegal}
-use Rattle.resil_jdk.specs.RuleView.{JdkView, opened, next_reply, joined, May, IsStep, IsTidied}
+use Rattle.resil_jdk.specs.RuleView.{JdkView, next_reply, joined, May, IsStep, IsTidied}
 use Rattle.resil_jdk.specs.RuleState.{IsStateOf, Follows, StaysAt, IsBarred}
 use Rattle.resil_jdk.proofs.HistoryLaws.{submissions-more, times-more, marks-more, legal-push, last_size-both, last_setting-both}
 use Rattle.resil_jdk.proofs.ConservationLaws.{next-fresh, accepted-parts, left-parts, only-one, front-among, tracked, line, balance}
@@ -221,19 +220,3 @@ tidied-stays v after tidied h state = rw tidied.rest (record {
   lined = λ x among. state.lined x (tidied.queue.line x among);
   made_are = λ c. tidied.made c ∙ state.made_are c;
 })
-
-pub opens : (limits : Sizes) → IsStateOf [] (opened limits)
-opens limits = record {
-  legal = tt;
-  core_is = refl;
-  max_is = refl;
-  time_out_is = refl;
-  closed_is = refl;
-  stopped_is = refl;
-  workers_are = refl;
-  queue_is = refl;
-  waits_are = λ x. refl;
-  runs_are = λ x. refl;
-  lined = λ x among. absurd (cc among);
-  made_are = λ c. grind (arith, common_steps);
-}

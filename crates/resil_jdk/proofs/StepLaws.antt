@@ -1,5 +1,5 @@
 -- What each call of the rule changes is the step of its event, and what a call's clauses come to.
-use Rattle.std.proofs.Common.{◌≡◌, ◌≤◌, ◌+◌, ◌-◌, ◌∷◌, [], ◌++◌, ◌∙◌, ◌==◌, ℕ, Bool, true, false, cond, List, slice_get, slice_index_or, refl, sym, ap, subst, arith, add-zero, append-nil}
+use Rattle.std.proofs.Common.{◌≡◌, ◌≤◌, ◌+◌, ◌-◌, ◌∷◌, [], ◌++◌, ◌∙◌, ◌==◌, ℕ, Bool, true, false, cond, List, slice_get, slice_index_or, refl, sym, ap, subst, arith, append-nil}
 use Rattle.std.specs.Bool.{OnTrue, OnFalse}
 use Rattle.std.specs.Result.{IfOk, IfErr}
 use Rattle.std.specs.declared.result.Result.{Result}
@@ -76,35 +76,8 @@ module _ (v : JdkView) (id : Id) where
   pub placed-core : (runs : List Id) → ((x : Id) → times x runs ≡ times x v.runs + times x (id ∷ [])) → IsPlaced v id Core (record v { workers = v.workers + 1; runs = runs })
   placed-core runs more = record { rest = ap (λ (l : List Id). record v { workers = v.workers + 1; line = l; runs = runs }) (line-same v); waits = λ x. omega arith; runs = more }
 
-  pub placed-extra : (runs : List Id) → ((x : Id) → times x runs ≡ times x v.runs + times x (id ∷ [])) → IsPlaced v id Extra (record v { workers = v.workers + 1; runs = runs })
-  placed-extra runs more = record { rest = ap (λ (l : List Id). record v { workers = v.workers + 1; line = l; runs = runs }) (line-same v); waits = λ x. omega arith; runs = more }
-
-  pub placed-handed : (runs : List Id) → ((x : Id) → times x runs ≡ times x v.runs + times x (id ∷ [])) → IsPlaced v id Handed (record v { runs = runs })
-  placed-handed runs more = record {
-    rest = ap (λ (l : List Id). record v { line = l; runs = runs }) (line-same v) ∙ ap (λ (n : ℕ). record v { workers = n; line = v.line ++ []; runs = runs }) (sym (add-zero v.workers));
-    waits = λ x. omega arith;
-    runs = more;
-  }
-
   pub placed-first : (waits : List Id) → ((x : Id) → times x waits ≡ times x v.waits + times x (id ∷ [])) → IsPlaced v id First (record v { workers = v.workers + 1; line = v.line ++ id ∷ []; waits = waits })
   placed-first waits more = record { rest = refl; waits = more; runs = λ x. omega arith }
-
-  pub placed-queued : (waits : List Id) → ((x : Id) → times x waits ≡ times x v.waits + times x (id ∷ [])) → IsPlaced v id Queued (record v { line = v.line ++ id ∷ []; waits = waits })
-  placed-queued waits more = record { rest = ap (λ (n : ℕ). record v { workers = n; line = v.line ++ id ∷ []; waits = waits }) (sym (add-zero v.workers)); waits = more; runs = λ x. omega arith }
-
-  pub placed-full : IsPlaced v id Full v
-  placed-full = record {
-    rest = ap (λ (l : List Id). record v { line = l }) (line-same v) ∙ ap (λ (n : ℕ). record v { workers = n; line = v.line ++ [] }) (sym (add-zero v.workers));
-    waits = λ x. omega arith;
-    runs = λ x. omega arith;
-  }
-
-  pub placed-closed : IsPlaced v id Closed v
-  placed-closed = record {
-    rest = ap (λ (l : List Id). record v { line = l }) (line-same v) ∙ ap (λ (n : ℕ). record v { workers = n; line = v.line ++ [] }) (sym (add-zero v.workers));
-    waits = λ x. omega arith;
-    runs = λ x. omega arith;
-  }
 
   -- a call that may fail, or find the job there
   pub by_new : {E : Type 0} (reply : JdkReply) (after : JdkView) (r : Result Bool E)
@@ -120,16 +93,6 @@ module _ (v : JdkView) (id : Id) where
   by_first after (Ok true) is more = subst (λ (z : JdkView). IsPlaced v id First z) (sym is) (placed-first after.waits more)
   by_first after (Ok false) is more = tt
   by_first after (Err why) is more = tt
-
-  pub by_queue : {E : Type 0} (after : JdkView) (r : Result Bool E) → IfOk r (λ ok. OnTrue ok (after ≡ record v { line = v.line ++ id ∷ []; waits = after.waits }))
-      → IfOk r (λ ok. OnTrue ok ((x : Id) → times x after.waits ≡ times x v.waits + times x (id ∷ []))) → IfOk r (λ ok. OnTrue ok (IsPlaced v id Queued after))
-  by_queue after (Ok true) is more = subst (λ (z : JdkView). IsPlaced v id Queued z) (sym is) (placed-queued after.waits more)
-  by_queue after (Ok false) is more = tt
-  by_queue after (Err why) is more = tt
-
-  -- counted before and after, it is placed the same
-  pub placed-made : (reply : JdkReply) (m n : List ℕ) (w : JdkView) → IsPlaced (record v { made = m }) id reply w → IsPlaced v id reply (record w { made = n })
-  placed-made reply m n w placed = record { rest = ap (λ (z : JdkView). record z { made = n }) placed.rest; waits = placed.waits; runs = placed.runs }
 
 -- ---- what a call's clauses come to
 -- an event that is followed from a state that nothing but room leads to, and to one that nothing but room leads from

@@ -7,4 +7,5 @@ pub mod Limits
 pub mod RuleInvariant
 pub mod RuleState
 pub mod RuleView
+pub mod Timed
 pub mod Verdict

@@ -20,8 +20,8 @@ fn jdk_reply(reply: Reply) -> JdkReply
     }
 }
 
-// The same event.
-fn jdk_event(event: Event) -> JdkEvent
+/// The same event.
+pub fn jdk_event(event: Event) -> JdkEvent
     ensures { result ≡ jdk_event event }
 {
     match event {

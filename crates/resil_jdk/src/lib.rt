@@ -18,15 +18,17 @@ mod jobs;
 mod laws;
 mod limits;
 mod rule;
+pub mod timed;
 mod verdict;
 
 pub use error::JdkError;
 pub use event::{JdkEvent, JdkReply};
-pub use from_rule::jdk_history;
+pub use from_rule::{jdk_event, jdk_history};
 pub use laws::{
     jobs_conserved, legal_alike, running_within_workers, worked_histories, workers_within_opening,
 };
 pub use limits::JdkLimits;
 pub use rule::JdkRule;
 pub use rule::answer::{JdkAnswer, JdkState, rule_at_last};
+pub use timed::TimedJdkEvent;
 pub use verdict::{audit, verdicts_are_one};

@@ -1,10 +1,10 @@
--- As what a call is counted.
+-- How a call is counted.
 use Rattle.std.specs.Prelude.{◌≡◌, ℕ, ◌+◌, Bool, true, false, Result, Ok, Err, min}
 use Rattle.resil_layers.specs.declared.call_counts.OwnCounts.{OwnCounts}
 use Rattle.resil_layers.specs.declared.counting.Counted.{Counted}
 use Rattle.resil_layers.specs.declared.counting.Counted.TheVariants.{Called, Value, Error, Refused}
 
--- an error is counted as a refusal where it says that it is one
+-- an error is counted as a refusal if it says that it is one
 abbrev pub error_counted_as : Bool → Counted
 error_counted_as true = Refused
 error_counted_as false = Error
@@ -18,7 +18,7 @@ IsCountedAs IsRefusal (Err error) what = (is : Bool) × IsRefusal error is × (w
 abbrev pub one_more : ℕ → ℕ
 one_more n = min (n + 1) 18446744073709551615
 
--- the counts with one more of this
+-- the counts with one more of this kind
 abbrev pub with_one_more : OwnCounts → Counted → OwnCounts
 with_one_more counts Called = record counts { called = one_more counts.called }
 with_one_more counts Value = record counts { values = one_more counts.values }

@@ -1,4 +1,5 @@
--- What a fallback makes of an answer. `IsValue` says what the function makes of an error, and how it leaves itself.
+-- What a fallback makes of an answer. `IsValue` says what the function makes of an error, and in which state that
+-- leaves the function.
 use Rattle.std.specs.Prelude.{◌≡◌, ◌⊎◌, Bool, true, false, Result, Ok, Err, IsOkAnd}
 
 -- a value stays; the function makes a value of an error

@@ -1,4 +1,4 @@
--- What a call with retries came to, by its attempts (Resilience4j user guide, Micrometer: the label `kind` of the retry's calls).
+-- The outcome of a call with retries, by its attempts (Resilience4j user guide, Micrometer: the label `kind` of the retry's calls).
 use Rattle.std.specs.Prelude.{Bool, true, false, Result, Ok, Err, nat_lt, if◌then◌else◌}
 use Rattle.resil_call.specs.declared.tried.End.{End}
 use Rattle.resil_call.specs.declared.tried.End.TheVariants.{Accepted, Exhausted, OutOfTime}
@@ -13,7 +13,7 @@ abbrev pub is_accepted : End → Bool
 is_accepted Accepted = true
 is_accepted _ = false
 
--- a value that isn't to be tried again is a success, and all else a failure
+-- a value that isn't to be tried again is a success, and anything else a failure
 abbrev pub is_success : {T E : Type 0} → Result T E → End → Bool
 is_success (Ok _) end = is_accepted end
 is_success (Err _) end = false
@@ -33,7 +33,7 @@ with_kind counts SuccessfulWithRetry = record counts { successful_with_retry = o
 with_kind counts FailedWithoutRetry = record counts { failed_without_retry = one_more counts.failed_without_retry }
 with_kind counts FailedWithRetry = record counts { failed_with_retry = one_more counts.failed_with_retry }
 
--- and with one more that ended so, where no more attempts were made although the last answer is to be tried again
+-- and with one more that ended this way, if no more attempts were made although the last answer is to be tried again
 abbrev pub with_end : OwnRetryCounts → End → OwnRetryCounts
 with_end counts Accepted = counts
 with_end counts Exhausted = record counts { exhausted = one_more counts.exhausted }

@@ -1,4 +1,4 @@
-//! Counts of calls: words that threads share, and numbers of a chain's own.
+//! Counts of calls: words that threads share, or numbers of a chain's own.
 
 ghost use Rattle.std.specs.Prelude.{◌≡◌};
 
@@ -9,8 +9,8 @@ use std::sync::Arc;
 use std::sync::atomic::AtomicU64;
 use std::sync::atomic::Ordering::SeqCst;
 
-/// How many calls began, and what they came to, in words that threads add to and anybody reads. No clause speaks of what a word
-/// holds. A call that is counted takes two atomic adds, and no memory.
+/// How many calls began, and their outcomes, in words that threads add to and any thread may read. No clause says what a word
+/// holds. Counting a call takes two atomic adds and doesn't allocate.
 ///
 /// ```
 /// let counts = CallCounts::new("prices");
@@ -26,7 +26,7 @@ pub struct CallCounts<'a> {
 }
 
 impl<'a> CallCounts<'a> {
-    /// All at 0, under this name.
+    /// Makes counts that are all 0, under this name.
     pub fn new(name: &'a str) -> CallCounts<'a>
         ensures { result.name.now ≡ name.now }
     {
@@ -39,14 +39,14 @@ impl<'a> CallCounts<'a> {
         }
     }
 
-    /// The name.
+    /// Returns the name.
     pub fn name(&self) -> &'a str
         ensures { result.now ≡ self.now.name.now }
     {
         self.name
     }
 
-    // The word of what is counted: who adds and who reads ask here.
+    // The word of what is counted, to add to or to read.
     fn word(&self, what: Counted) -> &AtomicU64 {
         match what {
             Counted::Called => &self.called,
@@ -56,7 +56,7 @@ impl<'a> CallCounts<'a> {
         }
     }
 
-    /// How often this was counted.
+    /// Returns how often this was counted.
     pub fn count(&self, what: Counted) -> u64 {
         self.word(what).load(SeqCst)
     }
@@ -68,11 +68,11 @@ impl Count for &CallCounts<'_> {
     }
 }
 
-/// Counts for each of these bulkheads, under its name, in their order.
+/// Makes counts for each of these bulkheads, under its name, in the same order.
 ///
 /// # Errors
 ///
-/// Where memory runs out.
+/// `AllocError` if out of memory.
 ///
 /// ```
 /// let counts = counts_by_name(alloc, registry.bulkheads())?;
@@ -88,7 +88,7 @@ pub fn counts_by_name<'a>(
     Ok(all)
 }
 
-/// What the calls of one chain came to, in numbers of its own. None passes 2^64 - 1.
+/// The outcomes of the calls of one chain, in numbers of its own. None exceeds 2^64 - 1.
 ///
 /// ```
 /// let mut chain = FromFn(|| ask(&neighbour)).counted(OwnCounts::default());
@@ -99,9 +99,9 @@ pub fn counts_by_name<'a>(
 pub struct OwnCounts {
     /// How many calls began.
     pub called: u64,
-    /// How many gave a value.
+    /// How many returned a value.
     pub values: u64,
-    /// How many gave an error that is no refusal.
+    /// How many returned an error that is no refusal.
     pub errors: u64,
     /// How many were refused.
     pub refused: u64,

@@ -6,22 +6,22 @@ ghost use Rattle.resil_layers.specs.declared.counting.Counted.{Counted};
 use crate::observed::Observer;
 use resil_call::TellsRefusal;
 
-/// What is counted of calls: each when it begins, and each by what it came to.
+/// What is counted of calls: each call when it begins, and each by its outcome.
 #[derive(Clone, Copy, PartialEq, Eq, Debug)]
 pub enum Counted {
     /// A call began.
     Called,
-    /// It gave a value.
+    /// It returned a value.
     Value,
-    /// It gave an error that is no refusal.
+    /// It returned an error that is no refusal.
     Error,
-    /// It gave an error that is the refusal of a permit.
+    /// It returned an error that is the refusal of a permit.
     Refused,
 }
 
-/// What counts: words that threads share, or numbers of one's own.
+/// Counts calls: in words that threads share, or in numbers of its own.
 pub trait Count {
-    /// One more of this may leave it so.
+    /// One more of this may leave it in this state.
     ghost IsAdded: { Self → Counted → Self → Type 0 } = { λ _ _ _. Unit {0} };
 
     /// Counts one more.
@@ -29,7 +29,7 @@ pub trait Count {
         ensures { IsAdded self.old what self.new };
 }
 
-// As what an answer is counted.
+// How an answer is counted.
 pub(crate) fn counted_as<T, E: TellsRefusal>(answer: &Result<T, E>) -> Counted
     ensures { IsCountedAs E.IsRefusal answer.now result }
 {

@@ -23,7 +23,7 @@ use std::time::Duration;
 /// }
 /// ```
 pub trait Decorate: Call + Sized {
-    /// The call under a permit of the bulkhead, taken by a new pass of the layer's own
+    /// Puts the call under a permit of the bulkhead, taken by a new pass of the layer's own
     /// (`withBulkhead`). A refusal becomes an error of the call's, by its `From<NoPermit>`.
     fn inside<'a, R>(self, bulkhead: &'a Bulkhead, rt: &'a R) -> Inside<'a, R, Self>
     where
@@ -36,7 +36,7 @@ pub trait Decorate: Call + Sized {
         self.inside_by(bulkhead, rt, bulkhead.new_pass())
     }
 
-    /// The same, where the permits are taken by this pass of the bulkhead's.
+    /// Like `inside`, but this pass of the bulkhead's takes the permits.
     fn inside_by<'a, R>(self, bulkhead: &'a Bulkhead, rt: &'a R, pass: Pass) -> Inside<'a, R, Self>
     where
         Self::Output: CanBeRefused<NoPermit>,
@@ -53,7 +53,7 @@ pub trait Decorate: Call + Sized {
         }
     }
 
-    /// The same, where a call that finds no free permit waits for one, at most as long as `longest`
+    /// Like `inside`, but if no permit is free, the call waits for one for at most `longest`
     /// (`maxWaitDuration`).
     fn inside_within<'a, R>(
         self,
@@ -65,6 +65,7 @@ pub trait Decorate: Call + Sized {
         Self::Output: CanBeRefused<NoPermit>,
         ensures call { result.call ≡ self }
         ensures bulkhead { result.bulkhead.now ≡ bulkhead.now }
+        ensures clock { result.rt.now ≡ rt.now }
         ensures longest { result.longest ≡ longest }
         ensures number { own_events result.pass ≡ [] }
         ensures held { held_by result.pass ≡ 0 }
@@ -78,8 +79,7 @@ pub trait Decorate: Call + Sized {
         }
     }
 
-    /// The call tried again by the policy, which has one attempt at least, with these pauses
-    /// (`withRetry`).
+    /// Retries the call by the policy, which has at least one attempt, with these pauses (`withRetry`).
     fn retried<'a, B: Backoff, A: RetryTest<Self::Output>, P: Pause>(
         self,
         policy: &'a RetryPolicy<B, A>,
@@ -97,7 +97,7 @@ pub trait Decorate: Call + Sized {
         }
     }
 
-    /// The call with values in place of its errors (`withFallback`).
+    /// Replaces the errors of the call by values (`withFallback`).
     fn or_else<F>(self, value: F) -> OrElse<Self, F>
         ensures call { result.call ≡ self }
         ensures value { result.value ≡ value }
@@ -105,8 +105,7 @@ pub trait Decorate: Call + Sized {
         OrElse { call: self, value }
     }
 
-    /// The call with values in place of the errors that a test names (`withFallback` of listed
-    /// exceptions).
+    /// Replaces the errors of the call that a test names by values (`withFallback` of listed exceptions).
     ///
     /// ```
     /// let mut chain = FromFn(|| ask(&neighbour))

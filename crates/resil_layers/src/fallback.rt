@@ -5,13 +5,12 @@ ghost use Rattle.resil_layers.specs.Fallback.{IsElse, IsRecovered};
 
 use resil_call::Call;
 
-/// A call whose errors become values, by a function (Resilience4j user guide, Decorators:
-/// `withFallback`).
+/// A call whose errors a function turns into values (Resilience4j user guide, Decorators: `withFallback`).
 #[derive(Drop)]
 pub struct OrElse<C, F> {
-    /// What is called.
+    /// The call inside.
     pub call: C,
-    /// The value in place of an error.
+    /// The value instead of an error.
     pub value: F,
 }
 
@@ -30,15 +29,15 @@ impl<T: Drop, E: Drop, C: Call<Output = Result<T, E>>, F: FnMut(E) -> T> Call fo
     }
 }
 
-/// A call of which some errors, those that a test names, become values by a function. Other errors
+/// A call with some errors, those that a test names, turned into values by a function. Other errors
 /// stay (Resilience4j user guide, Decorators: `withFallback` of listed exceptions).
 #[derive(Drop)]
 pub struct Fallback<C, K, F> {
-    /// What is called.
+    /// The call inside.
     pub call: C,
     /// Which errors become values.
     pub names: K,
-    /// The value in place of an error.
+    /// The value instead of an error.
     pub value: F,
 }
 

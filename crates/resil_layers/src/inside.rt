@@ -9,17 +9,17 @@ use resil_bulkhead::{Bulkhead, NoPermit, Pass};
 use resil_call::Call;
 use std::sync::Wait;
 
-/// A call that is made under a permit of a bulkhead, and answers the error that `NoPermit` becomes
-/// where none is free (Resilience4j user guide, Decorators: `withBulkhead`).
+/// A call made under a permit of a bulkhead. If no permit is free, it returns the error
+/// that `NoPermit` becomes (Resilience4j user guide, Decorators: `withBulkhead`).
 #[derive(Drop)]
 pub struct Inside<'a, R, C> {
-    /// Whose permits.
+    /// The bulkhead that has the permits.
     pub bulkhead: &'a Bulkhead,
-    /// What waits while other passes come in between.
+    /// The runtime, which waits while other passes come in between.
     pub rt: &'a R,
-    /// What takes the permits: a pass of this layer's own.
+    /// The pass that takes the permits, of this layer's own.
     pub pass: Pass,
-    /// What is called.
+    /// The call inside.
     pub call: C,
     ghost source: { pass.source ≡ bulkhead.now.permits },
 }

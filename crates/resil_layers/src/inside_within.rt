@@ -3,35 +3,36 @@
 ghost use Rattle.std.specs.Prelude.{◌≡◌, Result};
 ghost use Rattle.std.specs.Duration.{as_nanos};
 ghost use Rattle.resil_permit.specs.Passes.{PassView};
-ghost use Rattle.resil_permit.specs.Waits.{HasWaited};
+ghost use Rattle.resil_permit.specs.Waits.{HasWaited, HasWaitedBy};
 ghost use Rattle.resil_bulkhead.specs.declared.no_permit.NoPermit.{NoPermit};
-ghost use Rattle.resil_bulkhead.specs.Call.{IsCalled};
+ghost use Rattle.resil_bulkhead.specs.Call.{IsCalled, attempt_in};
 ghost use Rattle.resil_layers.specs.Inside.{IsAnswerOrRefusal};
 
 use resil_bulkhead::{Bulkhead, NoPermit, Pass};
 use resil_call::Call;
+use resil_clock::Reads;
 use std::sync::Wait;
-use std::time::{Clock, Duration};
+use std::time::Duration;
 
-/// A call that is made under a permit of a bulkhead, for which it waits a while. Where none came free
-/// it answers the error that `NoPermit` becomes (Resilience4j user guide, Decorators: `withBulkhead`,
-/// with a `maxWaitDuration`).
+/// A call made under a permit of a bulkhead, for which it waits a while. If no permit came
+/// free, it returns the error that `NoPermit` becomes (Resilience4j user guide, Decorators:
+/// `withBulkhead`, with a `maxWaitDuration`).
 #[derive(Drop)]
 pub struct InsideWithin<'a, R, C> {
-    /// Whose permits.
+    /// The bulkhead that has the permits.
     pub bulkhead: &'a Bulkhead,
-    /// What waits, and has the clock.
+    /// The runtime, to wait by and to read the clock.
     pub rt: &'a R,
-    /// What takes the permits: a pass of this layer's own.
+    /// The pass that takes the permits, of this layer's own.
     pub pass: Pass,
     /// The longest wait.
     pub longest: Duration,
-    /// What is called.
+    /// The call inside.
     pub call: C,
     ghost source: { pass.source ≡ bulkhead.now.permits },
 }
 
-impl<'a, R: Wait + Clock, T: Drop, E: Drop + From<NoPermit>, C: Call<Output = Result<T, E>>> Call
+impl<'a, R: Wait + Reads, T: Drop, E: Drop + From<NoPermit>, C: Call<Output = Result<T, E>>> Call
     for InsideWithin<'a, R, C> {
     type Output = Result<T, E>;
 
@@ -39,6 +40,7 @@ impl<'a, R: Wait + Clock, T: Drop, E: Drop + From<NoPermit>, C: Call<Output = Re
 
     ghost IsAnswer = { λ x answer y.
         (executed : Result (Result T E) NoPermit) × (waited : PassView) × (y.bulkhead ≡ x.bulkhead) × HasWaited (as_nanos x.longest) x.pass waited
+        × HasWaitedBy (R.HasSaid x.rt.now) (as_nanos x.longest) x.bulkhead.now.permits.max x.pass waited (attempt_in executed)
         × IsCalled C.IsAnswer waited y.pass x.call y.call executed × IsAnswerOrRefusal E.from_gives executed answer };
 
     fn call(&mut self) -> Result<T, E> {

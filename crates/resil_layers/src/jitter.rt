@@ -1,4 +1,4 @@
-//! A pause for a part of each wait.
+//! A pause that waits for a random part of each wait.
 
 ghost use Rattle.std.specs.Prelude.{ℕ, ◌≡◌};
 ghost use Rattle.resil_layers.specs.Jitter.{IsDrawn};
@@ -8,16 +8,16 @@ use rand_core::{Rng, SeedableRng};
 use rand_xoshiro::Xoshiro256PlusPlus;
 use resil_call::Pause;
 
-/// From what to the whole a jitter draws.
+/// The range that a jitter draws from. It always ends at the whole wait.
 #[derive(Clone, Copy, PartialEq, Eq, Debug)]
 pub enum Spread {
-    /// From half of the wait (equal jitter).
+    /// From half of the wait on (equal jitter).
     Equal,
-    /// From nothing (full jitter).
+    /// From zero on (full jitter).
     Full,
 }
 
-/// A pause for a part of each wait, by chance: the wait goes through a generator before it goes to
+/// A pause for a random part of each wait: the wait goes through a generator before it goes to
 /// another pause. No pause is longer than the backoff says.
 ///
 /// ```
@@ -26,14 +26,14 @@ pub enum Spread {
 /// ```
 #[derive(Drop)]
 pub struct Jitter<P> {
-    /// What pauses for the part that is drawn.
+    /// The pause for the part that is drawn.
     pub pause: P,
     spread: Spread,
     rng: Xoshiro256PlusPlus,
 }
 
 impl<P> Jitter<P> {
-    /// Draws from half of each wait to the whole, by a generator that begins with this seed.
+    /// Makes a jitter that draws between half of each wait and the whole, by a generator with this seed.
     pub fn new(pause: P, seed: u64) -> Jitter<P>
         ensures pause { result.pause ≡ pause }
         ensures spread { result.spread ≡ Spread.Equal }
@@ -45,7 +45,7 @@ impl<P> Jitter<P> {
         }
     }
 
-    /// Draws from nothing to the whole of each wait, by a generator that begins with this seed.
+    /// Makes a jitter that draws between zero and the whole of each wait, by a generator with this seed.
     ///
     /// ```
     /// let mut pause = Jitter::full(Sleep::new(&rt), 7);

@@ -1,18 +1,18 @@
-//! Layers around functions of one's own: a bulkhead, a retry, a fallback and an observer around a call (after Resilience4j's
+//! Layers around your own functions: a bulkhead, a retry, a fallback and an observer around a call (modelled on Resilience4j's
 //! Decorators and events; user guide, chapters Bulkhead, Decorators and Micrometer).
 //!
-//! A layer around a call is itself a call, so a chain is written innermost first and read from
-//! there: `FromFn(read).inside(..).retried(..).or_else(..)`. A chain allocates nothing. What it does
-//! is said by its outermost layer's `IsAnswer`, which speaks of the next one's.
+//! A layer around a call is a call itself, so you write a chain innermost first and read it from there:
+//! `FromFn(read).inside(..).retried(..).or_else(..)`. A chain allocates nothing. The `IsAnswer` of its outermost layer says
+//! what the chain does, in terms of that of the next one.
 //!
-//! Where an observer stands in a chain says what it is told of. Around the function that is each call that was permitted,
-//! around a bulkhead the refusals too, inside a retry each attempt, and around it the whole. An observer of the retry itself
-//! is told of each wait before it, and of the end. No lock is held then. Counts are words that threads add to and an
+//! What an observer sees depends on its place in the chain: around the function it sees each call that was permitted, around a
+//! bulkhead the refusals too, inside a retry each attempt, and around a retry the whole. An observer of the retry itself sees
+//! each wait before it begins, and the end. No lock is held while an observer runs. Counts are words that threads add to and an
 //! operator reads, as a text for Prometheus.
 //!
-//! A jitter is a pause around another one, so that callers who were refused together don't come back together (user guide,
-//! Retry: randomized intervals). It draws each wait from a generator of its own, which begins with a seed, so two runs from one
-//! seed wait the same. Between what it draws is said by `IsDrawn` in `specs/Jitter.antt`: never above the backoff's wait.
+//! A jitter is a pause around another one, so that callers that were refused together don't come back together (user guide,
+//! Retry: randomized intervals). It draws each wait from a generator of its own, which starts from a seed, so two runs with the
+//! same seed draw the same. `IsDrawn` in `specs/Jitter.antt` gives the range that it draws from: never above the backoff's wait.
 #![tactic(auto)]
 
 mod call_counts;

@@ -1,11 +1,11 @@
-//! A layer that tells an observer of each call.
+//! A layer that reports each call to an observer.
 
 ghost use Rattle.std.specs.Prelude.{◌≡◌};
 
 use crate::counting::{Count, Counting};
 use resil_call::Call;
 
-/// What is told of each call: once before it, and once after it with its answer.
+/// Observes each call: once before it, and once after it with its answer.
 ///
 /// ```
 /// impl<T, E> Observer<Result<T, E>> for Failures {
@@ -19,13 +19,13 @@ use resil_call::Call;
 /// }
 /// ```
 pub trait Observer<T> {
-    /// It can be told.
+    /// It can observe a call.
     ghost CanTell: { Self → Type 0 } = { λ _. Unit {0} };
 
-    /// A call that begins may leave it so.
+    /// The start of a call may leave it in this state.
     ghost IsBefore: { Self → Self → Type 0 } = { λ _ _. Unit {0} };
 
-    /// This answer may leave it so.
+    /// This answer may leave it in this state.
     ghost IsAfter: { Self → T → Self → Type 0 } = { λ _ _ _. Unit {0} };
 
     /// A call begins.
@@ -34,14 +34,14 @@ pub trait Observer<T> {
         ensures before { IsBefore self.old self.new }
         ensures can { CanTell self.new };
 
-    /// A call has given this answer.
+    /// A call has returned this answer.
     fn after(&mut self, answer: &T)
         requires { CanTell self.old }
         ensures after { IsAfter self.old answer.now self.new }
         ensures can { CanTell self.new };
 }
 
-/// A closure that is told each answer.
+/// A closure that sees each answer.
 #[derive(Drop)]
 pub struct Inspect<F>(pub F);
 
@@ -62,12 +62,12 @@ impl<T, F: FnMut(&T)> Observer<T> for Inspect<F> {
     }
 }
 
-/// A call that an observer is told about: before it, then after it with the very answer.
+/// A call with an observer, which is called before it, and after it with the very answer.
 #[derive(Drop)]
 pub struct Observed<C, O> {
-    /// What is called.
+    /// The call inside.
     pub call: C,
-    /// What is told.
+    /// The observer.
     pub observer: O,
 }
 
@@ -98,7 +98,7 @@ impl<C: Call, O: Observer<C::Output>> Call for Observed<C, O> {
 /// println!(rt; "{} refused", counts.count(Counted::Refused))?;
 /// ```
 pub trait Observe: Call + Sized {
-    /// The call, which this observer is told about.
+    /// Reports the call to this observer.
     fn observed<O>(self, observer: O) -> Observed<Self, O>
         ensures call { result.call ≡ self }
         ensures observer { result.observer ≡ observer }
@@ -109,7 +109,7 @@ pub trait Observe: Call + Sized {
         }
     }
 
-    /// The call, whose answers a closure is told.
+    /// Shows the answers of the call to a closure.
     fn inspect<F>(self, told: F) -> Observed<Self, Inspect<F>>
         ensures call { result.call ≡ self }
         ensures told { result.observer.0 ≡ told }
@@ -117,7 +117,7 @@ pub trait Observe: Call + Sized {
         self.observed(Inspect(told))
     }
 
-    /// The call, counted by what it answers.
+    /// Counts the call by its answer.
     fn counted<K: Count>(self, counts: K) -> Observed<Self, Counting<K>>
         ensures call { result.call ≡ self }
         ensures counts { result.observer.0 ≡ counts }

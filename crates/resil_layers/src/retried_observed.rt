@@ -1,4 +1,4 @@
-//! A retry around a call, as a call that an observer is told about.
+//! A retry around a call, as a call with an observer.
 
 ghost use Rattle.std.specs.Prelude.{ℕ, ◌≡◌, ◌≤◌};
 ghost use Rattle.resil_call.specs.declared.tried.Tried.{Tried};
@@ -9,8 +9,8 @@ ghost use Rattle.resil_layers.specs.declared.retried_observed.Telling.{Telling};
 use resil_call::{BackoffFor, Call, Pause, RetryPolicy, RetryTest, Tried, WaitLimit, retry_within};
 use std::marker::PhantomData;
 
-/// What is told of each retry: once before each wait, and once of the end (Resilience4j user guide, Retry: `onRetry`,
-/// `onSuccess`, `onError`). The first attempt is no retry.
+/// Observes each retry: once before each wait, and once at the end (Resilience4j user guide, Retry: `onRetry`, `onSuccess`,
+/// `onError`). The first attempt is no retry.
 ///
 /// ```
 /// impl<T> RetryObserver<T> for LongestWait {
@@ -22,29 +22,29 @@ use std::marker::PhantomData;
 /// }
 /// ```
 pub trait RetryObserver<T> {
-    /// It can be told.
+    /// It can observe a retry.
     ghost CanTell: { Self → Type 0 } = { λ _. Unit {0} };
 
-    /// The wait after the attempt of this number may leave it so.
+    /// The wait after the attempt of this number may leave it in this state.
     ghost IsRetry: { Self → ℕ → ℕ → Self → Type 0 } = { λ _ _ _ _. Unit {0} };
 
-    /// A retry that ended so may leave it so.
+    /// The end of this retry may leave it in this state.
     ghost IsEnd: { Self → Tried T → Self → Type 0 } = { λ _ _ _. Unit {0} };
 
-    /// The attempt of this number, from 1 on, is to be tried again, after a wait of so many milliseconds, which begins now.
+    /// The attempt of this number, from 1 on, is to be tried again, after a wait of this many milliseconds, which begins now.
     fn on_retry(&mut self, attempt: u32, milliseconds: u64)
         requires { CanTell self.old }
         ensures retry { IsRetry self.old attempt milliseconds self.new }
         ensures can { CanTell self.new };
 
-    /// The retry has come to this.
+    /// The retry has ended with this outcome.
     fn on_end(&mut self, tried: &Tried<T>)
         requires { CanTell self.old }
         ensures end { IsEnd self.old tried.now self.new }
         ensures can { CanTell self.new };
 }
 
-/// A closure that is told of each wait: the number of the attempt before it, and its milliseconds.
+/// A closure that sees each wait: the number of the attempt before it, and its milliseconds.
 #[derive(Drop)]
 pub struct OnRetry<F>(pub F);
 
@@ -62,7 +62,7 @@ impl<T, F: FnMut(u32, u64)> RetryObserver<T> for OnRetry<F> {
     fn on_end(&mut self, _tried: &Tried<T>) {}
 }
 
-/// Two observers, both of which are told.
+/// Two observers. Both see everything.
 impl<T, A: RetryObserver<T>, B: RetryObserver<T>> RetryObserver<T> for (A, B) {
     ghost CanTell = { λ x. A.CanTell x.0 × B.CanTell x.1 };
 
@@ -81,14 +81,14 @@ impl<T, A: RetryObserver<T>, B: RetryObserver<T>> RetryObserver<T> for (A, B) {
     }
 }
 
-/// A pause that tells an observer of each wait before it.
+/// A pause that reports each wait to an observer before it begins.
 #[derive(Drop)]
 pub struct Telling<T, P, O> {
     // The number of the attempt before the next wait.
     pub(crate) attempt: u32,
-    /// What waits between the attempts.
+    /// The pause between the attempts.
     pub pause: P,
-    /// What is told.
+    /// The observer.
     pub observer: O,
     pub(crate) of: PhantomData<T>,
 }
@@ -105,17 +105,17 @@ impl<T, P: Pause, O: RetryObserver<T>> Pause for Telling<T, P, O> {
     }
 }
 
-/// A call that tries another one again and answers the last answer, with a limit of the waits that is made anew for each call,
-/// and tells an observer of each wait, before it, and of the end.
+/// A call that retries another one and returns its last answer. It has a limit of the waits, made anew for each call, and
+/// reports each wait, before it begins, and the end to an observer.
 #[derive(Drop)]
 pub struct RetriedObserved<'a, T, B, A, C, P, F, O> {
-    /// How often, after which waits and for which answers.
+    /// The policy: how many attempts, after which waits, and for which answers.
     pub policy: &'a RetryPolicy<B, A>,
     /// Makes the limit of a call's waits.
     pub limit: F,
-    /// What waits between the attempts, and what is told.
+    /// The pause between the attempts, and the observer that it reports to.
     pub told: Telling<T, P, O>,
-    /// What is tried again.
+    /// The call that is retried.
     pub call: C,
     ghost attempts: { 1 ≤ policy.now.max_attempts },
 }
@@ -137,7 +137,7 @@ impl<
         C.CanCall x.call × A.CanAsk x.policy.now.retry_on × B.CanAsk x.policy.now.backoff × ((n : ℕ) → P.HasRoom x.told.pause n)
         × F.IsAlwaysCallable x.limit × O.CanTell x.told.observer };
 
-    // Attempts are numbered from 1; `last` is what pauses and what is told once they are over, before that is told of the end.
+    // Attempts are numbered from 1; `last` is the pause and the observer after the retry, before the observer sees the end.
     ghost IsAnswer = { λ x answer y.
         (tried : Tried T) × (limit : L) × (rest : L) × (last : Telling T P O)
         × (tried.answer ≡ answer) × F.post x.limit limit × (y.policy ≡ x.policy) × (y.limit ≡ x.limit)

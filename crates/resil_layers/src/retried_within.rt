@@ -1,20 +1,22 @@
-//! A retry with an end by the clock around a call, as a call.
+//! A retry with a time limit by the clock around a call, as a call.
 
-ghost use Rattle.std.specs.Prelude.{ℕ, ◌≤◌, ◌≡◌, ◌*◌, IsTrue};
+ghost use Rattle.std.specs.Prelude.{ℕ, ◌≤◌, ◌≡◌, None};
 ghost use Rattle.std.specs.Duration.{as_nanos};
 ghost use Rattle.resil_call.specs.declared.limit.Deadline.{Deadline};
 ghost use Rattle.resil_call.specs.declared.tried.Tried.{Tried};
+ghost use Rattle.resil_call.specs.Limit.{IsInTime};
 ghost use Rattle.resil_call.specs.Retry.{IsRetriedWithin};
 
 use crate::retried_observed::{RetriedObserved, RetryObserver, Telling};
 use resil_call::{
     BackoffFor, Call, Deadline, Pause, RetryPolicy, RetryTest, WaitLimit, retry_within,
 };
+use resil_clock::Reads;
 use std::marker::PhantomData;
-use std::time::{Clock, Duration};
+use std::time::Duration;
 
-/// A call that tries another one again, with no wait that would end later than `longest` after it
-/// began, and answers the last answer. The time begins anew at each call.
+/// A call that retries another one and returns its last answer, with no wait that would end later than `longest` after the call
+/// began. The time starts anew with each call.
 ///
 /// ```
 /// let call = FromFn(|| -> Result<u32, u16> { Err(503) });
@@ -24,20 +26,20 @@ use std::time::{Clock, Duration};
 /// ```
 #[derive(Drop)]
 pub struct RetriedWithin<'a, R, B, A, C, P> {
-    /// How often, after which waits and for which answers.
+    /// The policy: how many attempts, after which waits, and for which answers.
     pub policy: &'a RetryPolicy<B, A>,
-    /// By which clock.
+    /// The clock.
     pub clock: &'a R,
-    /// How long after the begin of a call its waits may end.
+    /// How long after the start of a call its waits may end.
     pub longest: Duration,
-    /// What waits between the attempts.
+    /// The pause between the attempts.
     pub pause: P,
-    /// What is tried again.
+    /// The call that is retried.
     pub call: C,
     ghost attempts: { 1 ≤ policy.now.max_attempts },
 }
 
-impl<'a, R: Clock, B: BackoffFor<C::Output>, A: RetryTest<C::Output>, C: Call, P: Pause> Call
+impl<'a, R: Reads, B: BackoffFor<C::Output>, A: RetryTest<C::Output>, C: Call, P: Pause> Call
     for RetriedWithin<'a, R, B, A, C, P> {
     type Output = C::Output;
 
@@ -46,7 +48,8 @@ impl<'a, R: Clock, B: BackoffFor<C::Output>, A: RetryTest<C::Output>, C: Call, P
     ghost IsAnswer = { λ x answer y.
         (tried : Tried C.Output) × (limit : Deadline R) × (rest : Deadline R)
         × (tried.answer ≡ answer) × (y.policy ≡ x.policy) × (y.longest ≡ x.longest) × (limit.length ≡ x.longest)
-        × IsRetriedWithin C.IsAnswer (A.IsVerdict x.policy.now.retry_on) (B.IsWaitFor x.policy.now.backoff) P.IsPaused (λ (d : Deadline R) milliseconds allowed (e : Deadline R). (e ≡ d) × (IsTrue allowed → milliseconds * 1000000 ≤ as_nanos d.length)) x.policy.now.max_attempts x.call y.call x.pause y.pause limit rest tried };
+        × (limit.clock.now ≡ x.clock.now) × R.HasSaid x.clock.now None limit.start
+        × IsRetriedWithin C.IsAnswer (A.IsVerdict x.policy.now.retry_on) (B.IsWaitFor x.policy.now.backoff) P.IsPaused (λ (d : Deadline R) milliseconds allowed (e : Deadline R). (e ≡ d) × IsInTime (R.HasSaid d.clock.now) (as_nanos d.length) d.start milliseconds allowed) x.policy.now.max_attempts x.call y.call x.pause y.pause limit rest tried };
 
     fn call(&mut self) -> C::Output {
         let mut limit = Deadline::after(self.clock, self.longest);
@@ -54,7 +57,7 @@ impl<'a, R: Clock, B: BackoffFor<C::Output>, A: RetryTest<C::Output>, C: Call, P
     }
 }
 
-/// A retry with an end, put around any call.
+/// A retry with a time limit or with any limit, put around any call.
 ///
 /// ```
 /// let mut chain = FromFn(|| ask(&neighbour))
@@ -63,12 +66,11 @@ impl<'a, R: Clock, B: BackoffFor<C::Output>, A: RetryTest<C::Output>, C: Call, P
 /// let price = chain.call();
 /// ```
 pub trait DecorateWithin: Call + Sized {
-    /// The call tried again by the policy, which has one attempt at least, with these pauses, and with
-    /// no wait that would end later than `longest` after the call began. The time begins anew at each
-    /// call.
+    /// Retries the call by the policy, which has at least one attempt, with these pauses, and with no wait that would end later
+    /// than `longest` after the call began. The time starts anew with each call.
     fn retried_within<
         'a,
-        R: Clock,
+        R: Reads,
         B: BackoffFor<Self::Output>,
         A: RetryTest<Self::Output>,
         P: Pause,
@@ -82,6 +84,7 @@ pub trait DecorateWithin: Call + Sized {
         requires attempts { 1 ≤ policy.now.max_attempts }
         ensures call { result.call ≡ self }
         ensures policy { result.policy.now ≡ policy.now }
+        ensures clock { result.clock.now ≡ clock.now }
         ensures longest { result.longest ≡ longest }
         ensures pause { result.pause ≡ pause }
     {
@@ -94,8 +97,8 @@ pub trait DecorateWithin: Call + Sized {
         }
     }
 
-    /// The same with any limit, which is made anew for each call, and with an observer, which is told of each wait before it, and
-    /// of the end.
+    /// Like `retried_within`, with any limit, which is made anew for each call, and with an observer that sees each wait, before
+    /// it begins, and the end.
     ///
     /// ```
     /// let counts = RetryCounts::new("prices");

@@ -1,4 +1,4 @@
-//! Counts of calls that are tried again.
+//! Counts of calls that are retried.
 
 ghost use Rattle.std.specs.Prelude.{◌≡◌};
 ghost use Rattle.resil_layers.specs.Counting.{one_more};
@@ -9,22 +9,22 @@ use resil_call::{End, Tried};
 use std::sync::atomic::AtomicU64;
 use std::sync::atomic::Ordering::SeqCst;
 
-/// What a call with retries came to (Resilience4j user guide, Micrometer: the label `kind` of `resilience4j_retry_calls`). A
-/// value that isn't to be tried again is a success, and all else a failure.
+/// The outcome of a call with retries (Resilience4j user guide, Micrometer: the label `kind` of `resilience4j_retry_calls`). A
+/// value that isn't to be tried again is a success, and anything else a failure.
 #[derive(Clone, Copy, PartialEq, Eq, Debug)]
 pub enum RetryKind {
     /// A success at the first attempt.
     SuccessfulWithoutRetry,
-    /// A success at a later one.
+    /// A success at a later attempt.
     SuccessfulWithRetry,
-    /// A failure at the one attempt that was made.
+    /// A failure at the only attempt.
     FailedWithoutRetry,
-    /// A failure at a later one.
+    /// A failure at a later attempt.
     FailedWithRetry,
 }
 
 impl RetryKind {
-    /// That of a retry.
+    /// Returns the kind of a retry.
     ///
     /// ```
     /// let tried = retry(&RetryPolicy::defaults(), &mut call, &mut NoPause);
@@ -43,8 +43,8 @@ impl RetryKind {
     }
 }
 
-/// What retries came to, in words that threads add to and anybody reads. No clause speaks of what a word holds. As the observer
-/// of a chain's retries it counts each wait before it, and adds what a retry came to.
+/// The outcomes of retries, in words that threads add to and any thread may read. No clause says what a word holds. As the
+/// observer of a chain's retries it counts each wait before it begins, and adds the outcome at the end.
 ///
 /// ```
 /// let counts = RetryCounts::new("prices");
@@ -66,7 +66,7 @@ pub struct RetryCounts<'a> {
 }
 
 impl<'a> RetryCounts<'a> {
-    /// All at 0, under this name.
+    /// Makes counts that are all 0, under this name.
     pub fn new(name: &'a str) -> RetryCounts<'a>
         ensures { result.name.now ≡ name.now }
     {
@@ -83,14 +83,14 @@ impl<'a> RetryCounts<'a> {
         }
     }
 
-    /// The name.
+    /// Returns the name.
     pub fn name(&self) -> &'a str
         ensures { result.now ≡ self.now.name.now }
     {
         self.name
     }
 
-    // The word of a kind: who adds and who reads ask here.
+    // The word of a kind, to add to or to read.
     fn word(&self, kind: RetryKind) -> &AtomicU64 {
         match kind {
             RetryKind::SuccessfulWithoutRetry => &self.successful_without,
@@ -113,27 +113,27 @@ impl<'a> RetryCounts<'a> {
         ends.fetch_add(1, SeqCst);
     }
 
-    /// How many retries were of this kind.
+    /// Returns how many retries were of this kind.
     pub fn count(&self, kind: RetryKind) -> u64 {
         self.word(kind).load(SeqCst)
     }
 
-    /// How many attempts were made after first ones.
+    /// Returns how many attempts were made after first ones.
     pub fn retried(&self) -> u64 {
         self.retried.load(SeqCst)
     }
 
-    /// How many had no attempt left.
+    /// Returns how many retries had no attempt left.
     pub fn exhausted(&self) -> u64 {
         self.exhausted.load(SeqCst)
     }
 
-    /// How many were ended by their limit.
+    /// Returns how many retries were ended by their limit.
     pub fn out_of_time(&self) -> u64 {
         self.out_of_time.load(SeqCst)
     }
 
-    /// How many waits it was told of, each as it began.
+    /// Returns how many waits it has seen, each counted as it began.
     pub fn waits(&self) -> u64 {
         self.waits.load(SeqCst)
     }
@@ -149,18 +149,18 @@ impl<T, E> RetryObserver<Result<T, E>> for &RetryCounts<'_> {
     }
 }
 
-/// What the retries of one chain came to, in numbers of its own. None passes 2^64 - 1.
+/// The outcomes of the retries of one chain, in numbers of its own. None exceeds 2^64 - 1.
 #[derive(Clone, Copy, Debug, Default)]
 pub struct OwnRetryCounts {
-    /// How many waits it was told of: one before each attempt after a first one.
+    /// How many waits it has seen: one before each attempt after a first one.
     pub waits: u64,
     /// How many retries were a success at the first attempt.
     pub successful_without_retry: u64,
-    /// How many were one at a later attempt.
+    /// How many were a success at a later attempt.
     pub successful_with_retry: u64,
-    /// How many failed at the one attempt that was made.
+    /// How many failed at the only attempt.
     pub failed_without_retry: u64,
-    /// How many failed at a later one.
+    /// How many failed at a later attempt.
     pub failed_with_retry: u64,
     /// How many had no attempt left.
     pub exhausted: u64,

@@ -1,6 +1,6 @@
-//! What an operator's page reads: counts as a text in Prometheus' form.
+//! What an operator's page reads: counts as a text in the Prometheus format.
 //!
-//! Names and labels are Resilience4j's where it has them (user guide, Micrometer); the others begin with `resil_`.
+//! Names and labels are Resilience4j's if it has them (user guide, Micrometer); the others begin with `resil_`.
 
 use crate::call_counts::CallCounts;
 use crate::counting::Counted;
@@ -11,7 +11,7 @@ use std::fmt;
 use std::sync::Arc;
 use std::time::Duration;
 
-// A name as the value of a label: a backslash, a quote and a newline have a backslash before them.
+// A name as the value of a label: a backslash, a quote and a newline are escaped by a backslash.
 #[derive(Drop)]
 struct Label<'a>(&'a str);
 
@@ -39,7 +39,7 @@ impl fmt::Display for Seconds {
     }
 }
 
-// The line that stands before those of a metric, which is a `counter` or a `gauge`.
+// The line before those of a metric, which says that it is a `counter` or a `gauge`.
 fn write_type<W: fmt::Write>(f: &mut fmt::Formatter<W>, metric: &str, kind: &str) -> fmt::Result {
     write!(f, "# TYPE {metric} {kind}\n")
 }
@@ -79,7 +79,7 @@ impl fmt::Display for BulkheadsText<'_> {
     }
 }
 
-/// Counts of calls: how many began, and what they came to.
+/// Counts of calls: how many began, and their outcomes.
 ///
 /// ```
 /// let counts = [CallCounts::new("prices"), CallCounts::new("stock")];
@@ -88,7 +88,7 @@ impl fmt::Display for BulkheadsText<'_> {
 #[derive(Drop)]
 pub struct CallsText<'a>(pub &'a [CallCounts<'a>]);
 
-// What calls come to, as the label says it.
+// The outcomes of calls, in the words of the label.
 const ANSWERS: [(Counted, &str); 3] = [
     (Counted::Value, "value"),
     (Counted::Error, "error"),
@@ -115,7 +115,7 @@ impl fmt::Display for CallsText<'_> {
     }
 }
 
-/// Counts of retries: what they came to, their attempts after first ones, why no more were made, and the waits that were told of.
+/// Counts of retries: their outcomes, their attempts after first ones, why no more were made, and the waits that the observer saw.
 ///
 /// ```
 /// let counts = [RetryCounts::new("prices")];
@@ -124,7 +124,7 @@ impl fmt::Display for CallsText<'_> {
 #[derive(Drop)]
 pub struct RetriesText<'a>(pub &'a [RetryCounts<'a>]);
 
-// The kinds of retries, as Resilience4j's label says them.
+// The kinds of retries, in the words of Resilience4j's label.
 const KINDS: [(RetryKind, &str); 4] = [
     (
         RetryKind::SuccessfulWithoutRetry,

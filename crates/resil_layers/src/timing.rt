@@ -1,4 +1,4 @@
-//! How long calls take, by a clock that is handed in.
+//! How long calls take, by a given clock.
 
 ghost use Rattle.std.specs.Prelude.{◌≡◌};
 
@@ -7,8 +7,8 @@ use std::sync::atomic::Ordering::SeqCst;
 use std::sync::atomic::{AtomicIsize, AtomicU64};
 use std::time::{Clock, Duration};
 
-/// How long calls took, all together and the longest, in words that threads add to and anybody reads: whole microseconds. No
-/// clause speaks of what a word holds.
+/// How long calls took, the sum and the longest, in words that threads add to and any thread may read: whole microseconds.
+/// No clause says what a word holds.
 ///
 /// ```
 /// let times = CallTimes::new("prices");
@@ -27,7 +27,7 @@ fn microseconds(time: Duration) -> isize {
 }
 
 impl<'a> CallTimes<'a> {
-    /// All at 0, under this name.
+    /// Makes times that are all 0, under this name.
     pub fn new(name: &'a str) -> CallTimes<'a>
         ensures { result.name.now ≡ name.now }
     {
@@ -38,7 +38,7 @@ impl<'a> CallTimes<'a> {
         }
     }
 
-    /// The name.
+    /// Returns the name.
     pub fn name(&self) -> &'a str
         ensures { result.now ≡ self.now.name.now }
     {
@@ -53,18 +53,18 @@ impl<'a> CallTimes<'a> {
         self.longest.fetch_max(long, SeqCst);
     }
 
-    /// How long all calls took together.
+    /// Returns how long all calls took together.
     pub fn total(&self) -> Duration {
         Duration::from_micros(self.total.load(SeqCst))
     }
 
-    /// How long the longest took.
+    /// Returns how long the longest took.
     pub fn longest(&self) -> Duration {
         Duration::from_micros(u64::try_from(self.longest.load(SeqCst)).unwrap_or(0))
     }
 }
 
-/// An observer that measures each call. A call at whose begin or end the clock says nothing isn't added.
+/// An observer that measures each call. A call isn't added if the clock can't be read when it begins or ends.
 #[derive(Drop)]
 pub struct Timing<'a, R> {
     times: &'a CallTimes<'a>,
@@ -73,7 +73,7 @@ pub struct Timing<'a, R> {
 }
 
 impl<'a, R: Clock> Timing<'a, R> {
-    /// Adds to these times, by this clock.
+    /// Makes an observer that adds to these times, by this clock.
     pub fn new(times: &'a CallTimes<'a>, clock: &'a R) -> Timing<'a, R> {
         Timing {
             times,

@@ -180,7 +180,7 @@ module _ {K E S : Type 0} {R : K → List E → S → Type 0} {F : Rank → List
   }
 
   -- a seat behind the others that has seen nothing and written nothing
-  newcomer : (from : K) (who : Rank) (number : ℕ) → from ≡ key → F who [] → who ≢ Opener → IsSeat F own key (get_or words 0 0) k.holder k.log (length views) (view_of from who number 0 Idle [] [])
+  newcomer : (from : K) (who : Rank) (number : ℕ) → from ≡ key → F who [] → who ≢ Opener → IsSeat F own key (get_or words 0 0) k.holder k.log (length views) (view_of from who number 0 0 Idle [] [])
   newcomer from who number same fit not =
       let some = place_within views k.seats.longest.index k.seats.longest.seat k.seats.longest.there in record {
         begins = (k.log, refl);
@@ -195,9 +195,9 @@ module _ {K E S : Type 0} {R : K → List E → S → Type 0} {F : Rank → List
       }
 
   -- one that has no number comes in
-  comes : (from : K) (who : Rank) → from ≡ key → F who [] → who ≢ Opener → who ≢ Member → LockInvariant R F own key words homes (views ++ view_of from who 0 0 Idle [] [] ∷ [])
+  comes : (from : K) (who : Rank) → from ≡ key → F who [] → who ≢ Opener → who ≢ Member → LockInvariant R F own key words homes (views ++ view_of from who 0 0 0 Idle [] [] ∷ [])
   comes from who same fit no_opener no_member =
-      let w : View K E = view_of from who 0 0 Idle [] [] in
+      let w : View K E = view_of from who 0 0 0 Idle [] [] in
       let never : IsNumbering F → ⊥ = λ only. ⊎_elim no_opener no_member (only who [] fit) in
       let more = length-append views (w ∷ []) in
       reseated k.count k.gone (views ++ w ∷ []) (log_enters k.seats w (record { seat = newcomer from who 0 same fit no_opener; numbers = λ only. absurd (never only) })) (omega (arith, more))
@@ -297,22 +297,16 @@ module _ {K E S : Type 0} (R : K → List E → S → Type 0) (F : Rank → List
   pub enters-lock : (slots : ℕ) → F Visitor [] → Enters (IsLocked R F own key) slots 0 (λ n w. AfterComing {S = Option S} (step slots 0 0 0 m.none) (first_view key, []) n (w, []))
   enters-lock slots fit s k _ small = (visitor_view (first_view key), comes k key Visitor refl fit (λ e. let no : Visitor ≡ Opener = e in cc) (λ e. let no : Visitor ≡ Member = e in cc), refl)
 
-  pub hires-one : (id : ℕ) (v : View K E) → v.rank ≡ Opener → F Worker [] → Splits (IsLocked R F own key) id v v (worker_view v)
-  hires-one id v opens fit s k at =
-      let seat = (k.seats.each id v at).seat in
-      subst (λ (vs : List (View K E)). LockInvariant R F own key s.words s.homes (vs ++ worker_view v ∷ [])) (sym (set_again s.views id v at))
-      (comes k v.key Worker (seat.keyed ((seat.opener opens).1)) fit (λ e. let no : Worker ≡ Opener = e in cc) (λ e. let no : Worker ≡ Member = e in cc))
-
   -- the opener makes a seat, whose number is its place where all seats have one
-  pub admits-one : (id : ℕ) (v : View K E) → v.rank ≡ Opener → F Member [] → Splits (IsLocked R F own key) id v (made_one v) (member_view v)
-  admits-one id v opens fit s k at =
+  makes-one : (who : Rank) (number id : ℕ) (v : View K E) → v.rank ≡ Opener → who ≢ Opener → F who [] → (IsNumbering F → number ≡ v.made) → Splits (IsLocked R F own key) id v (made_one v) (view_of v.key who number 0 0 Idle [] [])
+  makes-one who number id v opens other fit named s k at =
       let Fits = FitsPlace F own key (get_or s.words 0 0) k.holder (k.count + 1) k.log in
       let old = k.seats.each id v at in
       let o = old.seat in
       let zero : id ≡ 0 = (o.opener opens).0 in
       let there : is_there v.phase ≡ true = (o.opener opens).1 in
       let left = made_one v in
-      let right = member_view v in
+      let right : View K E = view_of v.key who number 0 0 Idle [] [] in
       let changed = set s.views id left in
       let inside = place_within s.views id v at in
       let one : length changed ≡ length s.views = length-set s.views id left in
@@ -322,9 +316,9 @@ module _ {K E S : Type 0} (R : K → List E → S → Type 0) (F : Rank → List
         numbers = λ only. let a = old.numbers only in record { numbered = a.numbered; counted = λ z. ap (λ (c : ℕ). c + 1) (a.counted z); all_own = a.all_own };
       } in
       let new : Fits (length s.views) right = record {
-        seat = newcomer k v.key Member v.made (o.keyed there) fit (λ e. let no : Member ≡ Opener = e in cc);
+        seat = newcomer k v.key who number (o.keyed there) fit other;
         numbers = λ only. let c = k.counted only in record {
-          numbered = λ _. (old.numbers only).counted zero ∙ c.0;
+          numbered = λ _. named only ∙ ((old.numbers only).counted zero ∙ c.0);
           counted = λ none. absurd (omega (arith, none, inside));
           all_own = λ _. sym (c.1 (length s.views) (omega arith));
         };
@@ -339,6 +333,15 @@ module _ {K E S : Type 0} (R : K → List E → S → Type 0) (F : Rank → List
       let c = k.wrote weight in
       omega (arith, a, b, c))
       k.gone_fits (λ only. let c = k.counted only in let count = c.0 in (omega (arith, count, one, more), λ j le. c.1 j (omega (arith, le, one, more))))
+
+  pub admits-one : (id : ℕ) (v : View K E) → v.rank ≡ Opener → F Member [] → Splits (IsLocked R F own key) id v (made_one v) (member_view v)
+  admits-one id v opens fit = makes-one Member v.made id v opens (λ e. let no : Member ≡ Opener = e in cc) fit (λ _. refl)
+
+  -- a worker's seat has no number, so there is none where all seats have one
+  pub hires-one : (id : ℕ) (v : View K E) → v.rank ≡ Opener → F Worker [] → Splits (IsLocked R F own key) id v (made_one v) (worker_view v)
+  hires-one id v opens fit =
+      makes-one Worker 0 id v opens (λ e. let no : Worker ≡ Opener = e in cc) fit
+      (λ only. absurd (⊎_elim (λ e. let no : Worker ≡ Opener = e in cc) (λ e. let no : Worker ≡ Member = e in cc) (only Worker [] fit)))
 
   -- the holder joins a member's seat away, which is between two turns
   pub joins-one : (spent : K) (id : ℕ) (v : View K E) (other : ℕ) (u : View K E) → v.phase ≡ Holding → u.phase ≡ Idle → u.rank ≡ Member → Joins (IsLocked R F own key) id v other u (joining_view v u) (joined_view spent)
@@ -445,5 +448,5 @@ pub told-of-joined : {K E S : Type 0} (F : Rank → List E → Type 0) (own : �
     → AfterJoin F own how mid found new → (new ≡ old) × HasAllOf F own u.number u.seen old.0.seen
 told-of-joined {K} {E} {S} F own how found old mid new u holds is told =
     let t : AfterJoin F own how (joining_view old.0 u, old.1) found new = subst (λ (me : Me (Option S) (View K E)). AfterJoin F own how me found new) is told in
-    let back : holder_view old.0 old.0.seen ≡ old.0 = ap (λ (p : Phase E). view_of old.0.key old.0.rank old.0.number old.0.made p old.0.seen old.0.own) (sym holds) in
+    let back : holder_view old.0 old.0.seen ≡ old.0 = ap (λ (p : Phase E). view_of old.0.key old.0.rank old.0.number old.0.made old.0.turns p old.0.seen old.0.own) (sym holds) in
     (λ i. ((t.view ∙ back) i, t.slot i), t.joined)

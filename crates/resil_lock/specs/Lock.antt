@@ -54,46 +54,43 @@ module _ {E : Type 0} where
   HasAllOfJoined MayWrite is_own Joined seen = Unit {0}
 
 module _ {K E : Type 0} where
-  abbrev pub view_of : K → Rank → ℕ → ℕ → Phase E → List E → List E → View K E
-  view_of key who number made phase seen own = record { key = key; rank = who; number = number; made = made; phase = phase; seen = seen; own = own }
+  abbrev pub view_of : K → Rank → ℕ → ℕ → ℕ → Phase E → List E → List E → View K E
+  view_of key who number made turns phase seen own = record { key = key; rank = who; number = number; made = made; turns = turns; phase = phase; seen = seen; own = own }
 
   -- the opener's seat, when the lock is made
   abbrev pub first_view : K → View K E
-  first_view key = view_of key rank.Opener 0 1 Idle [] []
+  first_view key = view_of key rank.Opener 0 1 0 Idle [] []
 
   -- a seat that has seen nothing and written nothing, of the same lock
   abbrev pub visitor_view : View K E → View K E
-  visitor_view v = view_of v.key rank.Visitor 0 0 Idle [] []
+  visitor_view v = view_of v.key rank.Visitor 0 0 0 Idle [] []
 
   abbrev pub worker_view : View K E → View K E
-  worker_view v = view_of v.key rank.Worker 0 0 Idle [] []
+  worker_view v = view_of v.key rank.Worker 0 0 0 Idle [] []
 
   -- a seat with a number: how many there were
   abbrev pub member_view : View K E → View K E
-  member_view v = view_of v.key rank.Member v.made 0 Idle [] []
+  member_view v = view_of v.key rank.Member v.made 0 0 Idle [] []
 
-  abbrev pub unchanged : View K E → View K E
-  unchanged v = v
-
-  -- the opener, which has made one more seat with a number
+  -- the opener, which has made one more seat
   abbrev pub made_one : View K E → View K E
-  made_one v = view_of v.key v.rank v.number (v.made + 1) v.phase v.seen v.own
+  made_one v = view_of v.key v.rank v.number (v.made + 1) v.turns v.phase v.seen v.own
 
   -- a seat that has taken the lock, and has seen this
   abbrev pub holder_view : View K E → List E → View K E
-  holder_view v seen = view_of v.key v.rank v.number v.made Holding seen v.own
+  holder_view v seen = view_of v.key v.rank v.number v.made v.turns Holding seen v.own
 
-  -- a seat that has released the lock, and whose turn wrote this
+  -- a seat that has released the lock, and whose turn wrote this: it has had one turn more
   abbrev pub left_view : View K E → List E → View K E
-  left_view v new = view_of v.key v.rank v.number v.made Idle (v.seen ++ new) (v.own ++ new)
+  left_view v new = view_of v.key v.rank v.number v.made (v.turns + 1) Idle (v.seen ++ new) (v.own ++ new)
 
   -- a holder that joins another seat away
   abbrev pub joining_view : View K E → View K E → View K E
-  joining_view v u = view_of v.key v.rank v.number v.made (Joining u.number u.seen) v.seen v.own
+  joining_view v u = view_of v.key v.rank v.number v.made v.turns (Joining u.number u.seen) v.seen v.own
 
   -- what a seat that was joined away leaves
   abbrev pub joined_view : K → View K E
-  joined_view key = view_of key rank.Member 0 0 Joined [] []
+  joined_view key = view_of key rank.Member 0 0 0 Joined [] []
 
   -- a number of each seat, added up
   abbrev pub total : (View K E → ℕ) → List (View K E) → ℕ

@@ -85,12 +85,12 @@ impl<S: Guarded> Lock<S> {
         self.table.shared.load_new_seat::<ComeIn>(0).1
     }
 
-    /// A worker's seat, which the opener's makes. It has seen nothing.
+    /// A worker's seat, which the opener's makes and counts. It has seen nothing.
     pub fn hire(&self, opener: &mut LockSeat<S, S::Key, S::Entry>) -> LockSeat<S, S::Key, S::Entry>
         requires source { opener.old.table_id ≡ self.now.table.shared.table_id }
         requires rank { opener.old.me.0.rank ≡ rank.Opener }
         requires blank { S.MayHaveWritten rank.Worker [] }
-        ensures opener { (opener.new.table_id ≡ opener.old.table_id) × (opener.new.me ≡ opener.old.me) }
+        ensures opener { (opener.new.table_id ≡ opener.old.table_id) × (opener.new.me ≡ (made_one opener.old.me.0, opener.old.me.1)) }
         ensures source { result.table_id ≡ self.now.table.shared.table_id }
         ensures me { result.me ≡ (worker_view opener.old.me.0, []) }
     {

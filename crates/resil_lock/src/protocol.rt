@@ -76,8 +76,10 @@ pub struct View<K, E> {
     pub rank: Rank,
     /// Its number, and 0 where it has none.
     pub number: u64,
-    /// Of the opener how many seats have numbers, with its own.
+    /// Of the opener how many seats it has made, with its own.
     pub made: u64,
+    /// How many turns it had. A release alone counts one.
+    pub turns: u64,
     /// Where it stands.
     pub phase: Phase<E>,
     /// The log as far as it has seen it.
@@ -140,9 +142,9 @@ impl<S, K, E> Play<S, View<K, E>> for ComeIn {
 pub struct Hire;
 
 impl<K, E> Split<View<K, E>> for Hire {
-    ghost use Rattle.resil_lock.specs.Lock.{unchanged, worker_view};
+    ghost use Rattle.resil_lock.specs.Lock.{made_one, worker_view};
 
-    ghost left = { unchanged };
+    ghost left = { made_one };
 
     ghost right = { worker_view };
 }

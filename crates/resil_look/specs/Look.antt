@@ -45,7 +45,7 @@ IsRequestText (Simulate shown) = text_of shown
 
 abbrev pub IsRequestRefusal : Request → List ℕ → Refusal → Type 0
 IsRequestRefusal (request.View view) = IsViewRefusal view
-IsRequestRefusal (Simulate shown) = IsSimulateRefusal
+IsRequestRefusal (Simulate shown) = IsSimulateRefusal shown
 
 -- an output of what is requested for an input
 abbrev pub IsRequestOutput : Request → List ℕ → Output → Type 0

@@ -1,7 +1,7 @@
-//! The program over any reader and writer: the words, all input, all output.
+//! The program over any reader and writer: its arguments, all input, all output.
 //!
-//! All input is read before anything is answered, and an answer is made whole before its first byte is
-//! written.
+//! It reads all input before it answers anything, and makes an answer whole before it writes its first
+//! byte.
 
 ghost use Rattle.std.specs.Prelude.{◌≡◌, ◌≤◌, ◌⊎◌, ◌||◌, ◌+◌, ℕ, List, Option, true, false, None, Some, map, is_err, IfOk, MatchResult};
 ghost use Rattle.resil_heads.specs.CommandError.{IsError};
@@ -15,7 +15,7 @@ use resil_heads::length::is_too_long;
 use resil_heads::{CommandError, made_output, too_long_output};
 use resil_input::io::{Input, InputReader, OutputWriter, ReadError, read_up_to};
 use resil_input::output::{Output, write_output};
-use resil_simulate::command::{self, LoadView};
+use resil_simulate::command::{self, LoadView, Progress};
 use resil_view::{View, view_text};
 use std::alloc::Global;
 
@@ -25,16 +25,16 @@ const MAX_HISTORY_LEN: usize = 16_777_216;
 /// The greatest length of a load, in bytes: 4 mebibytes.
 const MAX_LOAD_LEN: usize = 4_194_304;
 
-/// What the words request.
+/// What the arguments request.
 #[derive(Clone, Copy, Debug, PartialEq, Eq)]
 pub(crate) enum Request {
     /// A view of a history.
     View(View),
-    /// What a load comes to.
+    /// The outcome of a load.
     Simulate(LoadView),
 }
 
-/// What the words request, of which the first is the program's name.
+/// What the arguments request. The first of them is the program's name.
 pub(crate) fn requested(words: &[&str]) -> Option<Request>
     ensures { result ≡ requested (map (λ word. word.now) words.now) }
 {
@@ -73,7 +73,7 @@ pub(crate) fn view_named(word: &str) -> Option<View>
     }
 }
 
-/// The greatest length of an input of what is requested, in bytes.
+/// The greatest length of an input for this request, in bytes.
 pub(crate) fn limit_of(request: Request) -> usize
     ensures { result ≡ limit_of request }
 {
@@ -83,43 +83,54 @@ pub(crate) fn limit_of(request: Request) -> usize
     }
 }
 
-// The text of what is requested of an input. Errors: as those of a view, or of `simulate`.
-fn request_text(alloc: Global, request: Request, input: &[u8]) -> Result<Vec<u8>, CommandError>
+// The text that answers a request about an input. Errors: those of a view, or of `simulate`.
+fn request_text<P: Progress>(
+    alloc: Global,
+    request: Request,
+    input: &[u8],
+    told: &mut P,
+) -> Result<Vec<u8>, CommandError>
     ensures { MatchResult result (λ text. IsRequestText request input.now text.items) (IsError (IsRequestRefusal request input.now)) }
 {
     match request {
         Request::View(view) => view_text(alloc, view, input),
-        Request::Simulate(shown) => command::text(alloc, shown, input),
+        Request::Simulate(shown) => command::text(alloc, shown, input, told),
     }
 }
 
-// The output of what is requested for an input. One that is too long, or whose head is, is refused first.
+// The output that answers a request about an input. An input that is too long, or whose head is, is refused first.
 #[tactic(auto, using(resil_heads::proofs::OutputLaws::error_answers, resil_heads::proofs::OutputLaws::too_long_answers))]
-fn whole_output(alloc: Global, request: Request, input: &[u8]) -> Output
+fn whole_output<P: Progress>(alloc: Global, request: Request, input: &[u8], told: &mut P) -> Output
     ensures { IsRequestOutput request input.now result }
 {
     if is_too_long(limit_of(request), input) {
         return too_long_output(alloc);
     }
-    made_output(alloc, request_text(alloc, request, input))
+    made_output(alloc, request_text(alloc, request, input, told))
 }
 
-// The output of what is requested for what was read of an input.
+// The output that answers a request about what was read of an input.
 #[tactic(auto, using(resil_heads::proofs::OutputLaws::longer_than, resil_heads::proofs::OutputLaws::too_long_answers))]
-fn request_output(alloc: Global, request: Request, input: &Input) -> Output
+fn request_output<P: Progress>(
+    alloc: Global,
+    request: Request,
+    input: &Input,
+    told: &mut P,
+) -> Output
     ensures { (bytes : List ℕ) → IsInputUpTo (limit_of request) bytes input.now → IsRequestOutput request bytes result }
 {
     match input {
         Input::TooLong => too_long_output(alloc),
-        Input::Whole(bytes) => whole_output(alloc, request, bytes),
+        Input::Whole(bytes) => whole_output(alloc, request, bytes, told),
     }
 }
 
-// The output of what is requested for what a reader gives. Errors: a read failed.
-fn read_output<R: InputReader>(
+// The output that answers a request about what a reader reads. Errors: a read failed.
+fn read_output<R: InputReader, P: Progress>(
     alloc: Global,
     request: Request,
     reader: &mut R,
+    told: &mut P,
 ) -> Result<Output, ReadError>
     ensures output { IfOk result (IsLooked (Some request) (R.remaining reader.old)) }
     ensures taken { ConsumesAtMost (most_read (Some request)) (R.remaining reader.old) (R.remaining reader.new) }
@@ -127,7 +138,7 @@ fn read_output<R: InputReader>(
 {
     match read_up_to(alloc, reader, limit_of(request)) {
         Ok(input) => {
-            let output = request_output(alloc, request, &input);
+            let output = request_output(alloc, request, &input, told);
             if let Input::Whole(bytes) = input {
                 reader.take_back(bytes);
             }
@@ -138,11 +149,12 @@ fn read_output<R: InputReader>(
     }
 }
 
-// The output for the words and for what a reader gives. Errors: a read failed.
-fn output_for<R: InputReader>(
+// The output for the arguments and for what a reader reads. Errors: a read failed.
+fn output_for<R: InputReader, P: Progress>(
     alloc: Global,
     words: &[&str],
     reader: &mut R,
+    told: &mut P,
 ) -> Result<Output, ReadError>
     ensures output { IfOk result (IsLooked (requested (map (λ word. word.now) words.now)) (R.remaining reader.old)) }
     ensures taken { ConsumesAtMost (most_read (requested (map (λ word. word.now) words.now))) (R.remaining reader.old) (R.remaining reader.new) }
@@ -150,18 +162,19 @@ fn output_for<R: InputReader>(
     ensures unread { requested (map (λ word. word.now) words.now) ≡ None → reader.new ≡ reader.old }
 {
     match requested(words) {
-        Some(request) => read_output(alloc, request, reader),
+        Some(request) => read_output(alloc, request, reader, told),
         None => Ok(Output::Usage),
     }
 }
 
-/// The whole program: the words (the program's name first), all input, all output. The number is that
-/// of a `Status` of `resil_input`.
-pub(crate) fn look<R: InputReader, W: OutputWriter>(
+/// The whole program: the arguments (the program's name first), all input, all output. The number is that
+/// of a `Status` of `resil_input`. `simulate` reports its progress after each pool.
+pub(crate) fn look<R: InputReader, W: OutputWriter, P: Progress>(
     alloc: Global,
     words: &[&str],
     reader: &mut R,
     writer: &mut W,
+    told: &mut P,
 ) -> u8
     ensures looks { ((result ≡ 4) × (R.has_failed reader.new ≡ true) × (writer.new ≡ writer.old))
         ⊎ ((out : Output) × (s : Status) × IsLooked (requested (map (λ word. word.now) words.now)) (R.remaining reader.old) out
@@ -171,7 +184,7 @@ pub(crate) fn look<R: InputReader, W: OutputWriter>(
     ensures taken { ConsumesAtMost (most_read (requested (map (λ word. word.now) words.now))) (R.remaining reader.old) (R.remaining reader.new) }
     ensures unread { requested (map (λ word. word.now) words.now) ≡ None → reader.new ≡ reader.old }
 {
-    match output_for(alloc, words, reader) {
+    match output_for(alloc, words, reader, told) {
         Ok(output) => write_output(writer, &output).code(),
         Err(_) => 4,
     }

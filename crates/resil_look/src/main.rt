@@ -1,20 +1,28 @@
-//! The program `resil_look`: what a history comes to: a verdict, numbers, and a picture; and what
-//! a load comes to.
+//! The program `resil_look`: the verdict, the numbers and the chart of a history, and the outcome of a
+//! load.
 //!
-//! It hands its words, its standard input and its standard output to `look`.
+//! It passes its arguments, its standard input and its standard output to `look`.
 #![tactic(auto)]
 
 mod look;
+mod pool_progress;
 mod said;
 
+use pool_progress::PoolProgress;
 use resil_explain::start;
 use std::process::ExitCode;
-use std::rt::Env;
+use std::rt::{Clock, Env};
 
-fn run<R: Env + Input + Print + Eprint + AllocGlobal>(rt: &R) -> u8 {
+fn run<R: Env + Input + Print + Eprint + AllocGlobal + Clock>(rt: &R) -> u8 {
     start!(
         rt,
-        |words, reader, writer| look::look(rt.alloc(), words, reader, writer),
+        |words, reader, writer| look::look(
+            rt.alloc(),
+            words,
+            reader,
+            writer,
+            &mut PoolProgress::new(rt)
+        ),
         said::explain_look
     )
 }

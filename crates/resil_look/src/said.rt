@@ -1,25 +1,19 @@
-//! What is said on standard error of the words of `resil_look`, and of an output by what its words request.
+//! What `resil_look` reports on standard error of its arguments, and of an output by what they request.
 
 use crate::look::{Request, limit_of, requested, view_named};
 use resil_explain::{explain_input, say_commands, say_words};
 use resil_input::io::MAX_INPUT_LEN;
 
-// Says on standard error which of the words is refused, where they are.
+// Reports on standard error which argument is refused.
 fn explain_words<R: Eprint>(rt: &R, words: &[&str]) {
     let (place, allowed) = match words.get(1) {
         Some(word) if *word == "simulate" => {
             let has_history = words.get(2).is_some_and(|word| *word == "--history");
             let place = if has_history { 3 } else { 2 };
-            (
-                place,
-                "the command simulate takes --history, and no more words",
-            )
+            (place, "simulate takes --history and no other argument")
         }
         Some(word) if view_named(word).is_some() => {
-            (
-                2,
-                "the commands judge, stats and timeline take no more words",
-            )
+            (2, "judge, stats and timeline take no arguments")
         }
         word => {
             let commands = "the commands are judge, stats, timeline and simulate";
@@ -29,17 +23,17 @@ fn explain_words<R: Eprint>(rt: &R, words: &[&str]) {
     say_words(rt, words.get(place), allowed);
 }
 
-// Says on standard error how long an input of what is requested may be.
+// Reports on standard error how long an input for this request may be.
 fn explain_length<R: Eprint>(rt: &R, request: Request) {
     let limit = limit_of(request);
     let head = MAX_INPUT_LEN;
     drop(eprintln!(rt;
-        "resil: an input has at most {limit} bytes, and its head with the line `---` at most {head}"
+        "resil: an input may have at most {limit} bytes, and its head with the `---` line at most {head}"
     ));
 }
 
-/// Says on standard error what the status and the first line of an output of `resil_look` mean for its words and its input, where it
-/// refuses something.
+/// Explains on standard error what the status and the first line of an output of `resil_look` mean for its arguments and its input, if
+/// it refuses something.
 pub(crate) fn explain_look<R: Eprint + AllocGlobal>(
     rt: &R,
     words: &[&str],

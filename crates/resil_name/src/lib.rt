@@ -1,17 +1,17 @@
-//! Names: which texts may name a thing that callers look up.
+//! Names: which strings may name a thing that callers look up.
 //!
 //! A name is short and has no space, quote, comma or newline, so it can be written into a list, a
-//! table or a message as it is. Two names are equal only where their bytes are.
+//! table or a message as it is. Two names are equal only if their bytes are.
 #![tactic(auto)]
 
 ghost use Rattle.std.specs.Prelude.{◌≡◌, ◌↔◌, IsTrue};
 ghost use Rattle.std.specs.List.{AllPass};
 ghost use Rattle.resil_name.specs.Name.{is_name_byte, IsName};
 
-/// The greatest length of a name, in bytes. The limit is this library's own.
+/// The maximum length of a name, in bytes. The limit is this library's own.
 pub const MAX_NAME_LEN: usize = 64;
 
-/// Whether the text is a name: 1 to 64 bytes of ASCII letters, digits, `-`, `_` and `.`.
+/// Returns whether the string is a name: 1 to 64 bytes of ASCII letters, digits, `-`, `_` and `.`.
 ///
 /// ```
 /// assert!(rt; is_name("prices-2"));

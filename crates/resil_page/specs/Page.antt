@@ -43,7 +43,7 @@ abbrev pub IsCommandRefusal : Command → List ℕ → Refusal → Type 0
 IsCommandRefusal Replay = IsReplayRefusal
 IsCommandRefusal Audit = IsAuditRefusal
 IsCommandRefusal (View view) = IsViewRefusal view
-IsCommandRefusal (Simulate shown) = IsSimulateRefusal
+IsCommandRefusal (Simulate shown) = IsSimulateRefusal shown
 IsCommandRefusal (Head whose) = IsHeadRefusal whose
 
 -- an output of a command for an input

@@ -10,7 +10,7 @@ use resil_heads::{CommandError, made_output, too_long_output};
 use resil_input::io::MAX_INPUT_LEN;
 use resil_input::output::Output;
 use resil_replay::{audit, replay};
-use resil_simulate::command::{self, LoadView};
+use resil_simulate::command::{self, LoadView, Untold};
 use resil_view::{View, view_text};
 use std::alloc::Global;
 
@@ -55,7 +55,7 @@ fn command_text(alloc: Global, command: Command, input: &[u8]) -> Result<Vec<u8>
         Command::Replay => replay::text(alloc, input),
         Command::Audit => audit::text(alloc, input),
         Command::View(view) => view_text(alloc, view, input),
-        Command::Simulate(shown) => command::text(alloc, shown, input),
+        Command::Simulate(shown) => command::text(alloc, shown, input, &mut Untold),
         Command::Head(whose) => head_text(alloc, whose, input),
     }
 }

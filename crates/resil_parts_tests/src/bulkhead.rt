@@ -8,8 +8,8 @@ use resil_call::Call;
 use resil_retry::{Callee, Outcome};
 use std::sync::Wait;
 
-const ERRORS: &str = "a name is 1 to 64 ASCII letters, digits, '-', '_' and '.'
-a bulkhead lets at most 65535 calls in at once
+const ERRORS: &str = "a name must be 1 to 64 bytes of ASCII letters, digits, `-`, `_` and `.`
+a bulkhead permits at most 65535 concurrent calls
 out of memory";
 
 #[test]
@@ -22,7 +22,7 @@ fn error_texts(rt: HostRuntime) {
     assert_all_shown(&rt, rt.alloc(), &errors, ERRORS);
 }
 
-// A function that sees, while it is called, how many permits of its bulkhead are free.
+// A function that reads, while it is called, how many permits of its bulkhead are free.
 #[derive(Drop)]
 struct Observer<'a> {
     bulkhead: &'a Bulkhead,
@@ -54,7 +54,7 @@ impl Callee for Observer<'_> {
     ghost answers = { λ _ _ _ made. (made, refl) };
 }
 
-// What a call of an observer gives, and how many permits are free while it is called.
+// The outcome of a call of an observer, and how many permits are free while it is called.
 fn observed(rt: &impl Wait, bulkhead: &Bulkhead) -> (Outcome, Option<u32>) {
     let mut observer = Observer {
         bulkhead,
@@ -64,7 +64,7 @@ fn observed(rt: &impl Wait, bulkhead: &Bulkhead) -> (Outcome, Option<u32>) {
     (outcome, observer.free)
 }
 
-// The same by one try.
+// The same with one try.
 fn observed_once(bulkhead: &Bulkhead) -> (Option<Outcome>, Option<u32>) {
     let mut observer = Observer {
         bulkhead,
@@ -74,7 +74,7 @@ fn observed_once(bulkhead: &Bulkhead) -> (Option<Outcome>, Option<u32>) {
     (outcome, observer.free)
 }
 
-// Nothing is held behind the calls.
+// Nothing is held after the calls.
 #[test]
 fn held_while_called(rt: HostRuntime) {
     let (two, _pass) = bulkhead(&rt, rt.alloc(), 2);

@@ -1,4 +1,4 @@
-//! The retry of any call: that a wait comes between two attempts, and that the clock's waits are slept.
+//! The retry of any call: a wait comes between two attempts, and the clock's waits are slept.
 
 use crate::shared::Digits;
 use resil_call::{Call, EveryError, Pause, RetryPolicy, SameWait, Sleep, retry};

@@ -11,7 +11,7 @@ use std::alloc::Global;
 use std::process::Abort;
 use std::sync::Wait;
 
-// What a job comes to by these bulkheads.
+// The run of a job under these bulkheads.
 fn run_inside(rt: &impl Wait, job: Job, bulkheads: &[Bulkhead], pass: Vec<Pass>) -> Run
     requires { sources_of pass.items ≡ map (λ b. b.permits) bulkheads.now }
 {
@@ -25,7 +25,7 @@ fn asking_twice(rt: &impl Abort, alloc: Global) -> Job {
     job_of(alloc, plan).expect(rt, "a job")
 }
 
-// The inner bulkhead is asked while a permit of the outer one is held, which is the same.
+// The inner layer asks for a permit while the outer one holds one of the same bulkhead.
 #[test]
 fn same_bulkhead_twice(rt: HostRuntime) {
     let (bulkhead, pass) = Bulkhead::new(rt.alloc(), "db", 1).expect(&rt, "a bulkhead");

@@ -1,9 +1,8 @@
-//! Calls that take memory, when out of memory.
+//! Calls that allocate, when out of memory.
 //!
-//! `tools/refuse_in_tests` runs each of these tests with one growth refused, for every growth, and
-//! with all from one growth on. A call that answers that memory ran out has changed nothing, and gives
-//! back what it was handed. Made once more, it answers what it answers with ample memory: that too is
-//! what these tests see where no growth is refused.
+//! `tools/refuse_in_tests` runs each of these tests with one growth refused, for every growth, and with all refused from one
+//! growth on. A call that reports out of memory has changed nothing, and returns what it got. Called once more, it returns what
+//! it returns with ample memory: these tests check that too when no growth is refused.
 
 ghost use Rattle.std.specs.Prelude.{◌≡◌, map};
 ghost use Rattle.resil_decor.specs.Passes.{sources_of};
@@ -20,7 +19,7 @@ use std::process::Abort;
 use std::sync::Wait;
 use std::test::Fail;
 
-// What a call answers, which is made once more where memory ran out.
+// The result of a call, which is made once more if it was out of memory.
 macro_rules! at_last {
     ($call:expr, $memory:pat) => {
         match $call {
@@ -40,7 +39,7 @@ fn are_made(alloc: Global, script: &Script, config: &RetryConfig) -> Result<bool
     Ok(is_script && is_config && room == 999)
 }
 
-// The same of a configuration whose test names these kinds.
+// The same for a configuration with a test that names these kinds.
 fn makes_retry(alloc: Global, named: &[Kind]) -> Result<bool, RetryError> {
     let script = script(alloc, &[Outcome::Error(Kind::Code(1)), V7])?;
     let config = config(alloc, 3, named, &[Kind::Code(2)])?;
@@ -56,7 +55,7 @@ fn refused_growth_of_a_retry(rt: HostRuntime) -> Result<(), Fail> {
     Ok(())
 }
 
-// A plan whose call gives 7 inside a bulkhead, under a retry under a fallback.
+// A plan with a call that returns 7, inside a bulkhead, under a retry, under a fallback.
 fn plan(alloc: Global) -> Result<Plan, DecorError> {
     let layers = [
         Sketch::Bulkhead(0),
@@ -103,7 +102,7 @@ fn refused_growth_of_permits(rt: HostRuntime) -> Result<(), Fail> {
     Ok(())
 }
 
-// A job of this plan, which is given back where memory ran out, and then made once more.
+// A job of this plan. If it was out of memory, the plan came back, and the job is made once more.
 fn job_at_last(rt: &impl Abort, alloc: Global, plan: Plan, same: &Plan) -> Result<Job, DecorError> {
     match Job::new(alloc, plan) {
         Err((DecorError::Memory, back)) => {
@@ -122,7 +121,7 @@ fn is_run(run: &Run, value: i64, calls: u32) -> bool {
         && run.asked().len() == 3
 }
 
-// Whether a second job with its plan has that plan, and its run shows what a permitter grants at last, which says no twice.
+// Whether a second job with its plan has that plan, and its run shows what a permitter that says no twice grants at last.
 fn is_job(alloc: Global, job: &Job, same: &Plan) -> Result<bool, DecorError> {
     let mut permitter = at_last!(listed(alloc, &[false, false, true]), DecorError::Memory)?;
     let plan = job.shared_plan()?;
@@ -130,7 +129,7 @@ fn is_job(alloc: Global, job: &Job, same: &Plan) -> Result<bool, DecorError> {
     Ok(second.plan().same(same) && is_run(&second.run(&mut permitter), 7, 1))
 }
 
-// The same of a job that is made of a copy of a plan.
+// The same for a job made of a copy of a plan.
 fn makes_job(rt: &impl Abort, alloc: Global, same: &Plan) -> Result<bool, DecorError> {
     let copy = at_last!(same.copy(alloc), DecorError::Memory)?;
     let job = job_at_last(rt, alloc, copy, same)?;
@@ -154,7 +153,7 @@ fn has_one<P: Permitter>(permitter: &mut P) -> bool {
     is_alone
 }
 
-// Splits passes, once more where memory ran out. The refused split took nothing.
+// Splits passes, once more if it was out of memory. The refused split took nothing.
 fn split_at_last<'a, R: Wait + Abort>(
     rt: &R,
     alloc: Global,
@@ -169,7 +168,7 @@ fn split_at_last<'a, R: Wait + Abort>(
     }
 }
 
-// Whether two callers, who share the passes of two bulkheads, get a permit of each, of which the first has no other.
+// Whether two callers that share the passes of two bulkheads get a permit of each. The first bulkhead has no other permit.
 fn share_at_last<R: Wait + Abort>(
     rt: &R,
     alloc: Global,
@@ -207,7 +206,7 @@ fn submission(number: u64, reply: Reply) -> Event {
     }
 }
 
-// The last event is illegal where one job may wait.
+// The last event is illegal if one job may wait.
 #[test]
 fn refused_growth_of_an_audit(rt: HostRuntime) -> Result<(), Fail> {
     let history = [
@@ -221,8 +220,7 @@ fn refused_growth_of_an_audit(rt: HostRuntime) -> Result<(), Fail> {
     Ok(())
 }
 
-// The reply to a submission, which is made once more where memory ran out. The refused one wrote no
-// event and gave the job back.
+// The reply to a submission, which is made once more if it was out of memory. The refused one wrote no event and returned the job.
 fn reply_at_last(
     rt: &impl Abort,
     alloc: Global,
@@ -239,7 +237,7 @@ fn reply_at_last(
     }
 }
 
-// Submits a job of a copy of a plan, where there is memory for it. The reply is that of the last event.
+// Submits a job of a copy of a plan, if there is memory for it. The reply is that of the last event.
 fn submit_at_last(
     rt: &impl Abort,
     alloc: Global,
@@ -254,7 +252,7 @@ fn submit_at_last(
     Ok(())
 }
 
-// Resizes a machine, once more where memory ran out. The refused one wrote no event, and the other one.
+// Resizes a machine, once more if it was out of memory. The refused resize wrote no event, and the other one did.
 fn resize_at_last(rt: &impl Abort, machine: &mut Machine) -> Result<(), AdmitError> {
     let count = machine.history().len();
     at_last!(machine.resize(1, 1), AdmitError::Memory)?;
@@ -268,7 +266,7 @@ fn finish(rt: &impl Wait, alloc: Global, machine: &mut Machine, (id, job): (Id, 
     machine.finish(id, run).is_ok()
 }
 
-// Picks, runs and finishes as many jobs, one after the other. Whether there were this many.
+// Picks, runs and finishes this many jobs, one after the other. Returns whether there were this many.
 fn run_many(rt: &impl Wait, alloc: Global, machine: &mut Machine, count: u32) -> bool {
     for _ in 0..count {
         let Some(picked) = machine.pick() else {
@@ -296,7 +294,7 @@ fn run_last(rt: &impl Wait, alloc: Global, machine: &mut Machine, others: u32) -
 enum Calls {
     // Submits jobs of one plan with the numbers from the first to the second.
     Submit(u64, u64),
-    // So many resizes to 1 and 1.
+    // This many resizes to 1 and 1.
     Resize(u32),
     Close,
     // Picks, runs and finishes this many jobs, one after the other.
@@ -306,7 +304,7 @@ enum Calls {
     IdleEnd,
 }
 
-// Makes these calls. All but submissions and resizes take no memory, and have their effect.
+// Makes these calls. Those other than submissions and resizes don't allocate, and have their effect.
 fn make(
     rt: &(impl Wait + Abort),
     alloc: Global,
@@ -336,7 +334,7 @@ fn make(
     Ok(())
 }
 
-// The history and the results of a new machine of these limits after these calls, with jobs of a plan that was made, if it was.
+// The history and the results of a new machine of these limits after these calls, with jobs of a plan, if that could be made.
 fn parts_after(
     rt: &(impl Wait + Abort),
     alloc: Global,
@@ -352,7 +350,7 @@ fn parts_after(
     Ok(answer(machine.into_parts())?)
 }
 
-// Four submissions, of which the last is refused, and resizes.
+// Four submissions, the last of which is refused, and resizes.
 #[test]
 fn refused_growth_of_a_submission(rt: HostRuntime) -> Result<(), Fail> {
     let calls = [
@@ -406,8 +404,7 @@ fn are_two_nines(rows: &[Row]) -> bool {
     rows.len() == 2
 }
 
-// After the last submission no call takes memory. Where all of it is refused from there on, the last
-// line of the test is the first that meets it.
+// After the last submission no call allocates. If all memory is refused from there on, the last line of the test is the first that notices.
 #[test]
 fn refused_growth_none_after_acceptance(rt: HostRuntime) -> Result<(), Fail> {
     let calls = [
@@ -433,7 +430,7 @@ fn refused_growth_none_after_acceptance(rt: HostRuntime) -> Result<(), Fail> {
     Ok(())
 }
 
-// A registry with this default, once more where memory ran out. The default came back then.
+// A registry with this default, made once more if it was out of memory. The default then came back.
 fn registry_at_last(alloc: Global, default: u32) -> Result<Registry<u32>, RegistryError> {
     match Registry::new(alloc, default) {
         Err((RegistryError::Memory, back)) => answer(Registry::new(alloc, back)),
@@ -441,7 +438,7 @@ fn registry_at_last(alloc: Global, default: u32) -> Result<Registry<u32>, Regist
     }
 }
 
-// Adds a configuration of 2, and looks three names up. Whether they get two instances.
+// Adds a configuration of 2, and looks three names up. Returns whether they get two instances.
 fn looks_up(registry: &mut Registry<u32>) -> Result<bool, RegistryError> {
     at_last!(
         answer(registry.add_config("small", 2)),

@@ -1,4 +1,4 @@
-//! Layers: a permit is held while the function runs, and a full bulkhead is tried again.
+//! Layers: a permit is held while the function runs, and a call refused by a full bulkhead is tried again.
 
 use crate::shared::{Always, bulkhead, free};
 use resil_bulkhead::{Bulkhead, DEFAULT_MAX_CALLS, NoPermit, Permit};
@@ -42,14 +42,14 @@ fn two_permits_of_many(rt: HostRuntime) {
     assert!(rt; call_under_two(&rt, &many) == Ok(1) && free(&many) == DEFAULT_MAX_CALLS);
 }
 
-// How many permits are free while a scope has one that was acquired by one try.
+// How many permits are free while a scope holds one that was acquired by one try.
 fn free_in_scope(bulkhead: &Bulkhead) -> Result<u32, NoPermit> {
     let mut pass = bulkhead.new_pass();
     let _permit = Permit::try_once(&mut pass, bulkhead)?;
     Ok(free(bulkhead))
 }
 
-// What one try of a call comes to.
+// The result of one try of a call.
 fn tried_once(bulkhead: &Bulkhead) -> Result<u8, NoPermit> {
     bulkhead.call_once(&mut bulkhead.new_pass(), &mut Always(3))
 }
@@ -66,7 +66,7 @@ fn permit_for_a_scope(rt: HostRuntime) {
     assert!(rt; tried_once(&one) == Ok(3) && is_acquired(&rt, &one) && free(&one) == 1);
 }
 
-// What three attempts at a call come to in a bulkhead, with waits of 10 and 20 ms between them.
+// The result of three attempts at a call in a bulkhead, with waits of 10 and 20 ms between them.
 fn tried_in<R: Abort + Wait>(
     rt: &R,
     bulkhead: &Bulkhead,

@@ -1,8 +1,8 @@
 //! The tests of the library's crates that start no thread: calls and retries, permits and bulkheads, layers, registries, chains,
 //! the rule and its admission.
 //!
-//! A crate that has tests is proved twice, without them and with them. So the tests are in crates
-//! that have nothing else, and the crates that they test have none.
+//! A crate that has tests is proved twice, without them and with them. So the tests are in crates that have nothing else, and
+//! the crates that they test have none.
 #![tactic(auto)]
 
 #[cfg(test)]

@@ -1,4 +1,4 @@
-//! Retries whose waits have a limit, or depend on the answer, or are drawn by chance.
+//! Retries with waits that have a limit, depend on the answer, or are drawn at random.
 
 ghost use Rattle.std.specs.Prelude.{◌≡◌};
 
@@ -10,7 +10,7 @@ use resil_call::{
 use resil_layers::{DecorateWithin, Jitter};
 use std::time::Duration;
 
-// Answers the errors 1, 2 and so on.
+// Returns the errors 1, 2 and so on.
 #[derive(Drop)]
 struct Failing(u64);
 
@@ -62,7 +62,7 @@ impl Backoff for Hundreds {
     }
 }
 
-// A policy of this many attempts, by which every error is tried again.
+// A policy of this many attempts that tries every error again.
 fn policy<B>(max_attempts: u32, backoff: B) -> RetryPolicy<B, EveryError>
     ensures { result.max_attempts ≡ max_attempts }
 {
@@ -84,7 +84,7 @@ fn a_budget_ends_a_retry(rt: HostRuntime) {
     assert!(rt; waits.count == 3 && waits.sum == 600 && budget == WaitBudget(50));
 }
 
-// A wait of two hours doesn't begin where an hour is left, and the answer is there at once.
+// A wait of two hours doesn't begin if only an hour is left, and the answer is there at once.
 #[test]
 fn a_deadline_bars_what_passes_it(rt: HostRuntime) {
     let policy = policy(9, SameWait(7_200_000));
@@ -94,7 +94,7 @@ fn a_deadline_bars_what_passes_it(rt: HostRuntime) {
     assert!(rt; tried.answer == Err(1) && tried.attempts == 1 && tried.end == End::OutOfTime);
 }
 
-// Waits of 5 ms until 50 ms are over, with 3 ms at each look: fifteen, of which the last begins at 45 ms.
+// Waits of 5 ms until 50 ms are over, with 3 ms at each reading of the clock: fifteen. The last begins at 45 ms.
 #[test]
 fn a_deadline_allows_what_ends_in_time(rt: HostRuntime) {
     let (policy, clock) = (policy(100, SameWait(5)), Ticks::new());
@@ -103,7 +103,7 @@ fn a_deadline_allows_what_ends_in_time(rt: HostRuntime) {
     assert!(rt; tried.end == End::OutOfTime && tried.attempts == 16);
 }
 
-// By the machine's clock at most ten, whatever else the machine does.
+// At most ten by the machine's clock, whatever else the machine does.
 #[test]
 fn a_deadline_comes_by_the_clock(rt: HostRuntime) {
     let policy = policy(100, SameWait(5));
@@ -155,7 +155,7 @@ fn a_full_jitter_draws_from_nothing_to_the_whole(rt: HostRuntime) {
     assert!(rt; waits.count == 100 && waits.least < 100 && 900 < waits.most && waits.most <= 1_000);
 }
 
-// Each call of a chain begins a new hour, in which no wait of two hours ends. What is left is the first answer of each.
+// Each call of a chain begins a new hour, and no wait of two hours ends in it. What is left is the first answer of each.
 #[test]
 fn the_end_of_a_layer_begins_anew_at_each_call(rt: HostRuntime) {
     let policy = policy(9, SameWait(7_200_000));

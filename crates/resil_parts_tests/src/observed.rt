@@ -1,4 +1,4 @@
-//! Observers: in which order they are told, what threads count together, what a clock measures, and the texts.
+//! Observers: in which order they run, what threads count together, what a clock measures, and the texts.
 
 use crate::shared::{Always, Digits, Late, Ticks, assert_shown};
 use resil_bulkhead::{Bulkhead, NoPermit};
@@ -13,7 +13,7 @@ use std::sync::{Arc, Wait};
 use std::thread;
 use std::time::Duration;
 
-// Writes down 1 before each call, 2 at it and 3 behind it.
+// Writes down 1 before each call, 2 at it and 3 after it.
 #[derive(Drop)]
 struct Writing<'a>(&'a Digits);
 
@@ -44,7 +44,7 @@ fn told_before_and_after_each_call(rt: HostRuntime) {
     assert!(rt; order.all() == 123123);
 }
 
-// Calls by turns a function that gives a value and one that fails, so often each, and a full bulkhead once.
+// Calls in turn a function that returns a value and one that fails, this many times each, and a full bulkhead once.
 fn call_all<R: Wait>(rt: &R, full: &Bulkhead, counts: &CallCounts, times: u32) {
     let mut value = Always(Ok::<u8, NoPermit>(1)).counted(counts);
     let mut refused = Always(Ok::<u8, NoPermit>(1))
@@ -126,7 +126,7 @@ resil_call_seconds_total{name=\"prices\"} 2.000050
 resil_call_seconds_max{name=\"prices\"} 1.500000
 ";
 
-// Two bulkheads, of which the first has 4 permits, one of them taken for good, and the second 25.
+// Two bulkheads. The first has 4 permits, one of them taken for good, and the second 25.
 fn two_bulkheads<R: Abort + Wait>(rt: &R, alloc: Global) -> Vec<Arc<Bulkhead>> {
     let (prices, mut pass) = Bulkhead::new(alloc, "prices", 4).expect(rt, "a bulkhead");
     assert!(rt; prices.enter(rt, &mut pass));
@@ -163,7 +163,7 @@ fn text_of_calls(rt: HostRuntime) {
     assert_shown(&rt, rt.alloc(), &CallsText(&counts), CALLS);
 }
 
-// A retry that ended so.
+// A retry that ended this way.
 fn tried(answer: Result<u8, u8>, attempts: u32, end: End) -> Tried<Result<u8, u8>> {
     Tried {
         answer,

@@ -1,7 +1,7 @@
 //! An operator who lowers the limit of a bulkhead while other threads call, and raises it again.
 //!
 //! Three threads enter and leave. Each counts itself in after it has entered and out before it leaves, so the count is never
-//! above the permits that are held.
+//! above the number of permits held.
 
 use crate::shared::{bulkhead, free};
 use resil_bulkhead::Bulkhead;
@@ -15,9 +15,8 @@ const MAX: u32 = 2;
 
 const LOWERED: u32 = 1;
 
-// The calls that are inside, the number in use as far as it was told, and whether the former was
-// ever above the latter. The number in use is told after a permit was retired and before one is
-// raised, so it is never told too low.
+// How many calls are inside, the announced number in use, and whether the former was ever above the latter. The number in
+// use is announced after a permit was retired and before one is raised, so it is never too low.
 #[derive(Drop)]
 struct Gauge {
     inside: AtomicU32,
@@ -25,7 +24,7 @@ struct Gauge {
     crowded: AtomicBool,
 }
 
-// Enters where a permit is free, and leaves. The number in use falls and then rises once, so while it enters it is at most
+// Enters if a permit is free, and leaves. The number in use falls and then rises once, so while this enters, it is at most
 // what it was before or what it is after.
 fn visit(rt: &impl Wait, bulkhead: &Bulkhead, gauge: &Gauge) {
     let mut pass = bulkhead.new_pass();
@@ -50,7 +49,7 @@ fn stays_low(bulkhead: &Bulkhead) -> bool {
     low
 }
 
-// Lowers the limit and raises it again. Whether it was low in between.
+// Lowers the limit and raises it again. Returns whether it was low in between.
 fn operate<R: Clock + Wait>(rt: &R, bulkhead: &Bulkhead, gauge: &Gauge) -> bool {
     let mut pass = bulkhead.new_pass();
     if !bulkhead.enter_within(rt, &mut pass, Duration::from_secs(20)) {

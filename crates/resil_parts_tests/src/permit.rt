@@ -33,7 +33,7 @@ fn error_texts(rt: HostRuntime) {
     assert_all_shown(&rt, rt.alloc(), &errors, WEAVE_ERRORS);
 }
 
-// Permits with a pass of theirs.
+// Permits, and a pass of them.
 #[derive(Drop)]
 struct Desk<'a> {
     permits: &'a Permits,
@@ -42,7 +42,7 @@ struct Desk<'a> {
 }
 
 impl Desk<'_> {
-    // Makes a call, where the pass holds a permit to be given, or has retired one to be raised. Whether it succeeds.
+    // Makes a call, if the pass holds a permit to give back, or has retired one to raise. Returns whether it succeeds.
     fn answers(&mut self, rt: &impl Wait, call: &str) -> bool {
         match call {
             "try" => return self.permits.try_once(&mut self.pass) == Attempt::Taken,
@@ -72,7 +72,7 @@ impl Desk<'_> {
     }
 }
 
-// Calls with a pass of two permits, whether they succeed, and the counts behind them.
+// Calls with a pass of two permits, whether they succeed, and the counts after them.
 const CALLS: [(&str, bool, (u32, u32, u32)); 12] = [
     ("raise", false, (0, 0, 2)),
     ("try", true, (1, 0, 1)),
@@ -105,7 +105,7 @@ fn permits_by_hand(rt: HostRuntime) {
     assert!(rt; permits.max() == 2);
 }
 
-// The number of threads that hold a permit, and whether it was ever above that of the permits.
+// The number of threads that hold a permit, and whether it was ever above the number of permits.
 #[derive(Drop)]
 struct Room {
     inside: AtomicU32,

@@ -1,14 +1,13 @@
 //! Retries: the waits that no chain reaches, and the texts of errors.
 //!
-//! What a chain of one retry gives, and how its head and its rows are refused, is shown by
-//! `examples/chain`.
+//! `examples/chain` shows what a chain of one retry returns, and how its head and its rows are refused.
 
 use crate::shared::{assert_all_shown, config, script};
 use resil_retry::{Interval, Kind, MAX_INTERVAL, Outcome, Player, RetryError, Waits, retry};
 use std::alloc::Global;
 
-// Three attempts, half a second apart, at a call that fails and then gives 7, with just enough room for their waits. Answers
-// the outcome, the ending, the waits and the room that is left, as one text.
+// Three attempts, half a second apart, at a call that fails and then returns 7, with just enough room for their waits.
+// Returns the outcome, the ending, the waits and the room that is left, as one string.
 fn played_later(alloc: Global) -> Result<String, RetryError> {
     let error = Outcome::Error(Kind::Code(1));
     let script = script(alloc, &[error, Outcome::Value(7)])?;
@@ -29,8 +28,7 @@ fn retry_by_hand(rt: HostRuntime) {
     assert!(rt; text.as_str() == "Value(7) Later [500] 1");
 }
 
-// The wait after the last attempt that a number can name, which is answered at once, however slowly
-// waits grow to their cap.
+// The wait after the last attempt that a number can name. It comes at once, however slowly waits grow to their cap.
 fn last_wait(initial: u64, numerator: u32, denominator: u32, cap: u64) -> Option<u64> {
     match Interval::exponential(initial, numerator, denominator, cap) {
         Ok(interval) => Some(interval.after(u32::MAX)),
@@ -46,11 +44,11 @@ fn last_waits(rt: HostRuntime) {
     assert!(rt; last_wait(1_000, 1_000, 999, MAX_INTERVAL) == Some(31_536_000_000));
 }
 
-const ERRORS: &str = "an interval is longer than 31,536,000,000 ms
+const ERRORS: &str = "an interval may be at most 31,536,000,000 ms
 the cap is below the initial interval
 the script has no outcome
-a retry needs at least one attempt
-a retry has at most 1,000 attempts
+a retry must have at least one attempt
+a retry may have at most 1,000 attempts
 out of memory";
 
 #[test]

@@ -1,4 +1,4 @@
-//! Retries of a chain of which an observer is told: when, of what, and what is counted.
+//! Retries of a chain with an observer: when it is called, with what, and what is counted.
 
 ghost use Rattle.std.specs.Prelude.{◌≡◌};
 
@@ -13,7 +13,7 @@ use resil_layers::{
 };
 use std::time::Duration;
 
-// Writes down 1 at each call, 2 where it is told of a wait, 3 at the pause, and 4 where it is told of the end.
+// Writes down 1 at each call, 2 when it sees a wait, 3 at the pause, and 4 when it sees the end.
 #[derive(Drop)]
 struct Writing<'a>(&'a Digits);
 
@@ -72,7 +72,7 @@ fn a_closure_is_told_the_attempt_and_the_wait(rt: HostRuntime) {
     assert!(rt; chain.call() == Err(1) && chain.call() == Err(1) && told.all() == 16271627);
 }
 
-// So many attempts, 2 ms apart.
+// This many attempts, 2 ms apart.
 fn policy(max_attempts: u32) -> RetryPolicy<SameWait, EveryError>
     ensures { result.max_attempts ≡ max_attempts }
 {
@@ -112,7 +112,7 @@ fn limit_is_made_anew_for_each_call(rt: HostRuntime) {
     assert!(rt; own.exhausted == 0);
 }
 
-// One attempt is a failure without a retry, of which both observers are told.
+// One attempt is a failure without a retry, and both observers see it.
 #[test]
 fn two_observers_are_told(rt: HostRuntime) {
     let (policy, counts) = (policy(1), RetryCounts::new("prices"));

@@ -1,22 +1,22 @@
-//! A worked example of the rule of admission over work of any type, step by step, and of the records that may be kept beside it.
+//! A worked example of the rule of admission over jobs of any type, step by step, and of the records that may be kept with it.
 //!
-//! Steps and answers are texts, which were worked out by hand from the rule of admission. The helpers
-//! have no contracts, so a test rests on what it asserts.
+//! Steps and replies are strings, worked out by hand from the rule of admission. The helpers have no contracts, so a test rests
+//! on what it asserts.
 
 use crate::shared::{assert_all_shown, assert_text, id, part, reply_word, yes_no};
 use resil_rule::{
-    AllEvents, Event, Id, LastEvents, Limits, NoRecord, Origin, Picked, Record, Refusal, Rule,
+    AllEvents, Event, Id, LastEvents, NoRecord, Origin, Picked, Record, Refusal, Rule, Sizes,
 };
 use std::alloc::{AllocError, Global};
 use std::mem::size_of;
 use std::process::Abort;
 
-// The work that is submitted under an id.
+// The job that is submitted under an id.
 fn work_of(id: Id) -> u64 {
     id.number.wrapping_mul(1_000) ^ u64::from(id.caller)
 }
 
-// The answer to a submission, as a word. Work that is refused comes back.
+// The reply to a submission, as a word. A refused job comes back.
 fn submitted(rule: &mut Rule<u64>, id: Id) -> &'static str {
     match rule.submit(id, work_of(id)) {
         Ok(reply) => reply_word(reply),
@@ -25,7 +25,7 @@ fn submitted(rule: &mut Rule<u64>, id: Id) -> &'static str {
     }
 }
 
-// Where the job came from that is picked, as a word, if it is the one that is wanted and has its work.
+// The origin of the picked job, as a word, if it is the wanted job with its own number.
 fn picked(rule: &mut Rule<u64>, wanted: Id) -> &'static str {
     let Some(Picked { slot, origin, work }) = rule.pick() else {
         return "none";
@@ -57,7 +57,7 @@ fn says(rule: &Rule<u64>, what: &str, id: Id) -> bool {
     }
 }
 
-// The answer to a call with this job, as a word.
+// The result of a call with this job, as a word.
 fn answered(rule: &mut Rule<u64>, call: &str, id: Id) -> &'static str {
     match call {
         "submit" => submitted(rule, id),
@@ -90,7 +90,7 @@ fn counts(rule: &Rule<u64>) -> ([u32; 3], [usize; 4], u64) {
     )
 }
 
-// A rule with a job of its own start, one more that is out, and two that wait. It is resized, closed and drained.
+// A rule with a job that was started for its own worker, one more that is out, and two that wait. It is resized, closed and drained.
 const BUSY: &str =
     "reserve 3-0 yes, submit 1-1 core, pick 1-1 own, submit 1-2 queued, submit 1-3 queued, submit 1-4 extra, \
     submit 0-1 full, finish 1-1 yes";
@@ -102,8 +102,8 @@ const DRAINED: &str =
 
 #[test]
 fn rule_by_hand(rt: HostRuntime) {
-    let limits = Limits::new(1, 2, 2).expect(&rt, "limits");
-    let mut rule = Rule::new(rt.alloc(), limits, 2).expect(&rt, "a rule");
+    let sizes = Sizes::new(1, 2, 2).expect(&rt, "sizes");
+    let mut rule = Rule::new(rt.alloc(), sizes, 2).expect(&rt, "a rule");
     played(&rt, &mut rule, BUSY);
     assert!(rt; counts(&rule) == ([1, 2, 2], [1, 1, 2, 0], 4) && rule.owed() == 8);
     played(&rt, &mut rule, DRAINED);
@@ -129,7 +129,7 @@ const THREE: [Event; 3] = [
     Event::Close,
 ];
 
-// Tells a record of three events, each once there is room for it.
+// Writes three events to a record, each once there is room for it.
 fn tell<R: Record>(record: &mut R) -> Result<(), AllocError> {
     for event in THREE {
         record.reserve(1)?;

@@ -1,6 +1,6 @@
-//! What the tests of several crates share: what is made, texts that are taken apart or compared, and what comes in an order.
+//! What the tests of several crates share: things to make, strings to take apart or compare, and values in order.
 //!
-//! But for bulkheads and permits nothing of it has a contract, so a test carries along nothing of what was called for it.
+//! Except for bulkheads and permits none of it has a contract, so a test carries along nothing of what was called for it.
 
 ghost use Rattle.std.specs.Prelude.{◌≡◌};
 
@@ -19,14 +19,14 @@ use std::io;
 use std::process::Abort;
 use std::time::{Clock, Duration};
 
-/// A bulkhead that lets this many calls in at once.
+/// A bulkhead that permits this many concurrent calls.
 pub fn bulkhead(rt: &impl Abort, alloc: Global, max: u32) -> (Bulkhead, Pass)
     ensures { result.1.source ≡ result.0.permits }
 {
     Bulkhead::new(alloc, "db", max).expect(rt, "a bulkhead")
 }
 
-/// So many permits.
+/// This many permits.
 pub fn permits(rt: &impl Abort, alloc: Global, max: u32) -> (Permits, PermitPass)
     ensures { result.1.source ≡ result.0 }
 {
@@ -60,12 +60,12 @@ impl Digits {
     }
 }
 
-/// A clock that is 3 ms later at each look.
+/// A clock that is 3 ms later at each reading.
 #[derive(Drop)]
 pub struct Ticks(Cell<u64>);
 
 impl Ticks {
-    /// No look yet.
+    /// Not read yet.
     pub fn new() -> Ticks {
         Ticks(Cell::new(0))
     }
@@ -95,7 +95,7 @@ impl<T: Copy + Drop> Call for Always<T> {
     }
 }
 
-/// A function that gives an error up to its second call, and then values. It counts its calls.
+/// A function that returns an error up to its second call, and then values. It counts its calls.
 #[derive(Drop)]
 pub struct Late(pub u8);
 
@@ -108,7 +108,7 @@ impl Call for Late {
     }
 }
 
-/// The answer of a call that gives back beside an error what it was handed. That is dropped.
+/// The result of a call that returns what it got together with an error. What came back is dropped.
 pub fn answer<T, E: Drop, B: Drop>(given: Result<T, (E, B)>) -> Result<T, E> {
     match given {
         Ok(value) => Ok(value),
@@ -132,7 +132,7 @@ pub fn error_test(
     Ok(ErrorTest::new(named, ignored))
 }
 
-/// So many attempts, half a second apart, with such a test.
+/// This many attempts, half a second apart, with such a test.
 pub fn config(
     alloc: Global,
     attempts: u32,
@@ -144,13 +144,13 @@ pub fn config(
     RetryConfig::new(attempts, interval, ResultTest::Never, test, false)
 }
 
-/// A layer in short. Kinds of error are those that its test names, and those that it ignores.
+/// A short form of a layer. Kinds of error are those that its test names, and those that it ignores.
 #[derive(Drop)]
 pub enum Sketch {
     Bulkhead(u16),
     /// This number of attempts, half a second apart.
     Retry(u32, &'static [Kind], &'static [Kind]),
-    /// This value in the place of an error.
+    /// This value instead of an error.
     Fallback(i64, &'static [Kind], &'static [Kind]),
 }
 
@@ -178,8 +178,8 @@ fn layers(alloc: Global, sketches: &[Sketch]) -> Result<Vec<Layer>, RetryError> 
     Ok(layers)
 }
 
-/// A plan of these layers, innermost first, around a call with these outcomes, of which there are some. So no part
-/// is refused but for want of memory.
+/// A plan of these layers, innermost first, around a call with these outcomes, at least one. So a part is refused only when
+/// out of memory.
 pub fn plan_of(
     alloc: Global,
     sketches: &[Sketch],
@@ -205,13 +205,12 @@ pub fn listed(alloc: Global, answers: &[bool]) -> Result<Listed, DecorError> {
     Listed::new(alloc, Vec::from_slice(alloc, answers)?)
 }
 
-/// The part of a text at that place, where such marks separate its parts.
+/// The part of a string at that place, if such marks separate its parts.
 pub fn part<'a>(text: &'a str, mark: &str, place: usize) -> &'a str {
     text.split(mark).nth(place).unwrap_or("")
 }
 
-/// The id of a text such as `1-2`, which is submission 2 of caller 1. What is no number is the
-/// greatest one.
+/// The id of a string such as `1-2`, which is submission 2 of caller 1. Anything that is no number is read as the maximum value.
 pub fn id(text: &str) -> Id {
     Id {
         caller: part(text, "-", 0).parse().unwrap_or(u16::MAX),
@@ -235,18 +234,18 @@ pub fn yes_no(answer: bool) -> &'static str {
     if answer { "yes" } else { "no" }
 }
 
-/// Asserts that a text is the one that is wanted, and names the place of the other.
+/// Asserts that a string is the one that is wanted, and names the place of any other.
 pub fn assert_text(rt: &impl Abort, text: &str, wanted: &str, place: &str) {
     assert!(rt; text == wanted, "{text} in place of {wanted} at {place}");
 }
 
-/// Asserts what is displayed of a value.
+/// Asserts what a value displays.
 pub fn assert_shown(rt: &impl Abort, alloc: Global, value: &impl Display, wanted: &str) {
     let shown = format!(in alloc; "{value}").expect(rt, "room for a text");
     assert!(rt; shown.as_str() == wanted, "{shown}");
 }
 
-/// Asserts what is displayed of these values, each in a line.
+/// Asserts what these values display, each in a line.
 pub fn assert_all_shown<T: Display>(rt: &impl Abort, alloc: Global, values: &[T], wanted: &str) {
     let mut lines = wanted.lines();
     for value in values {

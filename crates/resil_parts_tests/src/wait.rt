@@ -1,8 +1,7 @@
 //! Waiting for a permit: a wait that ends by a release, by a raise, by its time, and two waits at two releases; and calls
 //! by clients.
-//!
-//! Who waits for others here waits for what they did, and 20 s at most. A wait of 60 s that nobody wakes would take all of
-//! them, and one that is woken is over long before its half.
+//! A thread here that waits for others waits for what they did, and at most 20 s. A wait of 60 s that nobody wakes would take all
+//! of that, and one that is woken is over long before half of it.
 
 use crate::shared::{Always, bulkhead};
 use resil_bulkhead::{Bulkhead, NoPermit, Permit};
@@ -48,15 +47,15 @@ fn is_early(rt: &impl Clock, start: Option<Instant>) -> bool {
     }
 }
 
-// Tells that a permit is had or retired, until this many are about to wait for one, and some time longer.
+// Announces that a permit is held or retired, until this many are about to wait for one, and some time longer.
 fn hold(rt: &impl Clock, stage: &Stage, waits: u32) {
     stage.having.fetch_add(1, SeqCst);
     await_number(rt, &stage.waiting, waits);
     thread::sleep(rt, Duration::from_millis(20));
 }
 
-// Has a permit until this many are about to wait for one, and some time longer. Who is woken then mostly finds it taken again, and
-// has to wait once more.
+// Holds a permit until this many are about to wait for one, and some time longer. A waiter that is then woken mostly finds it
+// taken again, and has to wait once more.
 fn release_late<R: Clock + Wait>(rt: &R, bulkhead: &Bulkhead, stage: &Stage, waits: u32) -> bool {
     let mut pass = bulkhead.new_pass();
     if !bulkhead.enter(rt, &mut pass) {
@@ -71,7 +70,7 @@ fn release_late<R: Clock + Wait>(rt: &R, bulkhead: &Bulkhead, stage: &Stage, wai
     true
 }
 
-// Has the one permit retired until another is about to wait for it, and some time longer.
+// Has the one permit retired until another thread is about to wait for it, and some time longer.
 fn raise_late<R: Clock + Wait>(rt: &R, bulkhead: &Bulkhead, stage: &Stage) -> bool {
     let mut pass = bulkhead.new_pass();
     if !bulkhead.enter(rt, &mut pass) {
@@ -83,7 +82,7 @@ fn raise_late<R: Clock + Wait>(rt: &R, bulkhead: &Bulkhead, stage: &Stage) -> bo
     true
 }
 
-// Waits for a permit once this many have one, and keeps it. Whether it came early.
+// Waits for a permit once this many hold one, and keeps it. Returns whether it came early.
 fn enter_late<R: Clock + Wait>(rt: &R, bulkhead: &Bulkhead, stage: &Stage, having: u32) -> bool {
     await_number(rt, &stage.having, having);
     let start = Instant::now(rt).ok();
@@ -92,7 +91,7 @@ fn enter_late<R: Clock + Wait>(rt: &R, bulkhead: &Bulkhead, stage: &Stage, havin
     bulkhead.enter_within(rt, &mut pass, Duration::from_secs(60)) && is_early(rt, start)
 }
 
-// The same by a permit for a scope, of one that has the permit.
+// The same by a permit for a scope, once one thread holds the permit.
 fn acquire_late<R: Clock + Wait>(rt: &R, bulkhead: &Bulkhead, stage: &Stage) -> bool {
     await_number(rt, &stage.having, 1);
     let start = Instant::now(rt).ok();
@@ -147,7 +146,7 @@ fn two_and_two(rt: HostRuntime) {
     assert!(rt; two.available(&mut two.new_pass()) == 0);
 }
 
-// Whether a call waits in vain: at least as long as this, and less than half a second longer.
+// Whether a call waits in vain: at least this long, and less than half a second longer.
 fn waits_in_vain<R: Clock + Wait>(rt: &R, bulkhead: &Bulkhead, longest: Duration) -> bool {
     let Ok(start) = Instant::now(rt) else {
         return false;
@@ -175,7 +174,7 @@ fn never_waits_for_no_permits(rt: HostRuntime) {
     assert!(rt; is_early(&rt, start));
 }
 
-// What a chain answers that waits 10 ms at most, called so often.
+// The sum of the answers of a chain that waits at most 10 ms, called this many times.
 fn answers_in_chain<R: Clock + Wait>(rt: &R, bulkhead: &Bulkhead, calls: u32) -> u32 {
     let mut chain = Always(Ok::<u32, NoPermit>(1))
         .inside_within(bulkhead, rt, Duration::from_millis(10))

@@ -14,7 +14,7 @@ use Rattle.resil_permit.specs.Conservation.{held_in_all, retired_in_all}
 abbrev pub IsPassAt : List View → ℕ → View → Type 0
 IsPassAt views index v = get_elem? views index ≡ some v
 
--- the permit history is the longest that a pass has seen, and what every pass has seen is a prefix of it
+-- the permit history is the longest that any pass has seen, and what every pass has seen is a prefix of it
 pub record IsHistory (history : List PermitEvent) (views : List View) : Type 0 where
   pub index : ℕ
   pub pass : View
@@ -28,8 +28,8 @@ HasNumber Splitting = ⊥
 HasNumber Joined = ⊥
 HasNumber _ = Unit {0}
 
--- each event of this number in the history stands in what the pass of the number has seen. A pass whose split has not ended has had no event, and one that was
--- joined away held nothing and had no retired permit
+-- each event of this number in the history is in what the pass of the number has seen. A pass whose split has not ended has had no event, and a pass
+-- that was joined away held nothing and had no retired permit
 abbrev pub HasSeenItsEvents : List PermitEvent → ℕ → View → Phase → Type 0
 HasSeenItsEvents history number v Splitting = events_of_seat number history ≡ []
 HasSeenItsEvents history number v Joined = (taken_count number history ≡ let_go_count number history) × (retired_count number history ≡ raised_count number history)
@@ -40,9 +40,10 @@ abbrev pub AreNumbersApart : List View → Type 0
 AreNumbersApart views =
     (index other : ℕ) (v w : View) → IsPassAt views index v → IsPassAt views other w → index ≢ other → HasNumber v.phase → HasNumber w.phase → v.number ≢ w.number
 
--- What holds between any two steps: the history is legal; a pass's number is its index, so all numbers differ; each pass has seen its own events, and there
--- are no others; there is one word, which is the permits in use less the holders; a pass between load and exchange keeps the number that it loaded, which is not 0
--- and was the permits in use less the holders then; and the word and what all passes hold or have retired, dropped ones too, add up to max, so no more than max are held
+-- What holds between any two steps: the history is legal; a pass's number is its index, so all numbers differ; each pass has seen its own events, and
+-- there are no others; there is one word, which is the permits in use less the holders; a pass between load and exchange keeps the number that it
+-- loaded, which is not 0 and was then the permits in use less the holders; and the word and what all passes hold or have retired, dropped ones too,
+-- add up to max, so no more than max are held
 pub record HoldsBetweenSteps (max : ℕ) (words : List ℕ) (views : List View) : Type 0 where
   pub history : List PermitEvent
   pub legal : IsLegal max history

@@ -12,7 +12,7 @@ held_in v Splitting = 0
 held_in v Joined = 0
 held_in v _ = taken_count v.number v.seen - let_go_count v.number v.seen
 
--- the retired permits of a pass, by the same
+-- the retired permits of a pass, likewise
 abbrev pub retired_in : View → Phase → ℕ
 retired_in v Splitting = 0
 retired_in v Joined = 0

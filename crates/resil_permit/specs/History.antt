@@ -1,11 +1,11 @@
--- Permit histories: who took a permit, gave one back, was refused one, retired one or raised one again, in one order. There is no word in them.
+-- Permit histories: who took a permit, gave one back, was refused one, retired one or raised one again, in one order. They don't mention the word.
 --
--- A retired permit is one that its holder keeps back: it is neither free nor held, and one permit less is in use, until the same seat raises it again.
+-- A retired permit is kept back by its holder: it is neither free nor held, and one permit less is in use, until the same seat raises it again.
 use Rattle.std.specs.Prelude.{◌≡◌, ℕ, ◌+◌, ◌-◌, ◌<◌, ◌==◌, Bool, true, false, if◌then◌else◌, List, [], ◌∷◌, ◌++◌, length, filter, count_by}
 use Rattle.resil_permit.specs.declared.event.PermitEvent.{PermitEvent}
 use Rattle.resil_permit.specs.declared.event.PermitEvent.TheVariants.{Took, Gave, Refused, Retired, Raised}
 
--- the seat that the event is of
+-- the seat of an event
 abbrev pub seat_of : PermitEvent → ℕ
 seat_of (Took s) = s
 seat_of (Gave s) = s
@@ -49,15 +49,15 @@ retired_count s events = count_by is_retiring (events_of_seat s events)
 abbrev pub raised_count : ℕ → List PermitEvent → ℕ
 raised_count s events = count_by is_raising (events_of_seat s events)
 
--- how many of those that it took a seat holds no more: it gave them back or retired them
+-- how many of the permits that it took a seat no longer holds: it gave them back or retired them
 abbrev pub let_go_count : ℕ → List PermitEvent → ℕ
 let_go_count s events = given_count s events + retired_count s events
 
--- how often a seat stands in a multiset
+-- how often a seat is in a multiset
 abbrev pub copies_of : ℕ → List ℕ → ℕ
 copies_of s multiset = count_by (λ x. x == s) multiset
 
--- the multiset with one of this seat less
+-- the multiset with one copy less of this seat
 abbrev pub without_one : ℕ → List ℕ → List ℕ
 without_one s [] = []
 without_one s (x ∷ xs) = if x == s then xs else (x ∷ without_one s xs)
@@ -74,7 +74,7 @@ abbrev pub holders_from : List ℕ → List PermitEvent → List ℕ
 holders_from multiset [] = multiset
 holders_from multiset (e ∷ es) = holders_from (holders_after multiset e) es
 
--- the holders: the multiset of seats that took and have neither given back nor retired, each as often as it holds a permit
+-- the holders: the multiset of seats that took a permit and have neither given it back nor retired it, each as often as it holds one
 abbrev pub holders : List PermitEvent → List ℕ
 holders events = holders_from [] events
 

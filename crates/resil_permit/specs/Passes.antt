@@ -7,7 +7,7 @@ use Rattle.resil_permit.specs.History.{events_of_seat, taken_count, retired_coun
 use Rattle.resil_permit.specs.Knowledge.{SeesMore, SeesOwn}
 use Rattle.resil_permit.specs.Steps.{PassSeat}
 
--- which permits, and how many there are
+-- which permits they are, and how many
 pub record Source : Type 0 where
   pub table_id : TableId
   pub max : ℕ
@@ -51,6 +51,6 @@ pub record IsSamePass (p q : PassView) : Type 0 where
 abbrev pub HasSeenMore : PassView → PassView → Type 0
 HasSeenMore p q = SeesMore p.source.max p.number p.seen q.seen
 
--- the pass has seen more, and last of all this event of its own, before which Before held
+-- the pass has seen more, and its last event is this one of its own, before which Before held
 abbrev pub AppendsEvent : PassView → PermitEvent → (List PermitEvent → Type 0) → PassView → Type 0
 AppendsEvent p event Before q = SeesOwn p.source.max p.number p.seen event Before q.seen

@@ -1,4 +1,5 @@
--- The running word beside the word machine: what threads do to the word and to their passes is a step of the machine, or leaves the machine as it is.
+-- The running word next to the word machine: what threads do to the word and to their passes is a step of the machine, or leaves the machine as it
+-- is.
 use Rattle.std.specs.Prelude.{◌≡◌, ℕ, ◌+◌, ◌%◌, ◌^◌, ◌<◌, ◌≤◌, ◌==◌, List, [], ◌∷◌, ◌++◌, slice_index, slice_set}
 use mathlib.Core.Option.{Option, none, some}
 use lib.ListN.{get_elem?}
@@ -22,21 +23,21 @@ use Rattle.resil_permit.specs.BetweenSteps.{IsPassAt, IsHistory}
 abbrev pub Table : Type 0
 Table = State (Unit {0}) View
 
--- a pass is a caller of the machine: it has loaded a number between load and exchange, and is idle else
+-- a pass is a caller of the machine: between load and exchange it has loaded a number, otherwise it is idle
 abbrev pub state_of : Phase → CallerState
 state_of (phase.Loaded n) = Loaded n
 state_of _ = Idle
 
--- a caller whose pass isn't there yet is idle
+-- a caller whose pass doesn't exist yet is idle
 abbrev pub state_at : Option View → CallerState
 state_at none = Idle
 state_at (some v) = state_of v.phase
 
--- the machine that the table stands for where this is its history. A caller's number is the index of its pass
+-- the machine that the table represents if this is its history. A caller's number is the index of its pass
 abbrev pub machine_of : List PermitEvent → Table → Machine
 machine_of history s = record { word = slice_index s.words 0; callers = λ index. state_at (get_elem? s.views index); events = history }
 
--- the table keeps the rule, and stands where the machine stands after these steps, which its callers can make from the start
+-- the table keeps the rule, and represents the machine after these steps, which its callers can make from the start
 pub record StandsAfter (holds : ℕ → Table → Type 0) (max : ℕ) (s : Table) (steps : List Step) : Type 0 where
   pub rule : holds max s
   pub history : List PermitEvent
@@ -44,8 +45,9 @@ pub record StandsAfter (holds : ℕ → Table → Type 0) (max : ℕ) (s : Table
   pub can_make : CanMakeAll (start max) steps
   pub machine : machine_of history s ≡ after_steps (start max) steps
 
--- The pass `me` at this index makes a step on the word, which becomes `left` of what it was, and the step tells of the number found and of the pass after it.
--- Wherever the table stood, there is a pass after the step of which that is true, and with it the table stands where the machine stands after the steps `then`
+-- The pass `me` at this index makes a step on the word, which becomes `left` of what it was, and the step shows `Tells` of the number found and of
+-- the pass after it. Whatever steps the table represents, there is a pass after the step of which that is true, and with it the table represents
+-- `then` of these steps
 abbrev pub IsMove : (ℕ → Table → Type 0) → ℕ → ℕ → PassSeat → (ℕ → ℕ) → (ℕ → PassSeat → Type 0) → (List Step → List Step) → Type 0
 IsMove holds max index me left Tells then =
     (s : Table) (steps : List Step) → StandsAfter holds max s steps → IsPassAt s.views index me.0
@@ -55,7 +57,7 @@ IsMove holds max index me left Tells then =
 abbrev pub IsMachineStep : (ℕ → Table → Type 0) → ℕ → ℕ → PassSeat → (ℕ → ℕ) → (ℕ → PassSeat → Type 0) → Step → Type 0
 IsMachineStep holds max index me left Tells step = IsMove holds max index me left Tells (λ steps. steps ++ step ∷ [])
 
--- the step only looks at the word, and is none of the machine's
+-- the step only reads the word, and is none of the machine's
 abbrev pub IsNoMachineStep : (ℕ → Table → Type 0) → ℕ → ℕ → PassSeat → (ℕ → PassSeat → Type 0) → Type 0
 IsNoMachineStep holds max index me Tells = IsMove holds max index me (λ n. n) Tells (λ steps. steps)
 
@@ -69,17 +71,17 @@ AwaitsNumber p = p ≡ phase.Splitting
 abbrev pub AwaitsEndOfJoin : Phase → Type 0
 AwaitsEndOfJoin p = (number : ℕ) × (mine : List PermitEvent) × (other : List PermitEvent) × (p ≡ phase.Joining number mine other)
 
--- what a play tells: of the step, the pass before it, the number found and the pass after it
+-- what a play says of the step, of the pass before it, of the number found and of the pass after it
 abbrev pub Telling : Type 1
 Telling = table.Step (Unit {0}) → PassSeat → ℕ → PassSeat → Type 0
 
 -- for a rule of the table, by the number of permits
 module _ (holds : ℕ → Table → Type 0) where
-  -- at the start, with the first pass, the table stands where the machine stands after no step
+  -- at the start, with the first pass, the table represents the machine after no steps
   abbrev pub OpensAsMachine : (ℕ → View) → Type 0
   OpensAsMachine first = (max : ℕ) → max ≤ 65535 → StandsAfter holds max (opening (max ∷ []) [] (first max)) []
 
-  -- the load of a try by an idle pass is the machine's Load: of 0, a refusal, and of another number, Loaded
+  -- the load of a try by an idle pass is the machine's Load: if it finds 0, a refusal, and if it finds another number, Loaded
   abbrev pub LoadsAsMachine : Telling → Type 0
   LoadsAsMachine Tells = (max slots index : ℕ) (me : PassSeat) → IsIdle me.0.phase → IsMachineStep holds max index me (λ n. n) (Tells (step slots 0 0 0 none) me) (Load index)
 
@@ -103,16 +105,16 @@ module _ (holds : ℕ → Table → Type 0) where
   RaisesAsMachine Tells = (max slots index : ℕ) (me : PassSeat) → IsIdle me.0.phase → raised_count me.0.number me.0.seen < retired_count me.0.number me.0.seen
       → IsMachineStep holds max index me (λ n. (n + 1) % 2 ^ 64) (Tells (step slots 0 1 0 none) me) (Raise index)
 
-  -- a load by a pass that stands so is none of the machine's steps
+  -- a load by a pass in this phase is none of the machine's steps
   abbrev pub LooksAsNoStep : (Phase → Type 0) → Telling → Type 0
   LooksAsNoStep Stands Tells = (max slots index : ℕ) (me : PassSeat) → Stands me.0.phase → IsNoMachineStep holds max index me (Tells (step slots 0 0 0 none) me)
 
-  -- an idle pass is cut in two, which is none of the machine's steps
+  -- an idle pass is split, which is none of the machine's steps
   abbrev pub SplitsAsNoStep : (View → View) → (View → View) → Type 0
   SplitsAsNoStep left right = (max index : ℕ) (v : View) → IsIdle v.phase → (s : Table) (steps : List Step) → StandsAfter holds max s steps → IsPassAt s.views index v
       → StandsAfter holds max (record { words = s.words; homes = s.homes; views = slice_set s.views index (left v) ++ right v ∷ [] }) steps
 
-  -- a pass comes in that was split from no other, and this is none of the machine's steps
+  -- a pass enters that was split from no other, and this is none of the machine's steps
   abbrev pub EntersAsNoStep : (ℕ → View) → Telling → Type 0
   EntersAsNoStep first Tells = (max slots : ℕ) (s : Table) (steps : List Step) → StandsAfter holds max s steps
       → (w : View) × Tells (step slots 0 0 0 none) (first max, []) (slice_index s.words 0) (w, []) × StandsAfter holds max (record { words = s.words; homes = s.homes; views = s.views ++ w ∷ [] }) steps

@@ -1,4 +1,4 @@
--- What each kind of step on the word tells the pass that makes it, of the number found and of the pass after it.
+-- What each kind of step on the word shows the pass that makes it: of the number found, and of the pass after it.
 use Rattle.std.specs.Prelude.{◌≡◌, ◌≢◌, ℕ, ◌+◌, ◌<◌, ◌≤◌, List, [], length}
 use Rattle.atomic_table.specs.Table.{Me, Step}
 use Rattle.resil_permit.specs.declared.event.PermitEvent.{PermitEvent}
@@ -10,7 +10,7 @@ use Rattle.resil_permit.specs.History.{is_event_of, events_of_seat, holders, in_
 use Rattle.resil_permit.specs.Log.Seen.{SeesBoth}
 use Rattle.resil_permit.specs.Knowledge.{SeesMore, SeesOwn}
 
--- what a pass knows, with its slots, of which there are none
+-- what a pass knows, with its slots; there are none
 abbrev pub PassSeat : Type 0
 PassSeat = Me (Unit {0}) View
 
@@ -33,13 +33,13 @@ pub record AfterPlainLoad (step : Step (Unit {0})) (m : PassSeat) (found : ℕ) 
   pub seen : SeesMoreThan m m'
   pub free : found + length (holders m'.0.seen) ≡ in_use_count m.0.max m'.0.seen
 
--- the load of a try: 0 is a refusal, and another number is remembered
+-- the load of a try: 0 is a refusal, and any other number is remembered
 pub record AfterAcquireLoad (step : Step (Unit {0})) (m : PassSeat) (found : ℕ) (m' : PassSeat) : Type 0 where
   pub same : IsSame m m'
   pub refused : found ≡ 0 → (m'.0.phase ≡ Idle) × SeesOwnAfter m (Refused m.0.number) (λ before. length (holders before) ≡ in_use_count m.0.max before) m'
   pub loaded : found ≢ 0 → (m'.0.phase ≡ Loaded found) × SeesMoreThan m m'
 
--- the exchange of a try: where the word is what was loaded a permit is taken, and else the number of free permits has changed since
+-- the exchange of a try: if the word is what was loaded, a permit is taken; otherwise the number of free permits has changed since
 pub record AfterAcquireExchange (step : Step (Unit {0})) (m : PassSeat) (found : ℕ) (m' : PassSeat) : Type 0 where
   pub same : IsSame m m'
   pub idle : m'.0.phase ≡ Idle
@@ -52,7 +52,7 @@ pub record AfterAdd (event : ℕ → PermitEvent) (step : Step (Unit {0})) (m : 
   pub idle : m'.0.phase ≡ Idle
   pub own : SeesOwnAfter m (event m.0.number) (λ _. Unit {0}) m'
 
--- the load that ends a split: the new pass gets a number of its own, of which there is no event yet
+-- the load that ends a split: the new pass gets a number of its own, which no event has yet
 pub record AfterNumberSeat (step : Step (Unit {0})) (m : PassSeat) (found : ℕ) (m' : PassSeat) : Type 0 where
   pub slots : m'.1 ≡ m.1
   pub idle : m'.0.phase ≡ Idle
@@ -61,7 +61,8 @@ pub record AfterNumberSeat (step : Step (Unit {0})) (m : PassSeat) (found : ℕ)
   pub seen : m'.0.seen ≡ m.0.seen
   pub no_events : events_of_seat m'.0.number m'.0.seen ≡ []
 
--- the load that makes a pass from none: the new pass has seen a whole legal history, and there is no event of its own. m is the first pass, as it was at the start
+-- the load that makes a pass from none: the new pass has seen a whole legal history, and there is no event of its own. m is the first pass, as it was
+-- at the start
 pub record AfterNewPass (step : Step (Unit {0})) (m : PassSeat) (found : ℕ) (m' : PassSeat) : Type 0 where
   pub slots : m'.1 ≡ m.1
   pub idle : m'.0.phase ≡ Idle
@@ -71,7 +72,7 @@ pub record AfterNewPass (step : Step (Unit {0})) (m : PassSeat) (found : ℕ) (m
   pub free : found + length (holders m'.0.seen) ≡ in_use_count m.0.max m'.0.seen
   pub no_events : events_of_seat m'.0.number m'.0.seen ≡ []
 
--- what is seen at the end of a join begins with what either pass had seen, and the two had different numbers
+-- what has been seen at the end of a join begins with what either pass had seen, and the two had different numbers
 abbrev pub BeginsWithBothPasses : ℕ → ℕ → Phase → List PermitEvent → Type 0
 BeginsWithBothPasses max number (Joining other_number mine other) new = SeesBoth IsLegal is_event_of max number mine other new × (other_number ≢ number)
 BeginsWithBothPasses max number _ new = Unit {0}

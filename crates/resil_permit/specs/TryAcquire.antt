@@ -1,4 +1,4 @@
--- What a try to take a permit tells.
+-- What the result of a try to take a permit says.
 use Rattle.std.specs.Prelude.{◌≡◌, ◌≢◌, ℕ, ◌+◌, ◌<◌, ◌≤◌, List, length}
 use mathlib.Core.List.{IsPrefix}
 use Rattle.resil_permit.specs.declared.event.PermitEvent.{PermitEvent}
@@ -10,7 +10,8 @@ use Rattle.resil_permit.specs.declared.acquire.Acquire.TheVariants as acquired
 use Rattle.resil_permit.specs.History.{holders, in_use_count, free_count}
 use Rattle.resil_permit.specs.Passes.{PassView, HasSeenMore, AppendsEvent}
 
--- after what was seen before, the number of free permits changed: two prefixes of what is seen now, neither shorter than what was seen before, differ in it
+-- after what was seen before, the number of free permits changed: two prefixes of what is seen now, neither shorter than what was seen before, differ
+-- in it
 abbrev pub FreeChanged : ℕ → List PermitEvent → List PermitEvent → Type 0
 FreeChanged max old new =
     (first : List PermitEvent) × (second : List PermitEvent)
@@ -28,7 +29,7 @@ held_after held Taken = held + 1
 held_after held Full = held
 held_after held Contended = held
 
--- the answer of a call that tries until it isn't contended, as that of its last try
+-- the result of a call that retries while it is contended, as that of its last try
 abbrev pub last_try : Acquire → Attempt
 last_try acquired.Taken = Taken
 last_try acquired.Full = Full

@@ -1,4 +1,4 @@
--- What a weaving gives, and why it is refused.
+-- What a weaving returns, and why it is refused.
 use Rattle.std.specs.Prelude.{◌≡◌, ℕ, ◌+◌, ◌<◌, ◌≤◌, List, ◌∷◌, ◌++◌, length}
 use Rattle.resil_permit.specs.declared.step.Step.{Step}
 use Rattle.resil_permit.specs.declared.word_machine.StepError.{StepError}
@@ -21,7 +21,7 @@ pub record IsWoven (max : ℕ) (steps : List Step) (woven : Woven) : Type 0 wher
 abbrev pub KeepsLaw : ℕ → Woven → Type 0
 KeepsLaw max woven = IsLegal max woven.events.items × (woven.word + length (holders woven.events.items) ≡ in_use_count max woven.events.items) × (in_use_count max woven.events.items ≤ max)
 
--- all steps before the place, counted from 1, can be made, and the step there can't, for this reason
+-- all steps before the place, counted from 1, can be made, and the step at that place can't, for this reason
 pub record IsFirstStuck (max : ℕ) (steps : List Step) (IsStuck : Machine → Step → Type 0) (place : ℕ) : Type 0 where
   pub front : List Step
   pub step : Step

@@ -1,4 +1,4 @@
--- How the running word machine stands to the word machine.
+-- How the running word machine relates to the word machine.
 use Rattle.std.specs.Prelude.{◌≡◌, ℕ, ◌+◌, ◌<◌, ◌≤◌, List, length, slice_index_or, Result, Ok, Err}
 use Rattle.resil_permit.specs.declared.step.Step.{Step}
 use Rattle.resil_permit.specs.declared.step.Shown.{Shown}
@@ -25,7 +25,7 @@ pub record Matches (m : Machine) (c : ℕ) (caller : Caller) : Type 0 where
   pub state : caller.state ≡ m.callers c
   pub counts : (caller.held + let_go_count c m.events ≡ taken_count c m.events) × (caller.retired + raised_count c m.events ≡ retired_count c m.events)
 
--- the running machine stands where the machine stands
+-- the running machine represents this machine
 pub record Follows (max : ℕ) (m : Machine) (word : ℕ) (callers : List Caller) : Type 0 where
   pub few : max ≤ 65535
   pub sound : IsSound max m
@@ -45,11 +45,11 @@ abbrev pub Answers : ℕ → Machine → Step → ℕ → List Caller → Result
 Answers max m step word callers (Ok shown) = CanMake m step × (shown ≡ shown_by m step) × Follows max (after_step m step) word callers
 Answers max m step word callers (Err stuck) = IsStuck m step stuck
 
--- the running machine stands where some machine stands
+-- the running machine represents some machine
 abbrev pub IsRunning : WordMachine → Type 0
 IsRunning running = (max : ℕ) × (m : Machine) × Follows max m running.word running.callers.items
 
--- wherever the running machine stood, it makes the step as the machine there does
+-- whatever machine the running one represents, it makes the step as that machine does
 abbrev pub MakesStep : Step → WordMachine → WordMachine → Result Shown StepError → Type 0
 MakesStep step old new result =
     (max : ℕ) (m : Machine) → Follows max m old.word old.callers.items → Answers max m step new.word new.callers.items result

@@ -1,4 +1,4 @@
-//! Taking a permit where other threads keep coming in between: the one call that may wait for them.
+//! Taking a permit while other threads compete for it: the one call here that may wait for them.
 ghost use Rattle.std.specs.Prelude.{◌≡◌};
 ghost use Rattle.resil_permit.specs.Passes.{held_by, retired_by, IsSamePass};
 ghost use Rattle.resil_permit.specs.TryAcquire.{IsTry, held_after, last_try};
@@ -8,7 +8,7 @@ use crate::permits::{Attempt, Permits};
 use std::sync::Wait;
 use std::thread;
 
-/// The answer of a call that tries until it isn't contended.
+/// The result of a call that retries for as long as it is contended.
 ///
 /// ```
 /// match permits.try_acquire(&rt, &mut pass) {
@@ -25,7 +25,8 @@ pub enum Acquire {
 }
 
 impl Permits {
-    /// Takes a permit, or finds that none is free. Tries again while it is contended, and so may wait for others.
+    /// Takes a permit, or finds that none is free. It retries while it is contended, and so may wait for other
+    /// threads.
     pub fn try_acquire<R: Wait>(&self, rt: &R, pass: &mut Pass) -> Acquire
         requires { pass.old.source ≡ self.now }
         ensures pass { IsSamePass pass.old pass.new }

@@ -1,9 +1,9 @@
-//! What a permit history is made of. A history tells who took a permit, gave one back, was refused one, retired
-//! one or raised one again, in one order. It says nothing of the word that counts them.
+//! The events of a permit history: which seat took a permit, gave one back, was refused one, retired one or
+//! raised one again, in one order. A history doesn't mention the word that counts the permits.
 
-/// What happened to a permit, with the number of the seat that it happened to.
+/// One event of a permit, with the number of the seat that it happened to.
 ///
-/// After the permissions of a Bulkhead (Resilience4j user guide, Bulkhead).
+/// Modelled on the permissions of a Bulkhead (Resilience4j user guide, Bulkhead).
 ///
 /// ```
 /// let woven = weave(alloc, 1, &[Step::Load(7), Step::Exchange(7), Step::Add(7)])?;
@@ -14,12 +14,12 @@
 pub enum PermitEvent {
     /// The seat took a permit. Fewer were held than were in use.
     Took(u16),
-    /// The seat gave a permit back that it held.
+    /// The seat gave back a permit that it held.
     Gave(u16),
-    /// The seat was refused a permit. All that were in use were held.
+    /// The seat was refused a permit. All permits in use were held.
     Refused(u16),
-    /// The seat retired a permit that it held: it keeps it back, and one permit less is in use.
+    /// The seat retired a permit that it held: it keeps the permit back, and one permit less is in use.
     Retired(u16),
-    /// The seat raised a permit that it had retired: it is free again, and one permit more is in use.
+    /// The seat raised a permit that it had retired: the permit is free again, and one permit more is in use.
     Raised(u16),
 }

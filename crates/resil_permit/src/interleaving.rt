@@ -1,7 +1,7 @@
-//! A run of callers' steps on one word, in one given order and with no thread.
+//! Runs the steps of several callers on one word, in one given order and without threads.
 //!
-//! The steps of several callers are woven into each other, so every race of two callers for a permit can be
-//! written down and looked at. All memory is reserved before the first step is made.
+//! The callers' steps are interleaved, so any race of two callers for a permit can be written down and looked at. All
+//! memory is reserved before the first step is made.
 ghost use Rattle.std.specs.Prelude.{◌≡◌, ◌+◌, ◌<◌, ◌≤◌, ◌↔◌, [], ◌∷◌, ◌++◌, length, vec_len, IfOk, IfErr, IsErrOf, IsOkUnless};
 ghost use Rattle.std.specs.Option.{option_to_list};
 ghost use Rattle.std.specs.Vec.{vec_capacity};
@@ -16,7 +16,7 @@ use crate::word_machine::{StepError, WordMachine};
 use std::alloc::{AllocError, Global};
 use thiserror::Error;
 
-/// Why steps were not woven. The places of steps are counted from 1.
+/// Why the steps couldn't be woven. The place of a step is counted from 1.
 ///
 /// ```
 /// match weave(alloc, 2, &steps) {
@@ -27,22 +27,22 @@ use thiserror::Error;
 /// ```
 #[derive(Clone, Copy, PartialEq, Eq, Debug, Error)]
 pub enum WeaveError {
-    /// Memory ran out.
+    /// Out of memory.
     #[error("out of memory")]
     Memory,
-    /// More than 65,535 permits were asked for.
+    /// `max` is above 65,535.
     #[error("there are more than 65535 permits")]
     TooManyPermits,
-    /// The step at this place is an exchange by a caller that has loaded no number.
+    /// The step at this place is an exchange, but its caller has loaded no number.
     #[error("step {0}: the caller has loaded nothing to exchange")]
     NotLoaded(usize),
-    /// The step at this place is an add or a retire by a caller that holds no permit.
+    /// The step at this place is an add or a retire, but its caller holds no permit.
     #[error("step {0}: the caller holds no permit")]
     NotHolding(usize),
-    /// The step at this place is by a caller that has loaded a number, and no exchange.
+    /// The step at this place isn't an exchange, but its caller has loaded a number.
     #[error("step {0}: the caller has loaded a number and must exchange it first")]
     StillLoaded(usize),
-    /// The step at this place is a raise by a caller that has retired no permit.
+    /// The step at this place is a raise, but its caller has retired no permit.
     #[error("step {0}: the caller has retired no permit")]
     NotRetired(usize),
 }
@@ -68,7 +68,7 @@ impl StepError {
     }
 }
 
-/// What the woven steps showed and left.
+/// What the woven steps showed, and the state they left.
 ///
 /// ```
 /// let woven = weave(alloc, 1, &[Step::Load(7), Step::Load(8), Step::Exchange(7)])?;
@@ -78,9 +78,9 @@ impl StepError {
 pub struct Woven {
     /// What each step showed, in order.
     pub shown: Vec<Shown>,
-    /// The permit history: the steps that took, gave back, were refused, retired or raised.
+    /// The permit history: the events of the steps that took, gave back, were refused, retired or raised.
     pub events: Vec<PermitEvent>,
-    /// The free permits after the last step.
+    /// The number of free permits after the last step.
     pub word: u32,
 }
 
@@ -102,15 +102,15 @@ impl Woven {
     }
 }
 
-/// Makes the steps in order on a word that is `max` at first, and tells what each showed, the permit history
-/// and the last word.
+/// Makes the steps in order on a word that starts at `max`, and returns what each step showed, the permit history and
+/// the last word.
 ///
 /// # Errors
 ///
-/// In this order: `TooManyPermits` where `max` is above 65,535; `Memory` when out of memory; and then the first step
-/// that can't be made, with its place, from 1. It is `StillLoaded` where it is no exchange and its caller has loaded a
-/// number, and `NotLoaded` where it is an exchange and its caller has loaded none. It is `NotHolding` for an add or a
-/// retire by a caller that holds no permit, and `NotRetired` for a raise by a caller that has retired none.
+/// In this order: `TooManyPermits` if `max` is above 65,535; `Memory` if out of memory; then the first step that can't
+/// be made, with its place, counted from 1: `StillLoaded` if it isn't an exchange and its caller has loaded a number;
+/// `NotLoaded` if it is an exchange and its caller has loaded none; `NotHolding` for an add or a retire by a caller
+/// that holds no permit; `NotRetired` for a raise by a caller that has retired none.
 ///
 /// ```
 /// let race = [Step::Load(0), Step::Load(1), Step::Exchange(0), Step::Exchange(1)];

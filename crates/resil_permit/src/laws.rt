@@ -1,4 +1,4 @@
-//! The laws of the permit word, each a function whose contract it is.
+//! The laws of the permit word. Each is a function whose contract states the law.
 ghost use Rattle.std.specs.Prelude.{ℕ};
 ghost use Rattle.atomic_table.specs.Table.{State};
 ghost use Rattle.resil_permit.specs.declared.protocol.View.{View};
@@ -13,21 +13,21 @@ use crate::protocol::{
 };
 use atomic_table::{Join, Play, Split, TableRule};
 
-/// Whatever the order in which any number of callers load, exchange, add, retire and raise, their events are a legal
-/// permit history. The word and the permits held add up to the permits in use, and those are no more than at the start.
+/// In whatever order any number of callers load, exchange, add, retire and raise, their events are a legal permit
+/// history. The word and the permits held add up to the permits in use, and these are never more than at the start.
 #[tactic(auto, using(crate::proofs::Machines::every_interleaving))]
 pub fn every_interleaving()
     ensures { EveryInterleaving }
 {}
 
-/// Under the rule of the word, the free permits and those that all passes hold or have retired, dropped ones too, add
-/// up to the number at the start. So no more than that are held.
+/// Under the rule of the word, the free permits and those that all passes hold or have retired, dropped passes
+/// included, add up to the number at the start. So no more permits than that are ever held.
 pub fn all_add_up()
     ensures { AllAddUp }
 {}
 
-/// Between any two steps, whichever threads make them, there is one legal permit history, of which every pass has seen
-/// a prefix with all events of its own. All passes have different numbers, and the word is the number of permits in
+/// Between any two steps, whichever threads make them, there is one legal permit history. Every pass has seen a prefix
+/// of it that includes all its own events. All passes have different numbers, and the word is the number of permits in
 /// use that nobody holds.
 #[tactic(auto, using(crate::proofs::BetweenSteps::holds_between_steps))]
 pub fn holds_between_steps()
@@ -35,9 +35,9 @@ pub fn holds_between_steps()
 {}
 
 /// What threads do to the running word and its passes is what the callers of the word machine do, step by step. The
-/// machine has the same word, the longest seen history as its events, and a caller for each pass. Wherever the table of
-/// all passes stands after some steps of the machine, it stands after one step more once a pass has made the step of
-/// the same name. A plain load, a new pass, a split and a join are no steps of the machine.
+/// machine has the same word, the longest seen history as its events, and a caller for each pass. If the table of all
+/// passes represents the machine after some steps, then once a pass makes a step it represents the machine after one
+/// step more, of the same name. A plain load, a new pass, a split and a join are no steps of the machine.
 pub fn running_word_is_the_machine()
     ensures opening { OpensAsMachine ⟦<PermitRule as TableRule<(), View, u32>>⟧.holds ⟦<PermitRule as TableRule<(), View, u32>>⟧.first }
     ensures load { LoadsAsMachine ⟦<PermitRule as TableRule<(), View, u32>>⟧.holds ⟦<AcquireLoad as Play<(), View>>⟧.then }

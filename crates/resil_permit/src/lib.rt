@@ -1,14 +1,14 @@
-//! Permits that threads share: a word that counts the free ones, and one history. It tells who took a permit, gave
-//! one back, was refused one, retired one or raised one again.
+//! Permits that threads share: a word that counts the free ones, and one history: who took a permit, gave one
+//! back, was refused one, retired one or raised one again.
 //!
-//! A retired permit is one that its holder keeps back. It is neither free nor held, and the number of permits in use
-//! is less by one until the same pass raises it. So an operator lowers a limit while calls run, and raises it again,
-//! never above the number at the start.
+//! A retired permit is kept back by its holder. It is neither free nor held, and one permit less is in use until the
+//! same pass raises it. So an operator can lower a limit while calls run and raise it again, but never above the
+//! number at the start.
 //!
-//! `Permits` and `Pass` are the running permits. Each call says what it adds to the history that its pass has
-//! seen. `weave` runs the callers' single steps on the word in one given order, with no thread, so that a race
-//! can be written down and looked at. The functions of `laws` say what holds of every order of steps, and that
-//! the running permits make the same steps.
+//! `Permits` and `Pass` are the running permits. The contract of each call says what the call adds to the history
+//! that its pass has seen. `weave` runs single steps of several callers on the word in one given order, without
+//! threads, so that a race can be written down and looked at. The functions of `laws` say what holds in every order
+//! of the steps, and that the running permits make the same steps.
 #![tactic(auto)]
 
 mod acquire;

@@ -1,8 +1,8 @@
 //! A pass: what one thread takes permits with.
 //!
-//! A pass belongs to the permits that it came from. Contracts see its number and the history that it has seen,
-//! which no running code can read. The number of permits that it holds, and of those that it has retired, is that of
-//! its own events in the history.
+//! A pass belongs to the permits that it came from. Contracts see its number and the history that it has seen;
+//! running code can read neither. How many permits it holds, and how many it has retired, follows from its own
+//! events in that history.
 ghost use Rattle.std.specs.Prelude.{◌≡◌};
 ghost use Rattle.resil_permit.specs.Passes.{PassView, pass_view, IsAtRest, held_by, retired_by};
 
@@ -10,8 +10,8 @@ use crate::protocol::View;
 use atomic_table::Seat;
 use std::marker::Model;
 
-/// What one thread takes permits with and gives them back with. A pass that is dropped while it holds permits, or
-/// while it has retired ones, never gives them back.
+/// What one thread takes permits with and gives them back with. If a pass is dropped while it holds permits, or
+/// while it has retired some, these are never given back.
 ///
 /// ```
 /// let (permits, mut pass) = Permits::new(alloc, 2)?;
@@ -33,15 +33,15 @@ impl Model for Pass {
 }
 
 impl Pass {
-    /// How many permits the pass holds: 0 to the number of all permits.
+    /// Returns how many permits the pass holds: 0 to the number of all permits.
     pub fn held(&self) -> u32
         ensures { result ≡ held_by self.now }
     {
         self.held
     }
 
-    /// How many permits the pass has retired and not raised again: 0 to the number of all permits. They are neither
-    /// free nor held.
+    /// Returns how many permits the pass has retired and not raised again: 0 to the number of all permits. They are
+    /// neither free nor held.
     pub fn retired(&self) -> u32
         ensures { result ≡ retired_by self.now }
     {

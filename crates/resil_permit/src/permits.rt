@@ -1,10 +1,9 @@
-//! The permit word, and its atomic steps: this file has all of them.
+//! The permit word and all its atomic steps.
 //!
-//! The word is the number of free permits. A try loads it and, where it is not 0, exchanges it for one less; a
-//! release adds 1. A pass that retires a permit keeps it back: it adds nothing to the word, and one permit less is in
-//! use until the same pass raises it again, which adds 1. Between any two steps there is one legal permit history,
-//! of which every pass has seen a prefix with all its own events. The word is the number of permits in use less
-//! those held. There is no lock, and none of the public calls of this file blocks.
+//! The word is the number of free permits. A try loads it and, if it isn't 0, exchanges it for one less; a release adds 1. A pass that
+//! retires a permit keeps it back: it adds nothing to the word, and one permit less is in use until the same pass raises the permit again,
+//! which adds 1. Between any two steps there is one legal permit history, every pass has seen a prefix of it that includes all its own
+//! events, and the word is the number of permits in use less those held. There is no lock, and none of the public calls of this file blocks.
 ghost use Rattle.std.specs.Prelude.{◌≡◌, ◌≢◌, ℕ, ◌+◌, ◌<◌, ◌≤◌, ◌↔◌, [], length, IfOk, IsErrOf};
 ghost use Rattle.resil_permit.specs.History.{holders, in_use_count, IsLegal};
 ghost use Rattle.resil_permit.specs.Passes.{Source, held_by, retired_by, own_events, IsSamePass, HasSeenMore, AppendsEvent};
@@ -26,10 +25,10 @@ use std::sync::atomic::Ordering::SeqCst;
 use std::time::Duration;
 use thiserror::Error;
 
-/// The most permits that there can be.
+/// The maximum number of permits.
 pub const MAX_PERMITS: u32 = 65_535;
 
-/// Why there are no permits.
+/// Why permits couldn't be made.
 ///
 /// ```
 /// match Permits::new(alloc, max) {
@@ -40,15 +39,15 @@ pub const MAX_PERMITS: u32 = 65_535;
 /// ```
 #[derive(Clone, Copy, PartialEq, Eq, Debug, Error)]
 pub enum PermitError {
-    /// Memory ran out.
+    /// Out of memory.
     #[error("out of memory")]
     Memory,
-    /// More than 65,535 permits were asked for.
+    /// `max` is above 65,535.
     #[error("there are more than 65535 permits")]
     TooManyPermits,
 }
 
-/// The answer of one try.
+/// The result of one try.
 ///
 /// ```
 /// match permits.try_once(&mut pass) {
@@ -63,13 +62,13 @@ pub enum Attempt {
     Taken,
     /// No permit was free.
     Full,
-    /// Another pass came between the load and the exchange. Nothing was done.
+    /// Another pass changed the word between the load and the exchange. Nothing was done.
     Contended,
 }
 
-/// A number of permits, which threads share.
+/// A number of permits that threads share.
 ///
-/// After the semaphore of a Bulkhead (Resilience4j user guide, Bulkhead, maxConcurrentCalls).
+/// Modelled on the semaphore of a Bulkhead (Resilience4j user guide, Bulkhead, maxConcurrentCalls).
 ///
 /// ```
 /// let (permits, mut pass) = Permits::new(alloc, 25)?;
@@ -81,7 +80,7 @@ pub enum Attempt {
 pub struct Permits {
     table: Table<(), View, u32, PermitRule, Global>,
     max: u32,
-    // How many callers wait for a permit. No clause speaks of it.
+    // How many callers wait for a permit. No clause mentions it.
     waiting: AtomicU64,
 }
 
@@ -94,11 +93,11 @@ impl Model for Permits {
 }
 
 impl Permits {
-    /// `max` permits, all free, with their first pass.
+    /// Makes `max` permits, all free, and their first pass.
     ///
     /// # Errors
     ///
-    /// In this order: `TooManyPermits` where `max` is above 65,535; `Memory` when out of memory.
+    /// In this order: `TooManyPermits` if `max` is above 65,535; `Memory` if out of memory.
     #[tactic(auto, using(crate::proofs::ProtocolSteps::opens))]
     pub fn new(alloc: Global, max: u32) -> Result<(Permits, Pass), PermitError>
         ensures max { IfOk result (λ r. r.0.max ≡ max) }
@@ -127,7 +126,7 @@ impl Permits {
         }
     }
 
-    /// The number of permits at the start: free, held or retired.
+    /// Returns the number of permits at the start: those free, held or retired.
     pub fn max(&self) -> u32
         ensures { result ≡ self.now.max }
     {
@@ -136,7 +135,7 @@ impl Permits {
 }
 
 impl Permits {
-    /// Tries once to take a permit: one load, and where it finds free permits one compare-exchange.
+    /// Tries once to take a permit: one load and, if it finds a free permit, one compare-exchange.
     pub fn try_once(&self, pass: &mut Pass) -> Attempt
         requires { pass.old.source ≡ self.now }
         ensures pass { IsSamePass pass.old pass.new }
@@ -157,8 +156,7 @@ impl Permits {
         Attempt::Taken
     }
 
-    /// Gives a permit back that the pass holds, and wakes a caller that waits for one, if any does: one add and one
-    /// load.
+    /// Gives back a permit that the pass holds, and wakes a caller that waits for one, if there is any: one add and one load.
     ///
     /// ```
     /// let held = pass.held();
@@ -179,7 +177,7 @@ impl Permits {
         self.wake_waiter();
     }
 
-    /// The same for permits that nobody waits for: one add. A caller that does wait isn't woken by it.
+    /// Like `release`, for permits that nobody waits for: one add. It doesn't wake a caller that does wait.
     ///
     /// ```
     /// if pass.held() > 0 {
@@ -198,8 +196,8 @@ impl Permits {
         pass.held -= 1;
     }
 
-    /// Retires a permit that the pass holds: one add of 0. The pass keeps the permit back. It is neither free nor held
-    /// then, and one permit less is in use until this pass raises it again.
+    /// Retires a permit that the pass holds: one add of 0. The pass keeps the permit back. The permit is then neither free nor held, and one
+    /// permit less is in use until this pass raises it again.
     ///
     /// ```
     /// if permits.try_once(&mut operator) == Attempt::Taken {
@@ -219,8 +217,8 @@ impl Permits {
         pass.retired += 1;
     }
 
-    /// Raises a permit that the pass has retired, and wakes a caller that waits for one, if any does: one add of 1 and
-    /// one load. The permit is free then, and one permit more is in use, never more than at the start.
+    /// Raises a permit that the pass has retired, and wakes a caller that waits for one, if there is any: one add of 1 and one load. The
+    /// permit is then free, and one permit more is in use, never more than at the start.
     ///
     /// ```
     /// if operator.retired() > 0 {
@@ -239,7 +237,7 @@ impl Permits {
         self.wake_waiter();
     }
 
-    /// The same for permits that nobody waits for: one add of 1.
+    /// Like `raise`, for permits that nobody waits for: one add of 1.
     ///
     /// ```
     /// if operator.retired() > 0 {
@@ -258,7 +256,7 @@ impl Permits {
         pass.retired -= 1;
     }
 
-    /// The number of free permits at this point, those in use that nobody holds: one load.
+    /// Returns the number of free permits at this point, that is, those in use that nobody holds: one load.
     ///
     /// ```
     /// println!(rt; "free: {}", permits.available(&mut operator))?;
@@ -274,7 +272,7 @@ impl Permits {
         self.table.shared.load::<PlainLoad>(&mut pass.seat, 0) as u32
     }
 
-    /// A new pass, for any thread, which holds nothing and has seen a whole history up to now: one load.
+    /// Makes a new pass, for any thread. It holds nothing and has seen a whole history up to now: one load.
     ///
     /// ```
     /// let mut pass = permits.new_pass();
@@ -295,10 +293,10 @@ impl Permits {
         }
     }
 
-    /// A new pass, for another thread, which holds nothing and has seen what this one has. This one stays as it is.
+    /// Makes a new pass for another thread. It holds nothing and has seen what this pass has seen. This one stays as it is.
     ///
-    /// Its number is unlike that of every other pass of these permits, dropped ones too: `holds_between_steps` says so
-    /// of all passes, and `join` of any two that it is handed.
+    /// Its number differs from that of every other pass of these permits, dropped ones included: `holds_between_steps` says so of all passes,
+    /// and `join` of the two that it gets.
     pub fn split(&self, pass: &mut Pass) -> Pass
         requires { pass.old.source ≡ self.now }
         ensures old { pass.new ≡ pass.old }
@@ -317,7 +315,8 @@ impl Permits {
         }
     }
 
-    /// Joins away `from`, which holds nothing and has no retired permit. `into` has then seen what either had. The two had different numbers.
+    /// Joins `from`, which holds no permit and has retired none, into `into`. `into` has then seen what either had. The two had different
+    /// numbers.
     ///
     /// ```
     /// let other = permits.split(&mut pass);
@@ -340,24 +339,24 @@ impl Permits {
     }
 }
 
-// Who waits for a permit. Nothing here changes the permit word.
+// The callers that wait for a permit. Nothing here changes the permit word.
 impl Permits {
-    // Says that one caller more waits, from its first try on.
+    // Counts one more waiting caller, from its first try on.
     pub(crate) fn begin_wait(&self) {
         self.waiting.fetch_add(1, SeqCst);
     }
 
-    // Says that one caller less waits.
+    // Counts one waiting caller less.
     pub(crate) fn end_wait(&self) {
         self.waiting.fetch_sub(1, SeqCst);
     }
 
-    // Sleeps while no permit is free, and for no longer than this.
+    // Sleeps while no permit is free, for at most `longest`.
     pub(crate) fn sleep<R: Wait>(&self, rt: &R, longest: Duration) {
         self.table.shared.park_timeout(rt, 0, 0, longest);
     }
 
-    // Wakes one caller that sleeps, if any waits. It comes after the add that made a permit free.
+    // Wakes one sleeping caller, if any waits. Called after the add that made a permit free.
     fn wake_waiter(&self) {
         if self.waiting.load(SeqCst) != 0 {
             self.table.shared.wake_one(0);

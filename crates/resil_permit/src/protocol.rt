@@ -1,8 +1,8 @@
-//! What a pass knows, the rule of the permit word, and what each kind of step tells. It exists in proofs alone.
+//! What a pass knows, the rule of the permit word, and what each kind of step shows. It exists in proofs alone.
 //!
-//! There is one legal permit history, the log. Each pass has seen a prefix of it with all events of its own, and some
-//! pass has seen it whole. The word is the number of permits in use that nobody holds. A pass's number is the index of
-//! its seat among all seats. The laws that hold of every such log are those of `specs/Log`; this file says what is
+//! There is one legal permit history, the log. Each pass has seen a prefix of it that includes all its own events, and
+//! some pass has seen all of it. The word is the number of permits in use that nobody holds. A pass's number is the
+//! index of its seat among all seats. `specs/Log` has the laws that hold of every such log; this file has what is
 //! particular to permits.
 ghost use Rattle.resil_permit.specs.Rule.{Rule, first_pass_view, splitting_view, joining_pass_view, joined_view};
 ghost use Rattle.resil_permit.specs.Steps.{AfterPlainLoad, AfterAcquireLoad, AfterAcquireExchange, AfterAdd, AfterNewPass, AfterNumberSeat, AfterPassJoin};
@@ -12,7 +12,7 @@ use crate::event::PermitEvent;
 use atomic_table::{Join, Play, Split, TableRule};
 use std::collections::LinkedList;
 
-/// Where a pass stands between two steps.
+/// What a pass is doing between two steps.
 pub enum Phase {
     /// Between two calls.
     Idle,
@@ -22,7 +22,7 @@ pub enum Phase {
     Joining(u64, LinkedList<PermitEvent>, LinkedList<PermitEvent>),
     /// Between the two loads of a split: a new pass, which has no number of its own yet.
     Splitting,
-    /// Joined away.
+    /// Joined into another pass.
     Joined,
 }
 
@@ -34,11 +34,11 @@ pub struct View {
     pub max: u64,
     /// The permit history as far as the pass has seen it.
     pub seen: LinkedList<PermitEvent>,
-    /// Where the pass stands.
+    /// What the pass is doing.
     pub phase: Phase,
 }
 
-// The rule of a table with one word, the number of free permits, and no slot. The key is the number at the start.
+// The rule of a table with one word, the number of free permits, and no slots. The key is the number at the start.
 pub(crate) struct PermitRule;
 
 impl TableRule<(), View, u32> for PermitRule {
@@ -89,7 +89,7 @@ impl Play<(), View> for Raise {
     ghost then = { AfterAdd Raised };
 }
 
-// The load that makes a pass from none.
+// The load that makes a pass from none, not by a split.
 pub(crate) struct NewPass;
 
 impl Play<(), View> for NewPass {
@@ -119,7 +119,7 @@ impl Split<View> for Copied {
     ghost right = { splitting_view };
 }
 
-// A pass that another joins takes the longer of the two histories.
+// When a pass joins another, it takes the longer of the two histories.
 pub(crate) struct Merged;
 
 impl Join<View> for Merged {

@@ -1,5 +1,5 @@
-//! The single steps in which callers take permits, give them back, retire them and raise them again, and what each of them shows.
-//! A try to take a permit is two steps, a load and an exchange, between which other callers may step in.
+//! The single steps by which callers take permits, give them back, retire them and raise them again, and what each step shows. A
+//! try to take a permit is two steps, a load and an exchange. Other callers may step in between.
 ghost use Rattle.std.specs.Prelude.{◌≡◌};
 ghost use Rattle.resil_permit.specs.WordMachine.{caller_of, event_shown};
 
@@ -8,15 +8,15 @@ use crate::event::PermitEvent;
 /// One atomic step on the word, with the number of its caller.
 #[derive(Clone, Copy, PartialEq, Eq, Debug)]
 pub enum Step {
-    /// Reads the number of free permits. By a caller that has loaded none.
+    /// Reads the number of free permits. Its caller must not have loaded one already.
     Load(u16),
-    /// Takes a permit if the word is still what the caller loaded. By a caller that has loaded a number.
+    /// Takes a permit if the word is still what the caller loaded. Its caller must have loaded a number.
     Exchange(u16),
-    /// Gives a permit back. By a caller that holds one and has loaded no number.
+    /// Gives a permit back. Its caller must hold one and have loaded no number.
     Add(u16),
-    /// Keeps a permit back, so that one less is in use. By a caller that holds one and has loaded no number.
+    /// Keeps a permit back, so that one less is in use. Its caller must hold one and have loaded no number.
     Retire(u16),
-    /// Puts a permit back into use. By a caller that has retired one and has loaded no number.
+    /// Puts a permit back into use. Its caller must have retired one and have loaded no number.
     Raise(u16),
 }
 
@@ -25,17 +25,17 @@ pub enum Step {
 pub enum Shown {
     /// A load found free permits.
     Loaded,
-    /// A load found none: the caller is refused.
+    /// A load found no free permit: the caller is refused.
     Refused,
     /// An exchange took a permit.
     Took,
-    /// An exchange found another number than its caller had loaded, and changed nothing.
+    /// An exchange found a number other than the one its caller had loaded, and changed nothing.
     Lost,
     /// An add gave a permit back.
     Gave,
-    /// A retire kept a permit back, and left the word as it was.
+    /// A retire kept a permit back and left the word as it was.
     Retired,
-    /// A raise put a permit back into use, which is free now.
+    /// A raise put a permit back into use, and the permit is now free.
     Raised,
 }
 
@@ -54,7 +54,7 @@ impl Step {
 }
 
 impl Shown {
-    // The event of the permit history that the step was, if it was one.
+    // The event that the step adds to the permit history, if it adds one.
     pub(crate) fn event(self, caller: u16) -> Option<PermitEvent>
         ensures { result ≡ event_shown caller self }
     {

@@ -1,7 +1,7 @@
-//! The running word machine: one word, and what each caller has loaded, holds and has retired.
+//! The running word machine: one word, and for each caller what it has loaded, holds and has retired.
 //!
-//! There is an entry for each number that a caller can have, so a step looks one entry up and allocates nothing. After
-//! the same steps it has the state that the word machine of the definitions has.
+//! There is an entry for each number that a caller can have, so a step looks up one entry and allocates nothing. After
+//! the same steps it has the same state as the word machine of the definitions.
 ghost use Rattle.std.specs.Prelude.{◌≤◌, IfOk};
 ghost use Rattle.resil_permit.specs.declared.step.Step.TheVariants.{Load, Exchange, Add, Retire, Raise};
 ghost use Rattle.resil_permit.specs.WordMachine.{start};

@@ -76,7 +76,7 @@ module _ (opening : Opening) (words : List ℕ) (homes : List (m.Option (Option 
         own = n.all_own;
         no_others = n.no_others;
         submissions = submissions;
-        at_once = λ sizes. omega (arith, running-within_workers _ _ k.stood.1.legal, workers-within_opening _ _ sizes k.stood.1.legal);
+        at_once = λ sizes. omega (arith, running-within_workers _ _ k.stood.1.legal, workers-within_opening _ _ sizes.max.0 k.stood.1.legal);
         out_runs = due-runs opening k.log k.stood.0.machine k.stood.1;
         closer = record { seat = k.opener.seat; first = k.opener.first; there = k.opener.there; number = n.numbered 0 k.opener.seat k.opener.first k.opener.there; counted = n.counted k.opener.seat k.opener.first };
       }

@@ -11,7 +11,7 @@ use Rattle.resil_pool.specs.Lock.{View, closer_number, events_in, picked_in, end
 abbrev pub turn : List ℕ → ℕ
 turn words = slice_index words 0
 
--- what lies in a slot, unless it is out with a seat
+-- what is in a slot, unless a seat has it
 abbrev pub Home : Type 0
 Home = math.Option (Option State)
 
@@ -29,7 +29,7 @@ abbrev pub AreNumbersApart : List View → Type 0
 AreNumbersApart views =
     (index other : ℕ) (v w : View) → IsSeatAt views index v → IsSeatAt views other w → index ≢ other → is_there v.phase ≡ true → is_there w.phase ≡ true → v.number ≢ w.number
 
--- each submission in the history stands, with its plan, in what the seat of its caller has seen, unless that seat was joined away
+-- each submission in the history is, with its plan, in what the seat of its caller has seen, unless that seat was joined away
 abbrev pub StandWithTheirCallers : List LoggedEvent → List View → Type 0
 StandWithTheirCallers history views =
     (submission : LoggedEvent) (id : Id) (reply : Reply) → Contains history submission → submission.note ≡ note.Event (Submit id reply)
@@ -43,12 +43,13 @@ pub record HasCloser (views : List View) : Type 0 where
   pub number : seat.number ≡ closer_number
   pub counted : seat.made ≡ length views
 
--- What holds between any two steps of a pool of these limits. There is one word, the turn, which is 0 or 1, and one slot. The word is 1 exactly while one seat
--- holds the turn, and 0 exactly while none does. The machine is in the slot exactly while the word is 0, and the slot is out exactly while it is 1. The history
--- is legal, and it is the longest that a seat has seen; what every other seat has seen is a prefix of it. In the slot the machine has the limits of the opening,
--- the events of the history, and as plans of its accepted jobs those of the history; the holder of the turn keeps what it had there. A seat's number is its
--- index, so all numbers differ; each seat has seen its own events, in their order, and there are no others; so each submission stands with its caller. Never
--- more jobs run than the greatest size of the opening says, and those that were picked and not ended are among them. The closer has a seat of its own
+-- What holds between any two steps of a pool of these limits. There is one word, the turn, which is 0 or 1, and one slot. The word is 1 exactly while
+-- one seat holds the turn, and 0 exactly while none does. The machine is in the slot exactly while the word is 0, and the slot is out exactly while
+-- it is 1. The history is legal, and it is the longest that a seat has seen; what every other seat has seen is a prefix of it. In the slot the
+-- machine has the limits that the pool was opened with, the events of the history, and as plans of its accepted jobs those of the history; the holder
+-- of the turn keeps what it had there. A seat's number is its index, so all numbers differ; each seat has seen its own events, in their order, and
+-- there are no others; so each submission is with its caller. There are never more jobs running than the maximum size that the pool was opened with,
+-- and those picked and not ended are among them. The closer has a seat of its own
 pub record HoldsBetweenTurns (limits : Sizes) (words : List ℕ) (homes : List Home) (views : List View) : Type 0 where
   pub one_word : length words ≡ 1
   pub one_slot : length homes ≡ 1

@@ -31,17 +31,17 @@ abbrev pub IsReceiptsDiffer : DrainFault → Type 0
 IsReceiptsDiffer ReceiptsDiffer = Unit {0}
 IsReceiptsDiffer _ = ⊥
 
--- the answer is a refusal, of which P holds
+-- the result is a refusal, and P holds of it
 abbrev pub IsDrainError : (DrainFault → Type 0) → Result DrainReport DrainFault → Type 0
 IsDrainError P (Ok report) = ⊥
 IsDrainError P (Err fault) = P fault
 
--- where a part is missing, all that were handed in come back
+-- if a part is missing, everything that was passed in comes back
 abbrev pub HandsBack : PoolView → SeatView → List CallerView → List EndView → DrainFault → Type 0
 HandsBack pool closer callers ends (PartMissing pool' closer' callers' ends') = (pool' ≡ pool) × (closer' ≡ closer) × (callers'.items ≡ callers) × (ends'.items ≡ ends)
 HandsBack pool closer callers ends _ = Unit {0}
 
--- what the machine was left with isn't what the receipts say
+-- what is left of the machine isn't what the receipts say
 abbrev pub Differ : ℕ → MachineView → List (List Receipt) → Type 0
 Differ callers machine receipts = (rows : List Row) → AreResultsOf machine.jobs rows → ¬ AgreeWithReceipts callers machine.history rows receipts
 
@@ -49,9 +49,10 @@ Differ callers machine receipts = (rows : List Row) → AreResultsOf machine.job
 abbrev pub HasRefused : List EndView → Type 0
 HasRefused ends = Any (λ e. IsSome e.refused) ends
 
--- How a drain ended that had all its parts: what its machine was left with, closed, of the pool's limits, in whose history each submission names one of the pool's
--- callers and those of each are on its receipts, as are the plans of its results, whatever the drain answers; whether each run that it made itself was accepted, after which nothing is left to pick, or one was refused, with which the machine
--- was left; and what of these is behind each refusal
+-- How a drain ended that had all its parts: what was left of its machine, closed, of the pool's limits; each submission in its history names one of
+-- the pool's callers and those of each are on its receipts, as are the plans of its results, whatever the drain returns; whether each run that it
+-- made itself was accepted, after which nothing is left to pick, or one was refused, and the machine was left as it is with that; and which of these
+-- causes each refusal
 pub record Ended (pool : PoolView) (callers : List CallerView) (ends : List EndView) (answer : Result DrainReport DrainFault) : Type 0 where
   pub machine : MachineView
   pub receipts : List (List Receipt)

@@ -1,4 +1,4 @@
--- How a proof stores a worker's end: as what is seen of its seat, since no run of it was refused.
+-- How a proof stores a worker's end: as what its seat has seen, since no run of it was refused.
 use Rattle.std.specs.Prelude.{◌≡◌, Option, Some, None, refl}
 use Rattle.std.specs.Coded.{Coded, code_by}
 use Rattle.resil_pool.specs.Words.{RunView}

@@ -1,4 +1,4 @@
--- What a pool whose rows are held has in its history first: the rows, in their order, and the closing.
+-- What comes first in the history of a pool whose rows are held: the rows, in their order, and the closing.
 use Rattle.std.specs.Prelude.{◌≡◌, ◌↔◌, ◌++◌, ◌∷◌, ℕ, Bool, IsTrue, List, Option, Some, None, map}
 use Rattle.resil_pool.specs.Words.{JobRow, Sizes, Event, Submit, Close, LoggedEvent}
 use Rattle.resil_pool.specs.Lock.{log_event, events_in, closer_number, SeesOwn}
@@ -22,7 +22,8 @@ pub record BeginsWithRows (rows : List JobRow) (history : List Event) : Type 0 w
   pub in_order : AreRows rows submissions
   pub closed_next : history ≡ submissions ++ Close ∷ rest
 
--- where the closer closed the pool in between, the answer says whether what stands before the closing is the rows' submissions, in their order, and nothing else
+-- if the closer closed the pool in between, the result says whether what comes before the closing is the rows' submissions, in their order, and
+-- nothing else
 abbrev pub TellsOfRows : Bool → List JobRow → Sizes → List LoggedEvent → List LoggedEvent → Type 0
 TellsOfRows answer rows limits old new =
     (closing : SeesOwn limits closer_number old (log_event None Close) new) → (IsTrue answer ↔ AreRows rows (events_in closing.before))

@@ -1,4 +1,4 @@
--- The lock of a pool: what its log is made of, what lies under it, and what one turn does.
+-- The lock of a pool: what its log is made of, what it protects, and what one turn does.
 pub mod LoggedEvent
 pub mod Protocol
 pub mod Turn

@@ -1,4 +1,4 @@
--- That each submission in a pool's history names one of its callers, and which machines are left so that this stays true.
+-- Each submission in a pool's history names one of its callers; and which machines keep this true.
 use Rattle.std.specs.Prelude.{◌≤◌, ℕ}
 use Rattle.resil_admission.specs.MachineView.{MachineView}
 use Rattle.resil_pool.specs.Lock.{AllNameCallers, events_in, LockSeatState}

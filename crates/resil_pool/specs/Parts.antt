@@ -5,14 +5,14 @@ use Rattle.resil_pool.specs.Words.{Ticket, TableId, PlanView, RunView, IsLegal, 
 use Rattle.resil_pool.specs.Lock.{log_event, events_in, closer_number, own_in, runs_in, LockSeatState, PoolId, pool_id, IsResting}
 use Rattle.resil_lock.specs.declared.protocol.Rank.TheVariants.{Member}
 
--- a closer, a worker: which pool it is of, what it has seen, what its own turns wrote, and the runs with which it has ended jobs
+-- a closer, a worker: which pool it belongs to, what it has seen, what its own turns wrote, and the runs with which it has ended jobs
 pub record SeatView : Type 0 where
   pub source : PoolId
   pub seen : List LoggedEvent
   pub wrote : List LoggedEvent
   pub runs : List Row
 
--- the pool that a seat is of
+-- the pool that a seat belongs to
 abbrev pub source_of : TableId → LockSeatState → PoolId
 source_of table me = pool_id table me.0.key
 
@@ -36,7 +36,8 @@ abbrev pub IsNoRun : Option RunView → Type 0
 IsNoRun None = Unit {0}
 IsNoRun (Some run) = ⊥
 
--- a worker's end: what it has seen, what its own turns wrote, the runs with which it has ended jobs, and the first run that was refused, which is none
+-- a worker's end: what it has seen, what its own turns wrote, the runs with which it has ended jobs, and the first run that was refused, if any;
+-- there is none
 pub record EndView : Type 0 where
   pub source : PoolId
   pub seen : List LoggedEvent
@@ -56,7 +57,7 @@ submission_id caller number = record { caller = caller; number = number }
 abbrev pub submit_of : ℕ → Receipt → Event
 submit_of caller receipt = Submit (submission_id caller receipt.number) receipt.reply
 
--- a caller's submission with this receipt, with the plan of its job beside it
+-- a caller's submission with this receipt, with the plan of its job
 abbrev pub submission_of : ℕ → Receipt → LoggedEvent
 submission_of caller receipt = log_event (Some receipt.plan) (submit_of caller receipt)
 

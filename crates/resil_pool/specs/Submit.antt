@@ -1,9 +1,9 @@
--- What a submission makes of the machine.
+-- What a submission does to the machine.
 use Rattle.std.specs.Prelude.{◌≡◌, ◌∷◌, [], List, Some, Result, IfOk, IfErr, OnErr}
 use Rattle.resil_pool.specs.Words.{AdmitError, PlanView, IsAllowed, MachineView, with_submission, IsSubmitRefusal, Id, Reply, Submit, LoggedEvent}
 use Rattle.resil_pool.specs.Lock.{log_event}
 
--- the answer to a submission: it was allowed and written, with its plan, or nothing was and the job comes back
+-- the result of a submission: it was allowed and written, with its plan, or nothing was and the job comes back
 pub record AnswersSubmission (old : MachineView) (id : Id) (job : PlanView) (answer : Result Reply (AdmitError × PlanView)) (entries : List LoggedEvent) (new : MachineView) : Type 0 where
   pub event : IfOk answer (λ reply. new ≡ with_submission old id reply job)
   pub allowed : IfOk answer (λ reply. IsAllowed old.limits old.history (Submit id reply))

@@ -1,4 +1,4 @@
--- The words of other crates and the types of this one that the definitions and laws here speak of, from one place.
+-- The names from other crates, and the types of this one, that the definitions and laws here use, in one place.
 use Rattle.resil_lock.specs.declared.log.Logged.{Logged}
 use Rattle.resil_pool.specs.declared.lock.logged_event.Carried.{Carried}
 pub use mathlib.Core.List.{IsPrefix}

@@ -1,4 +1,4 @@
--- What a worker finds when it looks for a job, and with which permitter it runs one.
+-- What a worker finds when it polls for a job, and with which permitter it runs one.
 use Rattle.std.specs.Prelude.{◌≡◌, ◌⊎◌, ◌++◌, ◌∷◌, [], ℕ, Bool, List, All, Contains, Option, Some, None, option_map, find, filter, flat_map, map, not, true}
 use Rattle.resil_lock.specs.declared.work.Look.{Look}
 use Rattle.resil_lock.specs.declared.work.Look.TheVariants.{Nothing}
@@ -13,8 +13,8 @@ AllowsNoTake limits history = (id : Id) → ¬ IsAllowed limits history (Take id
 abbrev pub HasNoTake : MachineView → Type 0
 HasNoTake m = AllowsNoTake m.limits m.history
 
--- An idle worker has asked to end: where the rule of admission allows it, its end was written, and else nothing. No job may be taken then,
--- and a closed pool is still closed.
+-- An idle worker has asked to end: if the rule of admission allows it, its end was written, otherwise nothing. No job may then be taken, and a closed
+-- pool is still closed.
 pub record EndsIdle (old new : MachineView) (entries : List LoggedEvent) : Type 0 where
   pub ends : IsAllowed old.limits old.history IdleEnd → new ≡ with_event old IdleEnd
   pub wrote : IsMoved old entries new
@@ -27,12 +27,12 @@ pub record IsAtEnd (limits : Sizes) (history : List Event) : Type 0 where
   pub closed : is_closed history ≡ true
   pub no_take : AllowsNoTake limits history
 
--- P holds if the look found no job, and the worker looks on
+-- P holds if the poll found no job and the worker goes on polling
 abbrev pub OnNoJob : {J : Type 0} → Look J → Type 0 → Type 0
 OnNoJob Nothing P = P
 OnNoJob _ P = Unit {0}
 
--- the log keeps this plan beside the accepted submission of this id: the jobs of which it keeps the plans have it there
+-- the log keeps this plan with the accepted submission of this id: the jobs with plans kept in the log have it under that id
 pub record KeepsPlan (log : List LoggedEvent) (id : Id) (plan : PlanView) : Type 0 where
   pub jobs : List Accepted
   pub kept : map plan_entry jobs ≡ plans_in log
@@ -46,41 +46,41 @@ takes_in log = taken (events_in log)
 abbrev pub TakesAtMost : Id → List Id → List Id → Type 0
 TakesAtMost id before after = (after ≡ before) ⊎ (after ≡ before ++ id ∷ [])
 
--- a machine that stands for this log refuses to end this job with this run
+-- a machine that represents this log refuses to end this job with this run
 pub record IsRealRefusal (limits : Sizes) (log : List LoggedEvent) (id : Id) (run : RunView) : Type 0 where
   pub machine : MachineView
   pub why : AdmitError
   pub home : MatchesLog limits log machine
   pub refused : IsFinishRefusal machine id run.plan why
 
--- the run was refused for a reason, where the seat had seen no more than this
+-- the run was refused for a reason; the seat had seen no more than this
 abbrev pub WasRefused : Sizes → List LoggedEvent → RunView → Type 0
 WasRefused limits seen run = (id : Id) × (log : List LoggedEvent) × IsPrefix log seen × IsRealRefusal limits log id run
 
--- the answers that these runs were given, one run after the other
+-- the answers that these runs got, one run after the other
 abbrev pub asked_in : List Row → List Asked
 asked_in made = flat_map (λ row. row.run.asked) made
 
--- A job was run with a permitter, which gave the answers of its run in between, and no others. The seat that had ended the jobs of
--- some runs has ended this one too, with its run.
+-- A job was run with a permitter, which gave the answers of its run in between, and no others. The seat that had ended the jobs of some runs has also
+-- ended this one, with its run.
 pub record HasRunJob {P : Type 0} (Between : P → List Asked → P → Type 0) (permitter permitter' : P) (id : Id) (job : PlanView) (before after : List Row) : Type 0 where
   pub run : RunView
   pub plan : run.plan ≡ job
   pub answered : Between permitter run.asked permitter'
   pub ended : after ≡ before ++ record { id = id; run = run } ∷ []
 
--- Jobs were run with a permitter, one after the other, which gave the answers of their runs in between, and no others: for each run it
--- is said whether the pool kept it. The seat has ended the jobs of those that were kept, and no others.
+-- Jobs were run with a permitter, one after the other, which gave the answers of their runs in between, and no others. Each run has a mark that says
+-- whether the pool kept it. The seat has ended the jobs of those that were kept, and no others.
 pub record HasRunJobs {P : Type 0} (Between : P → List Asked → P → Type 0) (permitter permitter' : P) (before after : List Row) : Type 0 where
   pub made : List (Row × Bool)
   pub answered : Between permitter (asked_in (map (λ m. m.0) made)) permitter'
   pub ended : after ≡ before ++ map (λ m. m.0) (filter (λ m. m.1) made)
 
--- of runs, of each of which it is said whether the pool kept it, the first that it didn't keep
+-- the first of these runs that the pool didn't keep; each has a mark that says whether it did
 abbrev pub first_refused : List (Row × Bool) → Option RunView
 first_refused made = option_map (λ m. m.0.run) (find (λ m. not m.1) made)
 
--- jobs were run with a permitter, and this is the first run that the pool didn't keep, where there is one
+-- jobs were run with a permitter, and this is the first run that the pool didn't keep, if there is one
 abbrev pub HasFirstRefusal : {P : Type 0} → (P → List Asked → P → Type 0) → P → P → List Row → List Row → Option RunView → Type 0
 HasFirstRefusal Between permitter permitter' before after refused = (ran : HasRunJobs Between permitter permitter' before after) × (refused ≡ first_refused ran.made)
 
@@ -92,11 +92,12 @@ EndsWith history event = (before : List Event) × (history ≡ before ++ event �
 abbrev pub RunsItsTakes : List Id → List Id → List (Row × Bool) → Type 0
 RunsItsTakes before after made = (took : List Id) × (after ≡ before ++ took) × All (λ id. Contains (map (λ m. m.0.id) made) id) took
 
--- jobs were run with a permitter, among them each that the seat took from the queue, and this is the first run that the pool didn't keep, where there is one
+-- jobs were run with a permitter, among them each that the seat took from the queue, and this is the first run that the pool didn't keep, if there is
+-- one
 abbrev pub HasRunTakes : {P : Type 0} → (P → List Asked → P → Type 0) → P → P → List Row → List Row → List Id → List Id → Option RunView → Type 0
 HasRunTakes Between permitter permitter' before after takes takes' refused = (ran : HasRunJobs Between permitter permitter' before after) × (refused ≡ first_refused ran.made) × RunsItsTakes takes takes' ran.made
 
--- No job was run: the permitter was asked nothing, no job was taken from the queue, and none was ended.
+-- No job was run: the permitter got no question, no job was taken from the queue, and none was ended.
 pub record HasRunNone {P : Type 0} (permitter permitter' : P) (before after : List Row) (takes takes' : List Id) : Type 0 where
   pub took_none : takes' ≡ takes
   pub unasked : permitter' ≡ permitter
@@ -109,14 +110,15 @@ pub record HasRunOne {P : Type 0} (Between : P → List Asked → P → Type 0) 
   pub ran : HasRunJob Between permitter permitter' id job before after
   pub took : TakesAtMost id takes takes'
 
--- What one round of a worker leaves: its seat has seen more, at most one job was run, and the permitter holds what it held.
+-- What one round of a worker leaves: its seat has seen more, at most one job was run, and the permitter holds what it held before.
 pub record HasMadeRound {P : Type 0} (Between : P → List Asked → P → Type 0) (held : P → ℕ → ℕ) (permitter permitter' : P) (before after : View) : Type 0 where
   pub limits : after.key ≡ before.key
   pub begins : IsPrefix before.seen after.seen
   pub ran : HasRunNone permitter permitter' (runs_in before.own) (runs_in after.own) (takes_in before.own) (takes_in after.own) ⊎ HasRunOne Between permitter permitter' (runs_in before.own) (runs_in after.own) (takes_in before.own) (takes_in after.own)
   pub holds : (id : ℕ) → held permitter' id ≡ held permitter id
 
--- What all rounds of a worker at work leave of it: its seat has seen more, jobs were run with the permitter, which holds what it held, and no run was refused.
+-- What all rounds of a worker leave: its seat has seen more, jobs were run with the permitter, which holds what it held before, and no run was
+-- refused.
 pub record HasWorked {P H : Type 0} (Between : P → List Asked → P → Type 0) (held : P → ℕ → ℕ) (x y : AtWork P H) : Type 0 where
   pub pool : y.pool ≡ x.pool
   pub seat : y.seat.ghost_name ≡ x.seat.ghost_name

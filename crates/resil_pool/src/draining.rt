@@ -1,16 +1,16 @@
-//! Draining a pool, with which its life ends: `drain` closes it, takes the machine out for good, joins the callers
-//! away, runs what is left with the permitter and takes the machine apart.
+//! Draining a pool, which ends its life: `drain` closes it, takes the machine out for good, joins the callers into the
+//! closer, runs what is left with the permitter, and takes the machine apart.
 //!
-//! A report comes out of a pool only if all its parts are handed in: a caller of each number, and an end of each
-//! worker. Then every accepted job has exactly one result, and the history, the results and the receipts agree.
-//! The history is legal whatever the threads did, since each turn wrote what the rule of admission allows. It agrees with the
-//! receipts, and each result is of the plan on its receipt, by the rule of the lock. So nothing is compared, and no drain
-//! answers `ReceiptsDiffer`. No run of the drain's own is refused, since a job that it picks was ended by nobody.
+//! A pool gives a report only if all its parts are passed in: a caller of each number, and an end of each worker. Then every
+//! accepted job has exactly one result, and the history, the results and the receipts agree. The history is legal whatever
+//! the threads did, since each turn wrote what the rule of admission allows. By the rule of the lock it agrees with the
+//! receipts, and each result is of the plan on its receipt. So nothing is compared, and no drain returns `ReceiptsDiffer`. No
+//! run of the drain's own is refused, since nobody else has ended a job that it picks.
 //!
-//! The callers are joined away while the closer holds the lock. It has seen the whole history then, so each caller's
-//! submissions there are those on its receipts, whatever the drain answers.
+//! The callers are joined while the closer holds the lock. The closer has then seen the whole history, so each caller's
+//! submissions in it are those on its receipts, whatever the drain returns.
 //!
-//! `callers` joins the callers away and puts their receipts in order, and `report` has what comes out.
+//! `callers` joins the callers and puts their receipts in order, and `report` is what comes out.
 
 ghost use Rattle.std.specs.Prelude.{◌≡◌, ◌↔◌, ℕ, true, false, List, All, Any, IsSome, IsTrue, IfOk, IfErr, map};
 ghost use Rattle.resil_pool.specs.Words.{IsPrefix, IsLegal, is_closed, HasNoneToPick, Event, Row};
@@ -53,14 +53,14 @@ fn run_remaining<R: Wait, P: Permitter>(rt: &R, machine: &mut Machine, permitter
     unreachable!()
 }
 
-/// Drains a pool. Where all its parts are handed in, it closes it if it is open, takes the machine out and joins the callers
-/// away. Then it runs what is left with the permitter, and takes the machine apart. So there is a closing in the history of a
-/// report. It allocates nothing; it waits while other seats hold the turn.
+/// Drains a pool. If all its parts are passed in, it closes the pool if that is open, takes the machine out and joins the
+/// callers. Then it runs what is left with the permitter, and takes the machine apart. So the history of a report has a
+/// closing. It allocates nothing; it waits while other seats hold the turn.
 ///
 /// # Errors
 ///
-/// In this order: `PartMissing` where a caller or a worker's end is missing, with all that was handed in;
-/// `Stranger` where an accepted job has no result. `ReceiptsDiffer` doesn't come: the rule of the lock excludes it.
+/// In this order: `PartMissing` if a caller or a worker's end is missing, with everything that was passed in; `Stranger` if
+/// an accepted job has no result. `ReceiptsDiffer` never occurs: the rule of the lock excludes it.
 ///
 /// ```
 /// let mut no_bulkheads = Passes::new(&rt, &[], Vec::new(alloc));

@@ -1,5 +1,4 @@
-//! Rows that are held, and the closing after them: all of them stand in the history, in their order, and nothing else,
-//! before the closing.
+//! Rows that are held, and the closing after them: before the closing, the history has all of them, in their order, and nothing else.
 //!
 //! No other seat is used before the pool is closed. Contracts see one seat at a time, so the closer compares the history with the
 //! rows while it holds the lock.
@@ -23,7 +22,7 @@ use std::sync::Wait;
 pub struct JobRow {
     /// The caller's number, from 1.
     pub caller: u16,
-    /// What the job runs.
+    /// The plan that the job runs.
     pub plan: Plan,
 }
 
@@ -43,7 +42,7 @@ fn are_rows(events: &[Event], rows: &[JobRow]) -> bool
 }
 
 impl State {
-    // Closes the machine, if it is open, and says whether its history was that of the rows.
+    // Closes the machine, if it is open, and returns whether its history was that of the rows.
     fn close_after_rows(&mut self, rows: &[JobRow]) -> bool
         ensures wrote { IsMoved self.old.machine (told self.new) self.new.machine }
         ensures closes { WritesAtMost Event.Close (told self.new) }
@@ -56,8 +55,8 @@ impl State {
     }
 }
 
-/// Closes the pool, in one turn, and says whether all rows were submitted in their order before, and nothing else was
-/// written. It is for `resil_workers`; `Pool::close` closes a pool for everyone else.
+/// Closes the pool, in one turn, and returns whether all rows were submitted before, in their order, and nothing else was
+/// written. It is for `resil_workers`; everyone else closes a pool with `Pool::close`.
 pub fn close_held<R: Wait>(rt: &R, pool: &Pool, closer: &mut Closer, rows: &[JobRow]) -> bool
     requires { closer.old.source ≡ pool.now.source }
     ensures source { closer.new.source ≡ closer.old.source }

@@ -1,8 +1,8 @@
-//! What a worker tells of each job that it runs, before and after the run. A hook never changes what a pool does.
+//! What a worker calls before and after each job that it runs. A hook never changes what a pool does.
 
 use resil_admission::Id;
 
-/// What a worker calls around each job, while it doesn't hold the lock.
+/// Functions that a worker calls around each job, while it doesn't hold the lock.
 ///
 /// ```
 /// impl Hook for Counts {
@@ -16,17 +16,17 @@ use resil_admission::Id;
 /// }
 /// ```
 pub trait Hook {
-    /// Called before a job runs. It was picked: if it waited in the queue, its take stands in the history. The worker
-    /// doesn't hold the lock, so a hook may submit jobs with a caller of its own: they stand after that take.
+    /// Called before a job runs. The job was picked: if it waited in the queue, its take is in the history. The
+    /// worker doesn't hold the lock, so a hook may submit jobs with a caller of its own: they come after that take.
     fn before(&self, id: Id);
 
-    /// Called after the pool has accepted the end of its run: its finish stands in the history, and so before any
-    /// submission that the hook makes. Until it returns, this worker looks for no job; another one may look up to
-    /// 64 ms later for a job that the finish left to pick.
+    /// Called after the pool has accepted the end of its run: its finish is in the history, and so before any
+    /// submission that the hook makes. Until the hook returns, this worker polls for no job; another one may poll up
+    /// to 64 ms later for a job that the finish made available.
     fn after(&self, id: Id);
 }
 
-/// Nothing before or after a job.
+/// Does nothing before or after a job.
 ///
 /// ```
 /// pool.close(&rt, &mut closer);

@@ -1,4 +1,4 @@
-//! The laws of the turn, each a function whose contract it is.
+//! The laws of the turn. Each is a function whose contract states the law.
 ghost use Rattle.std.specs.Prelude.{◌≡◌, ℕ, [], Option, None};
 ghost use Rattle.atomic_table.specs.Table as table;
 ghost use Rattle.resil_pool.specs.Words.{PlanView, RunView, MachineView, with_submission, with_finish, IsPicked, Id, Reply, LoggedEvent, State as Lot, Opening};
@@ -13,16 +13,16 @@ use resil_admission::Event;
 use resil_lock::{BoxedState, LockRule, View};
 
 /// Between any two steps, whichever threads make them, the word is 1 exactly while one seat holds the turn, and the
-/// machine is in its slot exactly while the word is 0. There is one legal history, the machine's, of which every seat
-/// has seen a prefix with all events of its own. All seats have different numbers. Never more jobs run than the greatest
-/// size of the opening says, and a job that was picked and not ended is one of them.
+/// machine is in its slot exactly while the word is 0. There is one legal history, the machine's. Every seat has seen a
+/// prefix of it that includes all its own events. All seats have different numbers. There are never more jobs running
+/// than the maximum size that the pool was opened with, and each job that was picked and not ended is one of them.
 pub fn holds_between_turns()
     ensures { (opening : Opening) (s : table.State (Option Lot) (View Opening LoggedEvent)) → ⟦<LockRule<BoxedState<State>> as TableRule<Option<BoxedState<State>>, View<Opening, LoggedEvent>, Opening>>⟧.holds opening s → HoldsBetweenTurns opening.limits s.words s.homes s.views }
 {}
 
-/// In a pool with this many callers, each submission in the history names one of them, from 1 to their number. It is so
-/// at the opening. A turn of a caller keeps it, whatever it writes, and so does a turn of the closer. A submission, a
-/// pick, a finish, what a worker writes, a closing and a resize keep it too.
+/// In a pool with this many callers, each submission in the history names one of them, from 1 to their number. This is
+/// true when the pool is opened. A turn of a caller keeps it true, whatever it writes, and so does a turn of the closer.
+/// So do a submission, a pick, a finish, anything that a worker writes, a closing and a resize.
 pub fn submissions_name_callers()
     ensures opening { (callers : ℕ) → AllNameCallers callers [] }
     ensures callers_turn { (callers : ℕ) (me : LockSeatState) (plan : Option PlanView) (machine : MachineView) → IsCallersNumber callers me.0.number → IsTurn me plan machine → LeavesNames callers me machine }

@@ -1,12 +1,12 @@
-//! The lock of a pool, whose release tells the next holder the whole history.
+//! The lock of a pool, which passes the whole history on to the next holder.
 //!
 //! Many seats share one machine by it. Each call of a pool is one turn: it takes the state, lets it write at most one event, and
-//! releases the lock. So each holder finds the machine as the holder before has left it, and all events stand in one legal
-//! history. All seats are cut from the closer's, and a seat's number is its index among all. What a seat has seen is a prefix of
-//! the history with all submissions of its own.
+//! releases the lock. So each holder finds the machine as the previous one left it, and all events are in one legal history. All
+//! seats are split from the closer's, and a seat's number is its index among all. What a seat has seen is a prefix of the
+//! history with all submissions of its own.
 //!
-//! `state` is what lies under the lock, with a plan as `plan_seen` has it. `logged_event` is what the history is made of, and
-//! `opening` what is fixed when a pool is opened. Each turn begins by `Lock::take` and ends by `Lock::release`.
+//! `state` is what the lock protects, with plans as `plan_seen` has them. `logged_event` is what the history is made of, and
+//! `opening` what is fixed when a pool is opened. Each turn begins with `Lock::take` and ends with `Lock::release`.
 
 mod logged_event;
 mod opening;
@@ -22,5 +22,5 @@ pub(crate) use state::{State, Written, note_if};
 /// The lock over the machine, which threads share.
 pub(crate) type Lock = resil_lock::Lock<BoxedState<State>>;
 
-/// What one thread takes the lock with. Contracts alone see what it has seen of the history, and what its own turns wrote.
+/// What one thread takes the lock with. Only contracts see what it has seen of the history, and what its own turns wrote.
 pub(crate) type LockSeat = resil_lock::LockSeat<BoxedState<State>, Opening, LoggedEvent>;

@@ -1,8 +1,8 @@
 //! The parts of a pool, one for each thread that uses it: its callers, its workers and their ends, its closer.
 //!
-//! Each has a seat of the pool's lock. What a seat has seen of the history, and what its own turns wrote there, is for
-//! contracts alone: no running code reads it. Between two calls a seat doesn't hold the lock, what it has seen is legal, and a caller's receipts are
-//! its own submissions in what it has seen.
+//! Each has a seat of the pool's lock. What a seat has seen of the history, and what its own turns wrote there, is for contracts alone: no running
+//! code reads it. Between two calls a seat doesn't hold the lock, what it has seen is legal, and a caller's receipts are its own submissions in what
+//! it has seen.
 
 ghost use Rattle.std.specs.Prelude.{◌≡◌};
 ghost use Rattle.resil_pool.specs.Parts.{end_of};
@@ -27,7 +27,7 @@ impl Model for Closer {
     ghost invariant = { λ c. IsCloser c.seat.me };
 }
 
-/// What one thread submits jobs with, under a number of its own.
+/// What one thread submits jobs with. It has a number of its own.
 ///
 /// ```
 /// let ticket = pool.submit(&rt, alloc, &mut caller, job).map_err(|refused| refused.0)?;
@@ -38,7 +38,7 @@ pub struct Caller {
     pub(crate) seat: LockSeat,
     // The seat's number, which is the caller's too.
     pub(crate) number: u16,
-    // What the caller was told of its submissions, in their order.
+    // The replies to the caller's submissions, in their order.
     pub(crate) receipts: Vec<Receipt>,
 }
 
@@ -53,14 +53,14 @@ impl Model for Caller {
 }
 
 impl Caller {
-    /// The caller's number: 1 to the number of callers.
+    /// Returns the caller's number: 1 to the number of callers.
     pub fn number(&self) -> u16
         ensures { result ≡ self.now.number }
     {
         self.number
     }
 
-    /// What the caller was told of its submissions, in their order.
+    /// Returns the replies to the caller's submissions, in their order.
     pub fn receipts(&self) -> &[Receipt]
         ensures { result.now ≡ self.now.receipts }
     {
@@ -86,7 +86,7 @@ impl Model for Worker {
 }
 
 impl Worker {
-    /// The end of a worker that never worked.
+    /// Ends a worker that never worked.
     pub fn unused(self) -> WorkerEnd
         ensures { result ≡ end_of self }
     {
@@ -95,7 +95,7 @@ impl Worker {
     }
 }
 
-/// What a worker leaves, with which its pool is drained. No run of it was refused.
+/// What a worker leaves, which draining its pool needs. No run of it was refused.
 ///
 /// ```
 /// pool.close(&rt, &mut closer);

@@ -1,7 +1,7 @@
 //! A pool from its opening to its closing.
 //!
-//! All that changes while a pool is used lies in its machine, behind the lock; the rest is set when it is opened.
-//! Opening takes all the memory that draining will need, and makes every seat: the closer's first, then the
+//! Everything that changes while a pool is used is in its machine, under the lock; the rest is set when it is opened.
+//! Opening allocates all the memory that draining will need, and makes every seat: the closer's first, then the
 //! callers' with the numbers 1, 2 and so on, then the workers'.
 
 ghost use Rattle.std.specs.Prelude.{◌≡◌, ◌<◌, ◌≤◌, ◌↔◌, ◌+◌, [], true, IfOk, IsErrOf, replicate, vec_capacity};
@@ -20,10 +20,10 @@ use std::marker::Model;
 use std::sync::Wait;
 use thiserror::Error;
 
-/// The most callers that a pool may have.
+/// The maximum number of callers of a pool.
 pub const MAX_CALLERS: u16 = 64;
 
-/// Why a pool isn't opened.
+/// Why a pool wasn't opened.
 ///
 /// ```
 /// match open_pool(alloc, limits, 20, count) {
@@ -34,10 +34,10 @@ pub const MAX_CALLERS: u16 = 64;
 /// ```
 #[derive(Clone, Copy, Debug, PartialEq, Eq, Error)]
 pub enum OpenError {
-    /// More than 64 callers were asked for.
+    /// More than 64 callers were requested.
     #[error("there are more than 64 callers")]
     TooManyCallers,
-    /// Memory ran out.
+    /// Out of memory.
     #[error("out of memory")]
     Memory,
 }
@@ -52,10 +52,10 @@ impl From<AllocError> for OpenError {
 
 /// A thread-pool bulkhead that threads share (Resilience4j user guide, Bulkhead, ThreadPoolBulkhead).
 ///
-/// Its life: open, closed, drained. From `open_pool` on it is open, and jobs are accepted by the rule of admission.
-/// `Pool::close` closes it for good: no job is accepted any more, accepted jobs still run, and a worker leaves
-/// when no job is left to pick. `drain` takes a pool with all its parts, closes it if it is open, runs what is
-/// left, and gives the report; then there is no pool any more.
+/// A pool is first open, then closed, then drained. `open_pool` returns an open pool, which accepts jobs by the rule
+/// of admission. `Pool::close` closes it for good: it accepts no more jobs, accepted jobs still run, and a worker
+/// leaves when no job is left to pick. `drain` takes a pool with all its parts, closes it if it is open, runs what is
+/// left, and returns the report; then there is no pool any more.
 ///
 /// ```
 /// let (pool, mut closer, mut callers, workers) = open_pool(alloc, limits, 20, 1)?;
@@ -65,15 +65,15 @@ impl From<AllocError> for OpenError {
 /// ```
 #[derive(Drop)]
 pub struct Pool {
-    // The lock over the machine, in which the history and the accepted jobs are.
+    // The lock over the machine, which has the history and the accepted jobs.
     pub(crate) lock: Lock,
-    // The sizes of the opening, which are the machine's too.
+    // The sizes that the pool was opened with, which are the machine's too.
     pub(crate) limits: Limits,
     // How many callers there are. Their numbers are 1 to this number, at most 64.
     pub(crate) callers: u16,
-    // After how many empty looks in a row a worker asks to end: at least 1.
+    // A worker asks to end after this many empty polls in a row: at least 1.
     pub(crate) keep_alive: u32,
-    // The report's list of receipts: empty, with room for each caller's, so that draining takes no memory.
+    // The report's list of receipts: empty, with room for each caller's, so that draining doesn't allocate.
     pub(crate) receipts: Vec<Vec<Receipt>>,
 }
 
@@ -89,17 +89,17 @@ impl Model for Pool {
     ghost invariant = { λ p. (p.lock.table.shared.key.limits ≡ p.limits) × (p.lock.table.shared.key.callers ≡ p.callers) × (p.receipts.items ≡ []) × (p.callers ≤ vec_capacity p.receipts) × (p.callers ≤ 64) };
 }
 
-/// Opens a pool of these limits with this many callers, numbered from 1, and as many workers as the greatest size.
-/// There may be no callers at all. After `keep_alive` empty looks in a row a worker asks to end; 0 means 1.
+/// Opens a pool of these limits with this many callers, numbered from 1, and as many workers as the maximum size.
+/// There may be no callers at all. After `keep_alive` empty polls in a row a worker asks to end; 0 means 1.
 ///
-/// Between two empty looks a worker sleeps, unless there is something to do: 1 ms at first, then twice as long each
-/// time, and never longer than 64 ms. So it asks after 20 empty looks in about a second, and an idle pool takes next
-/// to no processor time. A submission wakes a worker that sleeps, and the closing wakes them all. That is only tested:
-/// no clause says when a worker looks, and a wake-up that went missing would cost 64 ms at most.
+/// Between two empty polls a worker sleeps, unless there is something to do: 1 ms at first, then twice as long each
+/// time, and never longer than 64 ms. So it asks to end after 20 empty polls, in about a second, and an idle pool uses
+/// almost no processor time. A submission wakes a sleeping worker, and closing wakes them all. That is only tested: no
+/// clause says when a worker polls, and a lost wake-up would cost at most 64 ms.
 ///
 /// # Errors
 ///
-/// In this order: `TooManyCallers` where there are more than `MAX_CALLERS`; `Memory` when out of memory.
+/// In this order: `TooManyCallers` if there are more than `MAX_CALLERS`; `Memory` if out of memory.
 ///
 /// ```
 /// let limits = Limits::new(1, 4, 100)?;
@@ -154,7 +154,7 @@ fn make_lock(alloc: Global, opening: Opening) -> Result<(Lock, LockSeat), AllocE
     resil_lock::Lock::new(alloc, BoxedState { inner }, &opening)
 }
 
-// Callers, numbered from 1, in a list that has room for them.
+// Callers, numbered from 1, in a list with room for them.
 fn make_callers(
     alloc: Global,
     lock: &Lock,
@@ -180,7 +180,7 @@ fn make_callers(
     callers
 }
 
-// Workers, in a list that has room for them.
+// Workers, in a list with room for them.
 fn make_workers(
     lock: &Lock,
     closer: &mut LockSeat,
@@ -203,8 +203,8 @@ fn make_workers(
 }
 
 impl Pool {
-    /// Closes the pool, in one turn, and wakes all workers that sleep. A second closing changes nothing. No other call
-    /// closes a pool, but for `drain` and `close_held`.
+    /// Closes the pool, in one turn, and wakes all sleeping workers. Closing it again changes nothing. No other call
+    /// closes a pool, except for `drain` and `close_held`.
     pub fn close<R: Wait>(&self, rt: &R, closer: &mut Closer)
         requires { closer.old.source ≡ self.now.source }
         ensures source { closer.new.source ≡ closer.old.source }

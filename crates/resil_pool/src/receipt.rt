@@ -1,4 +1,4 @@
-//! What a caller is told of a submission, and what it keeps of it.
+//! The reply to a submission, and what its caller keeps of it.
 //!
 //! The receipts of a caller are its submissions in the history, in their order, with the plans of their jobs; a
 //! pool is drained only if they are.
@@ -6,7 +6,7 @@
 use resil_admission::Reply;
 use resil_decor::Plan;
 
-/// The answer to a submission.
+/// The result of a submission.
 ///
 /// ```
 /// println!(rt; "submission {}: {:?}", ticket.number, ticket.reply)?;
@@ -15,7 +15,7 @@ use resil_decor::Plan;
 pub struct Ticket {
     /// The submission's number among its caller's, from 1.
     pub number: u64,
-    /// The pool's answer (ThreadPoolExecutor class documentation).
+    /// The pool's reply (ThreadPoolExecutor class documentation).
     pub reply: Reply,
 }
 
@@ -24,7 +24,7 @@ pub struct Ticket {
 pub struct Receipt {
     /// The submission's number among its caller's, from 1.
     pub number: u64,
-    /// The pool's answer.
+    /// The pool's reply.
     pub reply: Reply,
     /// A copy of the plan of the job that was submitted.
     pub plan: Plan,

@@ -1,6 +1,6 @@
 //! Changing the sizes of a pool while it runs.
 //!
-//! A resize is one event of the history. Submissions and idle ends after it are judged by its sizes.
+//! A resize is one event of the history. Submissions and idle ends after it follow the new sizes.
 
 ghost use Rattle.std.specs.Prelude.{◌≡◌, ◌↔◌, ◌++◌, ◌∷◌, [], None, map, OnOk, OnErr};
 ghost use Rattle.std.specs.Result.{IsErrOf};
@@ -17,7 +17,7 @@ use resil_lock::Note;
 use std::sync::Wait;
 use thiserror::Error;
 
-/// Why a pool isn't resized.
+/// Why a pool wasn't resized.
 ///
 /// ```
 /// match pool.resize(&rt, &mut caller, core, max) {
@@ -31,30 +31,29 @@ pub enum ResizeError {
     /// The core size isn't from 1 to 64.
     #[error("the core size is not from 1 to 64")]
     CoreOutOfRange,
-    /// The greatest size is below the core size, or above that of the opening.
-    #[error("the greatest size is not from the core size to that of the opening")]
+    /// The maximum size is below the core size, or above the one that the pool was opened with.
+    #[error("the maximum size is not from the core size to the maximum size at the opening")]
     MaxOutOfRange,
-    /// Memory ran out. The receipts are as they were.
+    /// Out of memory. The receipts are as they were.
     #[error("out of memory")]
     Memory,
 }
 
 impl Pool {
-    /// Sets the core size and the greatest size, in workers, from here on, in one turn of the caller's
-    /// (ThreadPoolExecutor class documentation, `setCorePoolSize` and `setMaximumPoolSize`, both at once). That it is
-    /// an event of the history is our own. It is written also where the sizes stay the same, and where the pool is
-    /// closed.
+    /// Sets the core size and the maximum size, in workers, from here on, in one turn of the caller's
+    /// (ThreadPoolExecutor class documentation, `setCorePoolSize` and `setMaximumPoolSize`, both at once). Making it an
+    /// event of the history is our own. It is written even if the sizes stay the same, and even if the pool is closed.
     ///
-    /// A resize begins and ends no worker: a worker begins with a submission, and one above the core size leaves
-    /// by an idle end. So there may be more workers than the greatest size, but never more than the greatest size of
-    /// the opening. The queue's capacity stays, as do all jobs and receipts. It waits while other seats hold the
-    /// lock.
+    /// A resize begins and ends no worker: a worker begins with a submission, and a worker above the core size leaves
+    /// by an idle end. So there may be more workers than the maximum size, but never more than the maximum size that
+    /// the pool was opened with. The queue's capacity stays, and so do all jobs and receipts. It waits while other
+    /// seats hold the lock.
     ///
     /// # Errors
     ///
-    /// In this order, with the receipts as they were: `CoreOutOfRange` where the core size isn't from 1 to 64;
-    /// `MaxOutOfRange` where the greatest size is below the core size, or above that of the opening; `Memory` where
-    /// memory runs out. What is refused writes nothing.
+    /// In this order, with the receipts as they were: `CoreOutOfRange` if the core size isn't from 1 to 64;
+    /// `MaxOutOfRange` if the maximum size is below the core size, or above the one that the pool was opened with;
+    /// `Memory` if out of memory. A refused resize writes nothing.
     ///
     /// ```
     /// // The pool was opened with Limits::new(1, 4, 100)?.
@@ -86,8 +85,8 @@ impl Pool {
 }
 
 impl State {
-    // Sets the sizes of the machine. The core size is compared with 64 here, since nothing here tells that the greatest
-    // size of the opening is at most 64.
+    // Sets the sizes of the machine. It compares the core size with 64, since nothing here says that the maximum size
+    // that the pool was opened with is at most 64.
     fn resize(&mut self, core: u32, max: u32) -> Result<(), ResizeError>
         ensures wrote { IsMoved self.old.machine (told self.new) self.new.machine }
         ensures resized { OnOk result (told self.new ≡ log_event None (Event.Resized core max) ∷ []) }

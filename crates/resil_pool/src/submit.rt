@@ -1,6 +1,6 @@
 //! Submitting a job.
 //!
-//! All memory that a submission needs outside of the machine is taken before its turn: room for the receipt, and a
+//! All memory that a submission needs outside of the machine is allocated before its turn: room for the receipt, and a
 //! copy of the plan. So a submission that was written always has its receipt.
 
 ghost use Rattle.std.specs.Prelude.{◌≡◌, ◌↔◌, ◌+◌, ◌<◌, ◌++◌, ◌∷◌, [], Some, length, map, IfOk, IfErr, IsTrue, OnErr, vec_capacity};
@@ -21,7 +21,7 @@ use std::alloc::Global;
 use std::sync::Wait;
 use thiserror::Error;
 
-/// Why a job isn't submitted.
+/// Why a job wasn't submitted.
 ///
 /// ```
 /// match pool.submit(&rt, alloc, &mut caller, job) {
@@ -31,22 +31,22 @@ use thiserror::Error;
 /// ```
 #[derive(Clone, Copy, Debug, PartialEq, Eq, Error)]
 pub enum SubmitError {
-    /// Memory ran out. The pool and the receipts are as they were.
+    /// Out of memory. The pool and the receipts are as they were.
     #[error("out of memory")]
     Memory,
 }
 
 impl Pool {
-    /// Submits a job under the caller's next number, in one turn, and answers by the rule of admission
-    /// (`Rule::next_reply`; ThreadPoolExecutor class documentation). By `Core` and `Extra` a new worker is started
-    /// for the job, by `Queued` it waits for a worker, by `Full` and `Closed` it is dropped.
+    /// Submits a job under the caller's next number, in one turn, and replies by the rule of admission
+    /// (`Rule::next_reply`; ThreadPoolExecutor class documentation). On `Core` and `Extra` a new worker is started for
+    /// the job, on `Queued` it waits for a worker, on `Full` and `Closed` it is dropped.
     ///
-    /// The receipt is added to the caller's, whatever the reply. It waits while other seats hold the lock. Where there
-    /// is a job to pick then and all workers sleep, it wakes one.
+    /// The receipt is added to the caller's, whatever the reply. It waits while other seats hold the lock. If there is
+    /// then a job to pick and all workers sleep, it wakes one.
     ///
     /// # Errors
     ///
-    /// `Memory` when out of memory; the job is handed back, and the caller's next number stays the same.
+    /// `Memory` if out of memory; the job is returned, and the caller's next number stays the same.
     ///
     /// ```
     /// let ticket = pool.submit(&rt, alloc, &mut caller, job).map_err(|refused| refused.0)?;
@@ -98,7 +98,7 @@ impl Pool {
 }
 
 impl State {
-    // Submits the job to the machine, and notes what was written with the plan.
+    // Submits the job to the machine, and notes what was written, with the plan.
     fn submit(&mut self, alloc: Global, id: Id, job: Job) -> Result<Reply, (AdmitError, Job)>
         ensures { AnswersSubmission self.old.machine id job result (told self.new) self.new.machine }
     {
@@ -117,7 +117,7 @@ impl State {
     }
 }
 
-// Adds the receipt of a submission, for which there is room, and gives its ticket.
+// Adds the receipt of a submission, for which there is room, and returns its ticket.
 fn keep_receipt(receipts: &mut Vec<Receipt>, number: u64, reply: Reply, plan: Plan) -> Ticket
     requires { length receipts.old.items < vec_capacity receipts.old }
     ensures kept { receipts.new.items ≡ receipts.old.items ++ receipt_of result plan ∷ [] }
@@ -131,7 +131,7 @@ fn keep_receipt(receipts: &mut Vec<Receipt>, number: u64, reply: Reply, plan: Pl
     Ticket { number, reply }
 }
 
-// A submission with its caller's next number is refused for one cause alone.
+// A submission with its caller's next number can be refused for only one reason.
 fn memory_of(error: AdmitError) -> SubmitError
     requires { error ≡ AdmitError.Memory }
     ensures { result ≡ SubmitError.Memory }

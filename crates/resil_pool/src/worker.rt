@@ -1,10 +1,9 @@
-//! Working: what a worker does from its first look for a job to its end.
+//! Working: what a worker does from its first poll for a job to its end.
 //!
-//! A worker looks for a job in one turn, runs it outside of any turn, and finishes it in a turn of its own. So a
-//! turn writes at most one event, and a worker never holds the lock while it runs a job. By the rule of the lock a seat
-//! ends only jobs that it picked, so a job is out until its own worker ends it, and no run is refused. A look that finds no job
-//! may ask, in the same turn, to end an idle worker. After it the worker calls in a seat that sleeps at the door, if
-//! there is one, and waits at the bell.
+//! A worker polls for a job in one turn, runs it outside of any turn, and finishes it in another turn. So a turn writes at most
+//! one event, and a worker never holds the lock while it runs a job. By the rule of the lock a seat ends only jobs that it picked,
+//! so a job is out until its own worker ends it, and no run is refused. A poll that finds no job may ask, in the same turn, to end
+//! an idle worker. After the turn the worker lets in a seat that sleeps at the door, if there is one, and waits at the bell.
 
 ghost use Rattle.std.specs.Prelude.{◌≡◌, ◌<◌, ◌++◌, ◌∷◌, [], ℕ, IfSome, Some, None, true, false};
 ghost use Rattle.resil_pool.specs.Words.{IsPrefix, is_among, is_closed, IsAllowed, IsLegal, IsPicked, HasNoneToPick, jobs_in_flight, plan_of, with_event, with_finish};
@@ -23,7 +22,7 @@ use resil_decor::{Job, Permitter, Run};
 use resil_lock::{Look, Looks, Note, Round, Rounds};
 use std::sync::Wait;
 
-// What was written of a pick: a take where the history has grown, and else the start of a job with a worker of its own.
+// The note of a pick: a take if the history has grown, otherwise the start of a job with a worker of its own.
 fn note_of_pick(id: Id, before: usize, after: usize) -> Note
     ensures took { before < after → result ≡ note.Event (Event.Take id) }
     ensures started { ¬ (before < after) → result ≡ note.Started id }
@@ -36,8 +35,7 @@ fn note_of_pick(id: Id, before: usize, after: usize) -> Note
 }
 
 impl State {
-    // Looks for a job. Where there is none, the worker asks to end if the pool is closed, or if it is `timed_out` after so
-    // many empty looks.
+    // Polls for a job. If there is none, the worker asks to end if the pool is closed, or if it has `timed_out` after enough empty polls.
     fn look(&mut self, timed_out: bool) -> Look<(Id, Job)>
         ensures found { OnFound result (λ picked. IsPicked self.old.machine picked.0 self.new.machine × (plan_of self.old.machine.jobs picked.0 ≡ Some picked.1)) }
         ensures none { OnNothing result (HasNoneToPick self.old.machine) }
@@ -68,7 +66,7 @@ impl State {
         Look::Nothing
     }
 
-    // Asks the machine to end an idle worker, which it does if the rule of admission allows it.
+    // Asks the machine to end an idle worker. The machine does so if the rule of admission allows it.
     fn end_if_allowed(&mut self)
         requires { HasNoTake self.old.machine }
         ensures { EndsIdle self.old.machine self.new.machine (told self.new) }
@@ -77,7 +75,7 @@ impl State {
         self.last = note_if(ended, Note::Event(Event::IdleEnd));
     }
 
-    // Ends the run of a job that is out, which is of the plan that was submitted under the id. So it is accepted.
+    // Ends the run of a job that is out. The run is of the plan submitted under the id, so it is accepted.
     fn finish(&mut self, id: Id, run: Run)
         requires out { is_among id (jobs_in_flight self.old.machine) ≡ true }
         requires plan { plan_of self.old.machine.jobs id ≡ Some run.plan }
@@ -93,7 +91,7 @@ impl State {
 }
 
 impl Pool {
-    // A turn with one look.
+    // A turn with one poll.
     fn look<R: Wait>(&self, rt: &R, seat: &mut LockSeat, timed_out: bool) -> Look<(Id, Job)>
         requires source { seat.old.table_id ≡ self.now.source.table_id }
         requires rest { IsResting seat.old.me }
@@ -114,7 +112,7 @@ impl Pool {
     }
 
     // Runs a job that the seat picked, with this permitter, and ends it in one turn. The run is of the plan that the log keeps
-    // beside the job's submission. It isn't refused: by the rule of the lock the job is out until its own worker ends it.
+    // with the job's submission. It isn't refused: by the rule of the lock the job is out until its own worker ends it.
     fn run_job<R: Wait, P: Permitter, H: Hook>(
         &self,
         rt: &R,
@@ -144,16 +142,15 @@ impl Pool {
         hook.after(id);
     }
 
-    /// Works until the pool is closed and no job is left to pick: looks again and again, and runs each job that it
-    /// picks with this permitter, and no other. The pool refuses no run: a worker ends just the jobs that it picked. It waits
-    /// while other seats hold the lock, and for the pool to be closed. While there is no job it sleeps, at most 64 ms
-    /// between two looks (`open_pool`).
+    /// Works until the pool is closed and no job is left to pick: polls repeatedly, and runs each job that it picks with this
+    /// permitter, and no other job. The pool refuses no run: a worker ends only the jobs that it picked. It waits while other seats
+    /// hold the lock, and for the pool to be closed. While there is no job it sleeps, at most 64 ms between two polls (`open_pool`).
     ///
-    /// A worker leaves the pool for one of two causes:
+    /// A worker leaves the pool for one of two reasons:
     ///
-    /// 1. as many looks in a row were empty as the keep-alive says, and there are more workers than the core size
-    ///    (ThreadPoolExecutor class documentation, keep-alive times). Its thread looks on for jobs;
-    /// 2. the pool is closed and no job is left to pick. Then its thread ends.
+    /// 1. `keep_alive` polls in a row were empty, and there are more workers than the core size (ThreadPoolExecutor class
+    ///    documentation, keep-alive times). Its thread goes on polling for jobs.
+    /// 2. The pool is closed and no job is left to pick. Then its thread ends.
     ///
     /// ```
     /// let mut no_bulkheads = Passes::new(&rt, &[], Vec::new(alloc));

@@ -1,7 +1,7 @@
 //! The whole program, when out of memory.
 //!
-//! `tools/refuse_in_tests` runs each of these tests with one growth refused, for every growth, and
-//! with all from one growth on. Where nothing is refused, the first answers are the right ones.
+//! `tools/refuse_in_tests` runs each of these tests with one growth refused, for every growth, and with
+//! all refused from one growth on. If nothing is refused, the first answers are the right ones.
 
 use crate::shared::{Host, run_program, run_single};
 use std::test::Fail;
@@ -14,7 +14,7 @@ const STEPS: &[u8] = b"permits = 1\n---\nstep,caller\nload,0\n";
 
 const WOVEN: &[u8] = b"step,caller,shown\nload,0,loaded\nword,,1\n";
 
-// How the program ends, or the part of it that starts no thread, which writes into room that was reserved.
+// How the program ends, or the part of it that starts no thread. It writes into room that was reserved.
 fn ended(
     rt: &impl Host,
     is_single: bool,
@@ -30,7 +30,7 @@ fn ended(
     Ok((Some(end.status), end.writer))
 }
 
-// Asserts how it ends for an input, once more where it said that memory or threads were refused.
+// Asserts how it ends for an input, once more if it reported that it was out of memory or threads.
 fn ends_at_last(
     rt: &impl Host,
     is_single: bool,

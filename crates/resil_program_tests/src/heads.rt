@@ -1,4 +1,4 @@
-//! What a recorder writes in a head, where a command uses it.
+//! What a recorder writes in a head, if a command uses it.
 
 use resil_heads::HeadError;
 use resil_heads::pool_head::{Uses, read_pool_head};
@@ -8,6 +8,7 @@ const ALL: Uses = Uses {
     made: true,
     owner: true,
     began: true,
+    drawing: true,
 };
 
 #[test]
@@ -33,6 +34,12 @@ fn values_that_no_recorder_writes(rt: HostRuntime) {
         "made = -1",
         "made = \"3\"",
         "record = 7",
+        "from = -1",
+        "to = true",
+        "from = 7\nto = 7",
+        "from = 8\nto = 7",
+        "most_waiting = 4_294_967_296",
+        "most_workers = -1",
         "began = 2026-05-27T07:32:10",
         "began = \"2026-05-27T07:32:10Z\"",
     ] {

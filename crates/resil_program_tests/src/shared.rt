@@ -8,7 +8,7 @@ use std::process::Abort;
 use std::sync::Wait;
 use std::thread::Threads;
 
-/// What a test runs by: it may end the process, wait and start threads, and gives memory.
+/// What a test needs: it may end the process, wait and start threads, and allocate memory.
 pub trait Host: Abort + Threads + Wait + Sync + AllocGlobal {}
 
 impl<R: Abort + Threads + Wait + Sync + AllocGlobal> Host for R {}
@@ -49,7 +49,7 @@ pub fn run_program<S: Read, W: Write>(
     }
 }
 
-/// What the part of the program gives that starts no thread, what it left unread, and what it wrote behind this.
+/// The result of the part of the program that starts no thread, what it left unread, and what it wrote after this prefix.
 pub fn run_single<'a>(
     alloc: Global,
     words: &[&str],

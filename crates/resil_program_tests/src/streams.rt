@@ -1,4 +1,4 @@
-//! The program over readers and writers of pieces, and over such as fail.
+//! The program over readers and writers that work in pieces, and over ones that fail.
 
 use crate::shared::{Host, run_program, run_single};
 use resil_input::io::MAX_INPUT_LEN;
@@ -15,7 +15,7 @@ const INPUT: &[u8] = b"permits = 1\n---\nstep,caller\nload,0\n";
 
 const TEXT: &[u8] = b"step,caller,shown\nload,0,loaded\nword,,1\n";
 
-// Gives a text in pieces, is interrupted before each of them, and fails after some reads.
+// Returns a text in pieces, is interrupted before each of them, and fails after some reads.
 #[derive(Drop)]
 struct PieceReader<'a> {
     rest: &'a [u8],
@@ -53,8 +53,7 @@ impl Read for PieceReader<'_> {
     }
 }
 
-// Takes a text in pieces, is interrupted before each of them and before it is flushed, and then
-// fails, or takes no more bytes.
+// Accepts a text in pieces, is interrupted before each of them and before it is flushed, and then fails, or accepts no more bytes.
 #[derive(Drop)]
 struct FailingWriter {
     taken: Vec<u8>,
@@ -124,8 +123,7 @@ fn ends_at_the_first_read_that_fails(rt: HostRuntime) {
     }
 }
 
-// Asserts how an input of one byte again and again is refused, in pieces of a size, by this line, when this many bytes of it
-// are left unread.
+// Asserts that an input of one byte repeated, in pieces of a size, is refused by this line, with this many bytes of it left unread.
 fn refuses_repeated(
     rt: &impl Host,
     (byte, count): (u8, usize),
@@ -153,8 +151,7 @@ fn reads_a_mebibyte_and_no_more(rt: HostRuntime) -> Result<(), Fail> {
     Ok(())
 }
 
-// Whether a write that fails behind this number of bytes, or takes no more of them, ends the
-// program there.
+// Whether a write that fails after this number of bytes, or accepts no more of them, ends the program there.
 fn ends_behind(rt: &impl Host, input: &[u8], prefix: &[u8], is_full_silently: bool) -> bool {
     let mut paper = FailingWriter::new(rt.alloc(), 3, prefix.len());
     paper.is_full_silently = is_full_silently;

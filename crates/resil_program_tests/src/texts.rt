@@ -39,7 +39,7 @@ fn history_of_the_greatest_id(rt: HostRuntime) {
     assert!(rt; history.as_slice() == HISTORY.as_slice());
 }
 
-// The run of a job through a bulkhead under a retry, where the rows of a `chain` say its script and the
+// The run of a job through a bulkhead under a retry. The rows of a `chain` give its script and the
 // answers of the bulkhead.
 fn run_of(rt: &impl Abort, alloc: Global, body: &[u8]) -> Run {
     let head = b"layer = [{ kind = \"bulkhead\", name = \"db\" }, { kind = \"retry\" }]\n";
@@ -98,8 +98,8 @@ fn assert_message(rt: &impl Abort, alloc: Global, error: &impl Display, wanted: 
 }
 
 const HEAD_ERRORS: &str = "a required key of the head is missing
-the core size is not from 1 to 64
-a chain makes at most 1,000 calls
+the core size is not from 1 to 64, or to 1024 in a pool for more than 64 workers
+a chain may make at most 1,000 calls
 there are more than 65535 permits";
 
 #[test]
@@ -118,11 +118,11 @@ fn printed_errors_of_heads(rt: HostRuntime) {
 #[test]
 fn printed_errors(rt: HostRuntime) {
     let alloc = rt.alloc();
-    assert_message(&rt, alloc, &BodyError::BadRow(3), "row 3 is not allowed");
+    assert_message(&rt, alloc, &BodyError::BadRow(3), "row 3 is invalid");
     assert_message(&rt, alloc, &ReadError::Reader, "a read failed");
     assert_message(&rt, alloc, &ReadFailure, "a read failed");
     assert_message(&rt, alloc, &WriteError, "a write failed");
-    assert_message(&rt, alloc, &UsageError::Usage, "the words are refused");
+    assert_message(&rt, alloc, &UsageError::Usage, "the arguments are refused");
     let no_thread = "a thread could not be started";
     assert_message(&rt, alloc, &CommandError::NoThread, no_thread);
 }

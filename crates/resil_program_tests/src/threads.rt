@@ -5,14 +5,14 @@ use crate::shared::{Host, answers, run_program};
 use std::alloc::{AllocError, Global};
 use std::test::Fail;
 
-// How many lines of a text end with one of these ends, which bars part.
+// How many lines of a text end with one of these ends, which are separated by bars.
 fn count(text: &str, ends: &str) -> usize {
     text.lines()
         .filter(|line| ends.split('|').any(|end| line.ends_with(end)))
         .count()
 }
 
-// What `run` writes for an input with this many callers, where it succeeds.
+// What `run` writes for an input with this many callers, if it succeeds.
 fn report_of(rt: &impl Host, callers: &str, input: &[u8]) -> Option<String> {
     let words = ["resil", "run", "--callers", callers];
     let ended = run_program(rt, &words, input, Vec::new(rt.alloc()));
@@ -22,8 +22,8 @@ fn report_of(rt: &impl Host, callers: &str, input: &[u8]) -> Option<String> {
     String::from_utf8(ended.writer).ok()
 }
 
-// Whether a history has this many submissions and an idle end for each worker that came, and there is a
-// result for each submission that was accepted, under one header.
+// Whether a history has this many submissions and an idle end for each worker that started, and there
+// is a result for each submission that was accepted, under one header.
 fn is_balanced(history: &str, results: &str, submissions: usize) -> bool {
     let accepted = count(history, ",core|,queued|,extra");
     let submitted = count(history, ",core|,queued|,extra|,full|,closed");
@@ -32,7 +32,7 @@ fn is_balanced(history: &str, results: &str, submissions: usize) -> bool {
         && count(history, "idle,,,") == count(history, ",core|,extra")
 }
 
-// The number of replies `core` in a report, where its history is balanced, and legal by `audit`.
+// The number of replies `core` in a report, if its history is balanced, and legal by `audit`.
 fn core_replies_in(
     rt: &impl Host,
     head: &str,
@@ -48,7 +48,7 @@ fn core_replies_in(
     Ok(is_sound.then_some(count(history, ",core")))
 }
 
-// The same of what `run` writes for these rows, where it succeeds.
+// The same for what `run` writes for these rows, if it succeeds.
 fn core_replies(
     rt: &impl Host,
     callers: &str,

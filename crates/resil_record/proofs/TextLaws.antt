@@ -21,7 +21,7 @@ use Rattle.resil_input.proofs.TableLaws.{record-read}
 use Rattle.resil_record.specs.Body.{IsRecordBody, record_header}
 use Rattle.resil_record.specs.Row.{parse_event, parse_reply, parse_row, parse_switch, reply_name, switch_name}
 use Rattle.resil_record.specs.Text.{FitsEvent, FitsId, FitsRow, RecordsRoundTrip, event_fields, record_text, row_fields}
-use Rattle.resil_record.specs.declared.event.TimedJdkEvent.{TimedJdkEvent}
+use Rattle.resil_jdk.specs.declared.timed.TimedJdkEvent.{TimedJdkEvent}
 
 -- ---- One record.
 

@@ -3,7 +3,7 @@ use Rattle.std.specs.Prelude.{ℕ, ◌∷◌, [], List, codes}
 use Rattle.resil_input.specs.CsvRows.{IsBody, IsBodyError}
 use Rattle.resil_input.specs.declared.csv_rows.BodyError.{BodyError}
 use Rattle.resil_record.specs.Row.{parse_row}
-use Rattle.resil_record.specs.declared.event.TimedJdkEvent.{TimedJdkEvent}
+use Rattle.resil_jdk.specs.declared.timed.TimedJdkEvent.{TimedJdkEvent}
 
 -- the fields of the header
 abbrev pub record_header : List (List ℕ)

@@ -1,4 +1,3 @@
 pub mod Body
-pub mod Event
 pub mod Row
 pub mod Text

@@ -8,7 +8,7 @@ use Rattle.resil_jdk.specs.declared.event.JdkEvent.{JdkEvent}
 use Rattle.resil_jdk.specs.declared.event.JdkEvent.TheVariants.{Submit, Take, Finish, IdleEnd, Close, Resized, Start, Cull, Remove, Stop, TimeOut}
 use Rattle.resil_input.specs.Number.{parse_caller, parse_from_zero, parse_number}
 use Rattle.resil_input.specs.TextEquality.{is_same}
-use Rattle.resil_record.specs.declared.event.TimedJdkEvent.{TimedJdkEvent}
+use Rattle.resil_jdk.specs.declared.timed.TimedJdkEvent.{TimedJdkEvent}
 
 -- the name of a reply
 abbrev pub reply_name : JdkReply → List ℕ

@@ -7,7 +7,7 @@ use Rattle.resil_jdk.specs.declared.event.JdkEvent.TheVariants.{Submit, Take, Fi
 use Rattle.resil_input.specs.CsvTable.{table_text}
 use Rattle.resil_record.specs.Body.{IsRecordBody, record_header}
 use Rattle.resil_record.specs.Row.{reply_name, switch_name}
-use Rattle.resil_record.specs.declared.event.TimedJdkEvent.{TimedJdkEvent}
+use Rattle.resil_jdk.specs.declared.timed.TimedJdkEvent.{TimedJdkEvent}
 
 -- the fields of an event that names a job, and the time
 abbrev pub job_fields : List ℕ → Id → List ℕ → List ℕ → List (List ℕ)

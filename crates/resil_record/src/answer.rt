@@ -1,4 +1,4 @@
-//! The words for what the whole rule answers, and for the state of a pool.
+//! The words for the whole rule's answers, and for the state of a pool.
 
 use crate::text::reply_name;
 use resil_jdk::{JdkAnswer, JdkState};
@@ -14,7 +14,7 @@ impl fmt::Display for JdkInWords {
         let said = match self.0 {
             JdkAnswer::Reply(reply) => {
                 let name = reply_name(reply);
-                return write!(f, "the rule answers {name}");
+                return write!(f, "the rule's reply is {name}");
             }
             JdkAnswer::Next(caller, number) => {
                 return write!(f, "caller {caller}'s next number is {number}");
@@ -25,21 +25,21 @@ impl fmt::Display for JdkInWords {
             JdkAnswer::Greatest(max) => {
                 return write!(
                     f,
-                    "a maximum size is from 1 and the core size to that of the head, {max}"
+                    "the maximum size must be at least 1, at least the core size, and at most the maximum size in the head, {max}"
                 );
             }
-            JdkAnswer::NoneWaits => "no job waits",
-            JdkAnswer::OneWaits => "a job waits",
-            JdkAnswer::NotQueued => "this job doesn't wait in the queue",
+            JdkAnswer::NoneWaits => "no job is waiting",
+            JdkAnswer::OneWaits => "a job is waiting",
+            JdkAnswer::NotQueued => "this job isn't waiting in the queue",
             JdkAnswer::NoneIdle => "no worker is idle",
-            JdkAnswer::NoneSpare => "the pool is open, with no more workers than the core size",
+            JdkAnswer::NoneSpare => "the pool is open and has no worker above the core size",
             JdkAnswer::NoneAbove => {
-                "there are no more workers than the maximum size, and the pool isn't stopped"
+                "the pool isn't stopped and has no worker above the maximum size"
             }
-            JdkAnswer::NoneBelow => "there are as many workers as the core size",
-            JdkAnswer::NoUse => "the pool is closed, and no job waits",
-            JdkAnswer::NotOut => "no job of that id runs",
-            JdkAnswer::Closed => "the pool is closed already",
+            JdkAnswer::NoneBelow => "there are already as many workers as the core size",
+            JdkAnswer::NoUse => "the pool is closed, and no job is waiting",
+            JdkAnswer::NotOut => "no job with this id is running",
+            JdkAnswer::Closed => "the pool is already closed",
             JdkAnswer::Stopped => "the pool is stopped",
             JdkAnswer::Allowed => "the rule allows it",
         };
@@ -67,7 +67,7 @@ impl fmt::Display for StateInWords {
         let idle = (workers as usize).saturating_sub(running);
         write!(
             f,
-            "workers {workers}, with a job {running}, idle {idle}; core size {core}, maximum size {max}; waiting {waiting} of {queue}; "
+            "workers {workers}, busy {running}, idle {idle}; core size {core}, maximum size {max}; waiting {waiting} of {queue}; "
         )?;
         f.write_str(match (stopped, closed) {
             (true, _) => "stopped",
@@ -77,7 +77,7 @@ impl fmt::Display for StateInWords {
         f.write_str(if time_out {
             "; core workers time out"
         } else {
-            "; core workers stay"
+            "; core workers don't time out"
         })
     }
 }

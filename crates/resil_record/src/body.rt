@@ -4,10 +4,10 @@ ghost use Rattle.std.specs.Prelude.{◌≡◌, ◌↔◌, IsTrue, MatchResult};
 ghost use Rattle.resil_input.specs.ReaderState.{header_of};
 ghost use Rattle.resil_record.specs.Body.{IsRecordBody, IsRecordBodyError, record_header};
 
-use crate::event::TimedJdkEvent;
 use crate::row::parse_row;
 use resil_heads::forms::{Body, Form};
 use resil_input::csv_rows::{self, BodyError, OpenBody};
+use resil_jdk::TimedJdkEvent;
 use std::alloc::Global;
 
 // The fields of the header.

@@ -6,11 +6,10 @@ ghost use Rattle.std.specs.Prelude.{◌≡◌};
 ghost use Rattle.csv.specs.Records.{fields_of};
 ghost use Rattle.resil_record.specs.Row.{are_empty, parse_event, parse_id, parse_lone_event, parse_reply, parse_row, parse_sizes, parse_switch};
 
-use crate::event::TimedJdkEvent;
 use csv::ByteRecord;
 use resil_input::fields::{field_at, is_text};
 use resil_input::number::{parse_caller, parse_from_zero, parse_number};
-use resil_jdk::{JdkEvent, JdkReply};
+use resil_jdk::{JdkEvent, JdkReply, TimedJdkEvent};
 use resil_rule::Id;
 
 // Whether the fields at these places are empty.

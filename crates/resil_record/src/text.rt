@@ -6,10 +6,9 @@ ghost use Rattle.resil_input.specs.CsvTable.{HasColumns, IsPlain, record_text as
 ghost use Rattle.resil_record.specs.Row.{reply_name, switch_name};
 ghost use Rattle.resil_record.specs.Text.{RecordsRoundTrip, job_fields, lone_fields, record_text, row_fields, size_fields, switch_fields};
 
-use crate::event::TimedJdkEvent;
 use itoa::Buffer;
 use resil_input::csv_table::CsvTable;
-use resil_jdk::{JdkEvent, JdkReply};
+use resil_jdk::{JdkEvent, JdkReply, TimedJdkEvent};
 use resil_rule::Id;
 use std::alloc::{AllocError, Global};
 
@@ -25,7 +24,7 @@ const COLUMNS: [&[u8]; 8] = [
     b"at",
 ];
 
-/// The name of a reply, as a history has it.
+/// The name of a reply, as in a history.
 pub fn reply_name(reply: JdkReply) -> &'static str
     ensures { result.now ≡ reply_name reply }
 {

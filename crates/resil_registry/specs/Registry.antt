@@ -9,8 +9,7 @@ use Rattle.resil_registry.specs.declared.error.RegistryError.TheVariants.{Reserv
 abbrev pub default_name : List ℕ
 default_name = codes "default"
 
--- configurations: each a name and a value; instances: each a name and the index of its
--- configuration
+-- configurations: each a name and a value; instances: each a name and the index of its configuration
 pub record RegistryView (C : Type 0) : Type 0 where
   pub configurations : List (List ℕ × C)
   pub instances : List (List ℕ × ℕ)
@@ -35,11 +34,11 @@ module _ {C : Type 0} where
       (λ instance. option_map (λ config. (instance.0, config.1)) (slice_get lists.configurations instance.1))
       (slice_get lists.instances id)
 
-  -- the registry with one configuration more, at the end
+  -- the registry with one more configuration, at the end
   abbrev pub with_config : RegistryView C → List ℕ → C → RegistryView C
   with_config lists name config = record lists { configurations = lists.configurations ++ (name, config) ∷ [] }
 
-  -- the registry with one instance more, at the end, which has the configuration at that index
+  -- the registry with one more instance, at the end, which has the configuration at that index
   abbrev pub with_instance : RegistryView C → List ℕ → ℕ → RegistryView C
   with_instance lists name index = record lists { instances = lists.instances ++ (name, index) ∷ [] }
 
@@ -56,7 +55,7 @@ module _ {C : Type 0} where
     pub unreserved : name ≢ default_name
     pub new : config_index lists name ≡ None
 
-  -- why a configuration isn't added
+  -- why a configuration wasn't added
   abbrev pub IsConfigError : RegistryView C → List ℕ → RegistryError → Type 0
   IsConfigError lists name BadName = ¬ IsName name
   IsConfigError lists name ReservedName = IsName name × (name ≡ default_name)
@@ -64,7 +63,7 @@ module _ {C : Type 0} where
   IsConfigError lists name Memory = IsFreeName lists name
   IsConfigError lists name NoSuchConfig = ⊥
 
-  -- why an instance with the named configuration isn't made
+  -- why an instance with the named configuration wasn't made
   abbrev pub IsInstanceError : RegistryView C → List ℕ → List ℕ → RegistryError → Type 0
   IsInstanceError lists name config BadName = ¬ IsName name
   IsInstanceError lists name config NoSuchConfig = IsName name × (instance_id lists name ≡ None) × (config_index lists config ≡ None)

@@ -1,8 +1,8 @@
 //! Names with values, in the order in which they were added.
 //!
-//! No name is there twice, and an entry keeps its index for good, since entries are only added at
-//! the end. A map in order of insertion holds them, so a name is found without going over the list.
-//! The rest of the crate sees a list of names with values, and nothing of the map.
+//! No name occurs twice, and an entry keeps its index for good, since entries are only added at the
+//! end. A map in insertion order holds them, so a name is found without going over the list. The
+//! rest of the crate sees a list of names with values, and nothing of the map.
 
 ghost use Rattle.std.specs.Prelude.{◌≡◌, ◌++◌, ◌∷◌, [], length, map, slice_get, option_map, None, IfOk, IfErr, OnOk, OnErr};
 ghost use Rattle.std.specs.List.{IsDistinct};
@@ -15,7 +15,7 @@ use indexmap::map::Keys;
 use std::alloc::Global;
 use std::marker::Model;
 
-// A list of names with values, of which each name is there once.
+// A list of names with values. Each name occurs once.
 #[derive(Drop)]
 pub(crate) struct Entries<V> {
     table: IndexMap<String, V>,
@@ -62,7 +62,7 @@ impl<V> Entries<V> {
         self.table.get_index_of(name)
     }
 
-    // The name and the value at an index, if the list is that long.
+    // The name and the value at an index, if the list is long enough.
     pub(crate) fn get(&self, index: usize) -> Option<(&str, &V)>
         ensures { option_map (λ entry. (entry.0.now, entry.1.now)) result ≡ slice_get self.now index }
     {
@@ -70,8 +70,8 @@ impl<V> Entries<V> {
         Some((name.as_str(), value))
     }
 
-    // Adds a new name at the end, and answers its index. Errors: the value comes back, with nothing
-    // changed, when out of memory.
+    // Adds a new name at the end, and returns its index. Errors: the value comes back, with nothing
+    // changed, if out of memory.
     pub(crate) fn append(&mut self, name: &str, value: V) -> Result<usize, V>
     where
         V: Drop,

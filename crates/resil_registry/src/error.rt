@@ -1,7 +1,7 @@
 //! Errors of registries.
 //!
-//! All calls of a registry share one type, and each variant has one cause. A call that answers an
-//! error leaves the registry as it was.
+//! All calls of a registry share one error type, and each variant has one cause. A call that
+//! returns an error leaves the registry as it was.
 
 use thiserror::Error;
 
@@ -16,19 +16,19 @@ use thiserror::Error;
 /// ```
 #[derive(Clone, Copy, Debug, PartialEq, Eq, Error)]
 pub enum RegistryError {
-    /// The configuration `default` is given when a registry is made, and no other has its name.
+    /// The configuration `default` is set when a registry is made, and no other may have its name.
     #[error("the name `default` is reserved")]
     ReservedName,
     /// No configuration has the name.
     #[error("no configuration has that name")]
     NoSuchConfig,
     /// A configuration has the name already.
-    #[error("a configuration has that name already")]
+    #[error("a configuration already has that name")]
     NameTaken,
     /// A name isn't 1 to 64 bytes of ASCII letters, digits, `-`, `_` and `.`.
-    #[error("a name is 1 to 64 bytes of ASCII letters, digits, `-`, `_` and `.`")]
+    #[error("a name must be 1 to 64 bytes of ASCII letters, digits, `-`, `_` and `.`")]
     BadName,
-    /// Memory ran out.
+    /// Out of memory.
     #[error("out of memory")]
     Memory,
 }

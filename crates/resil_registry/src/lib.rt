@@ -1,9 +1,9 @@
-//! Registries: named configurations, and named instances that are made from them (after
-//! Resilience4j's registries; user guide, chapter Bulkhead).
+//! Registries: named configurations, and named instances made from them (modelled on Resilience4j's
+//! registries; user guide, chapter Bulkhead).
 //!
-//! A registry answers the instance that it has under a name, and else makes one, with the
+//! A registry returns the instance that it has under a name. If it has none, it makes one, with the
 //! configuration named `default` or with another named one. An instance's id is its index in the
-//! order of making, from 0; it stays for good.
+//! order of making, from 0; it never changes.
 #![tactic(auto)]
 
 mod entries;

@@ -1,7 +1,7 @@
 //! The names of a registry's instances.
 //!
 //! They are borrowed from the registry, in order of id, so going over them allocates nothing and the
-//! registry can't change meanwhile. An iterator of this crate's own shows contracts a list of
+//! registry can't change meanwhile. The iterator is this crate's own: it shows contracts a list of
 //! names, and nothing of the map that holds them.
 
 ghost use Rattle.std.specs.Prelude.{◌≡◌, length, map, Some, IfSome};

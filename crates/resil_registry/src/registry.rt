@@ -2,7 +2,7 @@
 //!
 //! It keeps two lists: configurations, the first of which is the default, and instances, each with
 //! the index of its configuration. Both only grow, and a call that allocates changes its list last.
-//! So a call that answers an error leaves both as they were, and an id names one instance for good.
+//! So a call that returns an error leaves both as they were, and an id names one instance for good.
 
 ghost use Rattle.std.specs.Prelude.{◌≡◌, ◌≢◌, ℕ, List, ◌<◌, ◌↔◌, ◌∷◌, [], length, option_map, Some, None, Ok, IsTrue, IsSome, IsErrOf, IsErrAnd, IfOk, IfErr, IfSome, IfNone, OnOk, OnErr};
 ghost use Rattle.resil_registry.specs.Entries.{names_of};
@@ -51,11 +51,11 @@ impl<C> Model for Registry<C> {
 }
 
 impl<C: Drop> Registry<C> {
-    /// A registry without instances whose configuration `default` is this one.
+    /// Makes a registry without instances, with this value as the configuration `default`.
     ///
     /// # Errors
     ///
-    /// `Memory` when out of memory; the configuration comes back.
+    /// `Memory` if out of memory; the configuration comes back.
     pub fn new(alloc: Global, default: C) -> Result<Registry<C>, (RegistryError, C)>
         ensures made { IfOk result (λ r. r ≡ record { configurations = (default_name, default) ∷ []; instances = [] }) }
         ensures refused { IfErr result (λ refused. refused ≡ (RegistryError.Memory, default)) }
@@ -74,10 +74,9 @@ impl<C: Drop> Registry<C> {
     ///
     /// # Errors
     ///
-    /// In this order, with nothing changed and the configuration handed back: `BadName` where the
-    /// name isn't 1 to 64 bytes of ASCII letters, digits, `-`, `_` and `.`; `ReservedName` where it
-    /// is `default`; `NameTaken` where a configuration has that name; `Memory` where memory runs
-    /// out.
+    /// In this order, with nothing changed and the configuration returned: `BadName` if the name
+    /// isn't 1 to 64 bytes of ASCII letters, digits, `-`, `_` and `.`; `ReservedName` if it is
+    /// `default`; `NameTaken` if a configuration has that name; `Memory` if out of memory.
     ///
     /// ```
     /// match registry.add_config("small", 2) {
@@ -110,13 +109,13 @@ impl<C: Drop> Registry<C> {
         }
     }
 
-    /// The id of the instance with that name. Where there is none, one is made with the
-    /// configuration `default`.
+    /// Returns the id of the instance with that name, made with the configuration `default` if
+    /// there is none.
     ///
     /// # Errors
     ///
-    /// In this order, with nothing changed: `BadName` where the name isn't 1 to 64 bytes of ASCII
-    /// letters, digits, `-`, `_` and `.`; `Memory` when out of memory.
+    /// In this order, with nothing changed: `BadName` if the name isn't 1 to 64 bytes of ASCII
+    /// letters, digits, `-`, `_` and `.`; `Memory` if out of memory.
     ///
     /// ```
     /// let prices = registry.obtain("prices")?;
@@ -137,14 +136,14 @@ impl<C: Drop> Registry<C> {
         self.create(name, DEFAULT_INDEX)
     }
 
-    /// The id of the instance with that name. Where there is none, one is made with the named
-    /// configuration; where there is one, that configuration isn't looked up.
+    /// Returns the id of the instance with that name, made with the named configuration if there is
+    /// none. If there is one, that configuration isn't looked up.
     ///
     /// # Errors
     ///
-    /// In this order, with nothing changed: `BadName` where the instance's name isn't 1 to 64 bytes
-    /// of ASCII letters, digits, `-`, `_` and `.`; `NoSuchConfig` where no configuration has the
-    /// other name; `Memory` when out of memory.
+    /// In this order, with nothing changed: `BadName` if the instance's name isn't 1 to 64 bytes of
+    /// ASCII letters, digits, `-`, `_` and `.`; `NoSuchConfig` if no configuration has the other
+    /// name; `Memory` if out of memory.
     ///
     /// ```
     /// registry.add_config("small", 2).map_err(|refused| refused.0)?;
@@ -167,8 +166,7 @@ impl<C: Drop> Registry<C> {
         }
     }
 
-    // The id of the instance with that name, if there is one. Errors: `BadName` where the text is
-    // no name.
+    // The id of the instance with that name, if there is one. Errors: `BadName` if the string is no name.
     fn instance_id(&self, name: &str) -> Result<Option<usize>, RegistryError>
         ensures found { IfOk result (λ id. id ≡ instance_id self.now name.now) }
         ensures good { OnOk result (IsName name.now) }
@@ -185,7 +183,7 @@ impl<C: Drop> Registry<C> {
         }
     }
 
-    // Makes an instance with the configuration at that index, and answers its id. Errors: `Memory`,
+    // Makes an instance with the configuration at that index, and returns its id. Errors: `Memory`,
     // with nothing changed.
     fn create(&mut self, name: &str, index: usize) -> Result<usize, RegistryError>
         requires good { IsName name.now }
@@ -203,7 +201,7 @@ impl<C: Drop> Registry<C> {
 }
 
 impl<C> Registry<C> {
-    /// The name and the configuration of the instance with that id, if there is one.
+    /// Returns the name and the configuration of the instance with that id, if there is one.
     ///
     /// ```
     /// if let Some((name, max)) = registry.get(id) {
@@ -220,7 +218,7 @@ impl<C> Registry<C> {
         Some((name, config))
     }
 
-    /// The id of the instance with that name, if there is one. None is made.
+    /// Returns the id of the instance with that name, if there is one. It makes none.
     ///
     /// ```
     /// if let Some(id) = registry.find("prices") {
@@ -234,7 +232,7 @@ impl<C> Registry<C> {
         self.instances.index_of(name)
     }
 
-    /// The configuration with that name, if there is one.
+    /// Returns the configuration with that name, if there is one.
     ///
     /// ```
     /// let permits = registry.config("small");
@@ -247,7 +245,7 @@ impl<C> Registry<C> {
         Some(config)
     }
 
-    /// The names of the instances, in order of id.
+    /// Returns the names of the instances, in order of id.
     pub fn names(&self) -> Names<'_>
         ensures names { result ≡ names_of self.now.instances }
         ensures distinct { IsDistinct bytes_eq (names_of self.now.instances) }
@@ -257,14 +255,14 @@ impl<C> Registry<C> {
         Names::new(self.instances.keys())
     }
 
-    /// The number of instances.
+    /// Returns the number of instances.
     pub fn len(&self) -> usize
         ensures { result ≡ length self.now.instances }
     {
         self.instances.len()
     }
 
-    /// Whether there is no instance.
+    /// Returns whether there is no instance.
     pub fn is_empty(&self) -> bool
         ensures { IsTrue result ↔ (self.now.instances ≡ []) }
     {

@@ -14,7 +14,7 @@ use Rattle.resil_input.specs.CsvRows.{IsBody}
 use Rattle.resil_input.specs.TextEquality.{is_same}
 use Rattle.resil_input.specs.declared.csv_rows.BodyError.{BodyError}
 
--- the reply of which a field is the name
+-- the reply that a field is the name of
 abbrev pub parse_reply : List ℕ → Option Reply
 parse_reply name =
     if is_same name (reply_name Core) then Some Core
@@ -24,7 +24,7 @@ parse_reply name =
     else if is_same name (reply_name Closed) then Some Closed
     else None
 
--- the event without a reply that three fields are read as; one that names no job has empty fields in its place
+-- the event without a reply that three fields are read as; if it names no job, the fields of the job are empty
 abbrev pub parse_unanswered_event : List ℕ → List ℕ → List ℕ → Option Event
 parse_unanswered_event event caller number =
     if is_same event (codes "take") then option_map Take (parse_id caller number)
@@ -53,7 +53,7 @@ parse_event_fields event caller number reply core max =
 abbrev pub parse_event : List (List ℕ) → Option Event
 parse_event fields = parse_event_fields (get_or fields 0 []) (get_or fields 1 []) (get_or fields 2 []) (get_or fields 3 []) (get_or fields 4 []) (get_or fields 5 [])
 
--- a body of these events, in the version that its header tells
+-- a body of these events, in the version that its header says
 abbrev pub IsAuditBody : List ℕ → List Event → Type 0
 IsAuditBody body history = (version : Version) × IsBody (history_header version) parse_event body history
 
@@ -61,8 +61,7 @@ IsAuditBody body history = (version : Version) × IsBody (history_header version
 abbrev pub IsAuditBodyError : List ℕ → BodyError → Type 0
 IsAuditBodyError body why = IsVersionsError history_header parse_event body why
 
--- The text of a history, in a version that tells its events, with callers and numbers from 1 on, is read as that history, and as
--- no other.
+-- The text of a history, in a version that has its events, with callers and numbers from 1 on, is read as that history, and as no other.
 abbrev pub HistoriesRoundTrip : Type 0
 HistoriesRoundTrip = (version : Version) (history : List Event) → All (FitsEvent 1 version) history
     → IsAuditBody (history_text version history) history × ((other : List Event) → IsAuditBody (history_text version history) other → other ≡ history)

@@ -11,8 +11,8 @@ use Rattle.resil_heads.specs.Checks.{and_then}
 abbrev pub pool_keys : Keys
 pool_keys = record { known = codes "core" ∷ codes "max" ∷ codes "queue" ∷ []; required = required_sizes }
 
--- The sizes that a table requests, by its checks in their order: keys that aren't known, required
--- keys that are missing, values that aren't numbers.
+-- The sizes that a table requests, by its checks in their order: unknown keys, required keys that
+-- are missing, values that aren't numbers.
 abbrev pub requested_sizes : Members → Result Sizes HeadError
 requested_sizes head = and_then (check_keys pool_keys head) (λ _. parse_sizes head)
 

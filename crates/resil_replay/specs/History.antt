@@ -9,7 +9,7 @@ use Rattle.resil_replay.specs.declared.history.Version.TheVariants.{One, Two}
 use Rattle.resil_input.specs.Answer.{reply_name}
 use Rattle.resil_input.specs.CsvTable.{table_text}
 
--- the columns of a version, of the six that there are: version 1 has the first four
+-- the number of columns of a version, out of six: version 1 has the first four
 abbrev pub columns_of : Version → ℕ
 columns_of One = 4
 columns_of Two = 6
@@ -43,8 +43,8 @@ history_text version history = table_text (history_header version ∷ map (recor
 abbrev pub FitsId : ℕ → Id → Type 0
 FitsId least id = ((least ≤ id.caller) × (id.caller < 2 ^ 16)) × ((least ≤ id.number) × (id.number < 2 ^ 64))
 
--- an event that a version tells, with callers and numbers from `least` on: its numbers fit their types, of sizes below 2 ^ 32,
--- and version 1 tells no resize
+-- an event that a version can write, with callers and numbers from `least` on: its numbers fit their types, sizes are below 2
+-- ^ 32, and version 1 has no resize
 abbrev pub FitsEvent : ℕ → Version → Event → Type 0
 FitsEvent least version (Submit id reply) = FitsId least id
 FitsEvent least version (Take id) = FitsId least id
@@ -59,12 +59,12 @@ abbrev pub HistoryTextInjective : Type 0
 HistoryTextInjective = (version : Version) (one other : List Event) → All (FitsEvent 0 version) one → All (FitsEvent 0 version) other
     → history_text version one ≡ history_text version other → one ≡ other
 
--- an example: four submissions to a pool of core size 1, greatest size 2 and queue capacity 1
+-- an example: four submissions to a pool of core size 1, maximum size 2 and queue capacity 1
 abbrev pub example_history : List Event
 example_history = Submit (record { caller = 1; number = 1 }) Core ∷ Submit (record { caller = 1; number = 2 }) Queued
     ∷ Submit (record { caller = 1; number = 3 }) Extra ∷ Submit (record { caller = 1; number = 4 }) Full ∷ []
 
--- an example: a pool of core size 1, greatest size 2 and queue capacity 1 is resized to 2 and 2, and to 1 and 1
+-- an example: a pool of core size 1, maximum size 2 and queue capacity 1 is resized to 2 and 2, and to 1 and 1
 abbrev pub resized_history : List Event
 resized_history = Submit (record { caller = 1; number = 1 }) Core ∷ Resized 2 2 ∷ Submit (record { caller = 1; number = 2 }) Core
     ∷ Resized 1 1 ∷ Submit (record { caller = 1; number = 3 }) Queued ∷ Submit (record { caller = 1; number = 4 }) Full ∷ []

@@ -1,4 +1,4 @@
--- In which versions the text of a history is read.
+-- The versions in which the text of a history is read.
 use Rattle.std.specs.Prelude.{ℕ, List}
 use Rattle.resil_replay.specs.History.{history_header}
 use Rattle.resil_replay.specs.Timed.{timed_header}

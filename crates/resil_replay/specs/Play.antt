@@ -29,7 +29,7 @@ abbrev pub is_closing : ReplayRow → Bool
 is_closing row.Close = true
 is_closing _ = false
 
--- rows without the closings after the first one, or without any closing where the pool is closed already
+-- rows without the closings after the first one, or without any closing if the pool is closed already
 abbrev pub drop_repeated_closings : Bool → List ReplayRow → List ReplayRow
 drop_repeated_closings closed [] = []
 drop_repeated_closings closed (row.Close ∷ rows) = if closed then drop_repeated_closings true rows else row.Close ∷ drop_repeated_closings true rows
@@ -40,8 +40,8 @@ drop_repeated_closings closed (other ∷ rows) = other ∷ drop_repeated_closing
 abbrev pub IsHistoryOf : Sizes → List ReplayRow → List Event → Type 0
 IsHistoryOf limits rows history = IsLegal limits history × (map row_of_event history ≡ drop_repeated_closings false rows)
 
--- Why a row is refused after a history: a submission's number isn't its caller's next one, the job of a finish doesn't
--- run, no take, or no end of an idle worker, is allowed, or the sizes of a resize are out of their ranges, the core size first.
+-- Why a row is refused after a history: a submission's number isn't its caller's next one, the job of a finish doesn't run, no
+-- take, or no end of an idle worker, is allowed, or the sizes of a resize are out of their ranges, the core size first.
 abbrev pub IsRowRefusal : Sizes → List Event → ReplayRow → RowRefusal → Type 0
 IsRowRefusal limits history (row.Submit id) refusal.WrongNumber = id.number ≢ next_number history id.caller
 IsRowRefusal limits history (row.Finish id) refusal.NotOut = is_among id (running history) ≡ false
@@ -51,7 +51,7 @@ IsRowRefusal limits history (row.Resize core max) refusal.CoreOutOfRange = ¬ Is
 IsRowRefusal limits history (row.Resize core max) refusal.MaxOutOfRange = IsCore core × ¬ IsAllowed limits history (event.Resized core max)
 IsRowRefusal limits history _ _ = ⊥
 
--- why a row wasn't carried out after a history: it is refused, or memory ran out
+-- why a row wasn't carried out after a history: it is refused, or out of memory
 abbrev pub IsRowError : Sizes → List Event → ReplayRow → RowError → Type 0
 IsRowError limits history row row_error.Memory = Unit {0}
 IsRowError limits history row (row_error.Refused why) = IsRowRefusal limits history row why
@@ -61,8 +61,8 @@ abbrev pub error_at_row : ℕ → RowError → ReplayError
 error_at_row position row_error.Memory = error.Memory
 error_at_row position (row_error.Refused why) = error.Refused position why
 
--- Why not all rows are carried out: memory ran out, or the rows before a position have a history, and the one there is
--- refused after it. Positions are from 1.
+-- Why not all rows are carried out: out of memory, or the rows before a position have a history, and the one there is refused
+-- after it. Positions are from 1.
 abbrev pub IsReplayError : Sizes → List ReplayRow → ReplayError → Type 0
 IsReplayError limits rows error.Memory = Unit {0}
 IsReplayError limits rows (error.Refused position why) = (prefix : List ReplayRow) × (bad : ReplayRow) × (rest : List ReplayRow) × (history : List Event)

@@ -16,7 +16,7 @@ abbrev pub replay_rows_header : Version → List (List ℕ)
 replay_rows_header One = codes "event" ∷ codes "caller" ∷ codes "number" ∷ []
 replay_rows_header Two = codes "event" ∷ codes "caller" ∷ codes "number" ∷ codes "core" ∷ codes "max" ∷ []
 
--- the row without sizes that three fields are read as; one that names no job has empty fields in its place
+-- the row without sizes that three fields are read as; if it names no job, the fields of the job are empty
 abbrev pub parse_unsized_row : List ℕ → List ℕ → List ℕ → Option ReplayRow
 parse_unsized_row event caller number =
     if is_same event (codes "submit") then option_map row.Submit (parse_id caller number)
@@ -38,7 +38,7 @@ parse_row_fields event caller number core max =
 abbrev pub parse_replay_row : List (List ℕ) → Option ReplayRow
 parse_replay_row fields = parse_row_fields (get_or fields 0 []) (get_or fields 1 []) (get_or fields 2 []) (get_or fields 3 []) (get_or fields 4 [])
 
--- a body of these rows, whose history is told in this version: version 2 where the header is the long one
+-- a body of these rows, with a history in this version: version 2 if the header is the long one
 abbrev pub IsReplayBody : List ℕ → Version → List ReplayRow → Type 0
 IsReplayBody body version rows = IsBody (replay_rows_header version) parse_replay_row body rows
 

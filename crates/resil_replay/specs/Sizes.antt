@@ -6,7 +6,7 @@ use Rattle.resil_input.specs.Number.{parse_from_zero}
 abbrev pub parse_size : List ℕ → Option ℕ
 parse_size field = parse_from_zero (2 ^ 32) field
 
--- a core size and a greatest size
+-- a core size and a maximum size
 abbrev pub parse_sizes : List ℕ → List ℕ → Option (ℕ × ℕ)
 parse_sizes core max = option_and_then (λ c. option_map (λ m. (c, m)) (parse_size max)) (parse_size core)
 

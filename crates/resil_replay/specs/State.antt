@@ -17,7 +17,7 @@ IsCarriedOut row before after =
     ((event : Event) × (row_of_event event ≡ row) × IsAllowed before.limits before.history event × (after.limits ≡ before.limits) × (after.history ≡ before.history ++ event ∷ []))
     ⊎ ((row ≡ Close) × (is_closed before.history ≡ true) × (after ≡ before))
 
--- the pool has these limits and a history of the rows, and is closed exactly where one of them is a closing
+-- the pool has these limits and a history of the rows, and is closed exactly if one of them is a closing
 pub record HasReplayed (limits : Sizes) (rows : List ReplayRow) (m : MachineView) : Type 0 where
   pub same_limits : m.limits ≡ limits
   pub history : IsHistoryOf limits rows m.history

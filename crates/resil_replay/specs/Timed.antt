@@ -1,4 +1,4 @@
--- Version 3 of the text of a history: a record for each event with its time behind it, and what a body of any version is read as.
+-- Version 3 of the text of a history: a record for each event, with its time at the end, and what a body of any version is read as.
 use Rattle.std.specs.Prelude.{ℕ, ◌≡◌, ◌<◌, ◌^◌, ◌++◌, ◌∷◌, ◌⊎◌, [], List, All, Option, Some, None, codes, get_or, map, option_and_then, option_map, ⊤, decimal}
 use Rattle.resil_rule.specs.Timed.{events_in, times_in}
 use Rattle.resil_rule.specs.declared.event.Event.{Event}
@@ -26,17 +26,17 @@ parse_timed fields = option_and_then (λ event. option_map (λ at. record { even
 abbrev pub IsTimedBody : List ℕ → List Timed → Type 0
 IsTimedBody body history = IsBody timed_header parse_timed body history
 
--- what contracts see of a history: its events, and their times where it has them
+-- what contracts see of a history: its events, and their times if it has them
 pub record HistoryView : Type 0 where
   pub events : List Event
   pub times : Option (List ℕ)
 
--- a body of these events, and of their times where its version has them
+-- a body of these events, and of their times if its version has them
 abbrev pub IsHistoryBody : List ℕ → List Event → Option (List ℕ) → Type 0
 IsHistoryBody body events None = IsAuditBody body events
 IsHistoryBody body events (Some times) = (history : List Timed) × IsTimedBody body history × (events ≡ events_in history) × (times ≡ times_in history)
 
--- Why a body is no history in any of the three versions: memory ran out; its first record is the header of none; or a record under
+-- Why a body is no history in any of the three versions: out of memory; its first record is the header of none; or a record under
 -- the header of one of them is no row.
 abbrev pub IsHistoryBodyError : List ℕ → BodyError → Type 0
 IsHistoryBodyError body error.Memory = ⊤
@@ -53,7 +53,7 @@ timed_fields timed = event_fields timed.event ++ decimal timed.at ∷ []
 abbrev pub timed_text : List Timed → List ℕ
 timed_text history = table_text (timed_header ∷ map timed_fields history)
 
--- an event that a history tells, with callers and numbers from 1 on, and a time below 2 ^ 64
+-- an event of a history, with callers and numbers from 1 on, and a time below 2 ^ 64
 abbrev pub FitsTimed : Timed → Type 0
 FitsTimed timed = FitsEvent 1 Two timed.event × (timed.at < 2 ^ 64)
 

@@ -1,6 +1,6 @@
 //! `audit`: judges a history, and writes whether it is legal, in one line.
 //!
-//! An illegal history is no refusal: the verdict names its first illegal event.
+//! An illegal history isn't refused: the verdict names its first illegal event.
 
 ghost use Rattle.std.specs.Prelude.{◌≡◌, IfOk, MatchResult};
 ghost use Rattle.resil_replay.specs.Audit.{IsAuditText, IsAuditRefusal, verdict_text};
@@ -13,31 +13,29 @@ use resil_input::framing::split_input;
 use resil_rule::{Event, Limits, Verdict};
 use std::alloc::{AllocError, Global};
 
-/// The text of the verdict on the history that the rows of an input are.
+/// Returns the text of the verdict on the history in the rows of an input.
 ///
 /// # Errors
 ///
-/// In this order: `Refused` as `NoBody`; as `Head`; as `BadHeader` or `BadRow`. `Memory` may come
-/// at any step.
+/// In this order: `Refused` as `NoBody`; as `Head`; as `BadHeader` or `BadRow`. `Memory` may come at any step.
 pub fn text(alloc: Global, input: &[u8]) -> Result<Vec<u8>, CommandError>
     ensures { MatchResult result (λ text. IsAuditText input.now text.items) (IsError (IsAuditRefusal input.now)) }
 {
     let (head, body) = split_input(input).ok_or(Refusal::NoBody)?;
     let limits = read_head(alloc, head)?;
     let history = read_rows(alloc, body)?;
-    // The only error of an audit is that memory runs out.
+    // The only error of an audit is out of memory.
     let Ok(verdict) = resil_rule::audit(alloc, &limits, &history) else {
         return Err(CommandError::Memory);
     };
     Ok(verdict_text(alloc, verdict)?)
 }
 
-/// The line of a verdict: `legal`, or `illegal` and the position of the first illegal event, from
-/// 1.
+/// Returns the line of a verdict: `legal`, or `illegal` and the position of the first illegal event, from 1.
 ///
 /// # Errors
 ///
-/// `AllocError` when out of memory.
+/// `AllocError` if out of memory.
 pub fn verdict_text(alloc: Global, verdict: Verdict) -> Result<Vec<u8>, AllocError>
     ensures { IfOk result (λ text. text.items ≡ verdict_text verdict) }
 {

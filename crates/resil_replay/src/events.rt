@@ -1,9 +1,8 @@
 //! The bodies of `audit`: a history, as `replay` and `run` write it, with a row for each event.
 //!
-//! The header tells which of the two versions of a history's text it is, and is read first. A field
-//! that an event doesn't use must be empty, and one that its version doesn't have is. Each row is read
-//! by itself: a history that is read here may be illegal, which is for the audit to say. The text of a
-//! history is read as that history.
+//! The header is read first, and says which of the two versions of a history's text it is. A field that an event
+//! doesn't use must be empty, and a field that its version doesn't have is empty. Each row is read by itself: a history
+//! that is read here may be illegal; only the audit says. The text of a history is read as that history.
 
 ghost use Rattle.std.specs.Prelude.{◌≡◌, ℕ, List, MatchResult};
 ghost use Rattle.csv.specs.Records.{fields_of};
@@ -41,7 +40,7 @@ fn parse_reply(name: &[u8]) -> Option<Reply>
     }
 }
 
-/// Reads an event from the fields of a record. Those that the event doesn't use must be empty.
+/// Reads an event from the fields of a record. Fields that the event doesn't use must be empty.
 pub(crate) fn parse_event(fields: &ByteRecord) -> Option<Event>
     ensures { result ≡ parse_event (fields_of fields.now) }
 {
@@ -81,7 +80,7 @@ pub(crate) fn parse_event(fields: &ByteRecord) -> Option<Event>
 ///
 /// # Errors
 ///
-/// The first that is met: `Memory` when out of memory; `BadRow` with the position of the first record that is no event.
+/// The first that occurs: `Memory` if out of memory; `BadRow` with the position of the first record that is no event.
 pub(crate) fn read_opened(alloc: Global, opened: OpenBody<'_>) -> Result<Vec<Event>, BodyError>
     requires opened { (body : List ℕ) × IsOpened body opened }
     requires version { (version : Version) × (header_of opened ≡ history_header version) }
@@ -90,13 +89,12 @@ pub(crate) fn read_opened(alloc: Global, opened: OpenBody<'_>) -> Result<Vec<Eve
     opened.rows(alloc, |fields| Ok(parse_event(fields)))
 }
 
-/// Reads the history in a body of `audit`, in the version that its header tells.
+/// Reads the history in a body of `audit`, in the version that its header says.
 ///
 /// # Errors
 ///
-/// The first that is met: `Memory` when out of memory; `BadHeader` where the first record is
-/// missing or isn't the header of a version; `BadRow` with the position of the first record that is no
-/// event in that version.
+/// The first that occurs: `Memory` if out of memory; `BadHeader` if the first record is missing or isn't the header of
+/// a version; `BadRow` with the position of the first record that is no event in that version.
 pub fn read_rows(alloc: Global, body: &[u8]) -> Result<Vec<Event>, BodyError>
     ensures { MatchResult result (λ history. IsAuditBody body.now history.items) (IsAuditBodyError body.now) }
 {
@@ -108,15 +106,14 @@ pub fn read_rows(alloc: Global, body: &[u8]) -> Result<Vec<Event>, BodyError>
     }
 }
 
-/// The law of the texts of histories: the text of a history, in a version that tells its events and
-/// whose ids are from 1, is read as that history, and as no other.
+/// The law of the texts of histories: the text of a history, in a version that has its events and with ids from 1 on,
+/// is read as that history, and as no other.
 pub fn text_reads_back()
     ensures { HistoriesRoundTrip }
 {}
 
-/// The law of reading: a body alone determines how it is read. It has one version and one history at
-/// most, a body with a history has no error but `Memory`, and a body has one error at most beside
-/// `Memory`.
+/// The law of reading: a body alone determines how it is read. It has at most one version and one history, a body with
+/// a history has no error but `Memory`, and a body has at most one error besides `Memory`.
 pub fn bodies_unique()
     ensures rows { VersionsUnique history_header parse_event }
     ensures fault { VersionsExcludeErrors history_header parse_event }

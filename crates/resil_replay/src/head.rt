@@ -1,6 +1,6 @@
-//! The head of a pool, which `replay` and `audit` have: its three sizes.
+//! The head of a pool, for `replay` and `audit`: its three sizes.
 //!
-//! It is checked in the stages of a document; the last one is that the pool takes its sizes.
+//! It is checked in the stages of a document; the last one is that the pool accepts its sizes.
 //! `specs/Head.antt` defines the stages as one chain of cases.
 
 ghost use Rattle.std.specs.Prelude.{◌≡◌, IfOk, IsOkAnd};
@@ -20,13 +20,13 @@ use std::alloc::Global;
 /// The keys of a pool's head.
 pub const POOL_KEYS: &[Key] = &[CORE, MAX, QUEUE];
 
-/// The limits that a pool's head gives. Its keys are `core` and `max` (workers, both required) and
-/// `queue` (jobs, 100 where it is absent), each an integer from 0 to 4,294,967,295.
+/// Returns the limits in a pool's head. Its keys are `core` and `max` (workers, both required) and
+/// `queue` (jobs, 100 by default), each an integer from 0 to 4,294,967,295.
 ///
 /// # Errors
 ///
-/// The first in this order: `BadToml`; `UnknownKey`; `MissingKey`; `BadValue`; `Limits` where the
-/// pool refuses the sizes. `Memory` may come at any stage.
+/// The first in this order: `BadToml`; `UnknownKey`; `MissingKey`; `BadValue`; `Limits` if the pool
+/// refuses the sizes. `Memory` may come at any stage.
 #[tactic(auto, unfolding(resil_heads::specs::Sizes::parse_limits))]
 pub fn read_head(alloc: Global, bytes: &[u8]) -> Result<Limits, HeadFault>
     ensures answer { Gives result (pool_head_of bytes.now) }
@@ -36,7 +36,7 @@ pub fn read_head(alloc: Global, bytes: &[u8]) -> Result<Limits, HeadFault>
     ensures refused_sizes { (why : AdmitError) → result ≡ Err (HeadError.Limits why)
         → IsOkAnd (requested_sizes_of bytes.now) (λ sizes. IsSizeRefusal sizes why) }
 
-    // A blank head takes no memory.
+    // A blank head doesn't allocate.
     ensures memory { result ≡ Err HeadError.Memory → ¬ IsBlank bytes.now }
 {
     let table = read_document(alloc, bytes)?;

@@ -1,8 +1,8 @@
 //! The text of a history: a header, then one record for each event.
 //!
-//! It has two versions. Version 2 has a column more for each of the two sizes, and tells resizes;
-//! version 1 is its first four columns. No two events that a version tells have the same record, so no
-//! two histories of such events have the same text, and a text that was written can be read back.
+//! It has two versions. Version 2 has two more columns, one for each of the two sizes, and has resizes; version 1 is its
+//! first four columns. No two events that a version can write have the same record, so no two histories of such events
+//! have the same text, and a text that was written can be read back.
 
 ghost use Rattle.std.specs.Prelude.{◌≡◌, ◌≤◌, ◌++◌, ◌∷◌, [], codes, length, map, take, IfOk, OnOk, decimal};
 ghost use Rattle.resil_input.specs.CsvTable.{ArePlain, HasColumns, record_text, text_so_far};
@@ -40,7 +40,7 @@ pub(crate) const COLUMNS: [&[u8]; 7] = [
     b"event", b"caller", b"number", b"reply", b"core", b"max", b"at",
 ];
 
-// Writes a record of the first fields, as many as there are columns. Errors: `AllocError` when out of memory.
+// Writes a record of the first fields, as many as there are columns. Errors: `AllocError` if out of memory.
 fn push_fields(table: &mut CsvTable, columns: usize, fields: &[&[u8]]) -> Result<(), AllocError>
     requires columns { HasColumns table.old columns }
     requires few { columns ≤ length fields.now }
@@ -51,7 +51,7 @@ fn push_fields(table: &mut CsvTable, columns: usize, fields: &[&[u8]]) -> Result
     table.push(&fields[..columns])
 }
 
-/// Writes the record of an event and its time, in the first of the seven columns. Errors: `AllocError` when out of memory.
+/// Writes the record of an event and its time, in the first of the seven columns. Errors: `AllocError` if out of memory.
 #[tactic(auto, using(resil_input::proofs::PlainLaws::IsPlain_number, crate::proofs::HistoryLaws::IsPlain_reply_name))]
 pub(crate) fn push_row(
     table: &mut CsvTable,
@@ -107,7 +107,7 @@ pub(crate) fn push_row(
     }
 }
 
-// Writes the record of an event in a version without times. Errors: `AllocError` when out of memory.
+// Writes the record of an event in a version without times. Errors: `AllocError` if out of memory.
 #[tactic(auto, using(crate::proofs::HistoryLaws::first_fields))]
 fn push_event(table: &mut CsvTable, version: Version, event: Event) -> Result<(), AllocError>
     requires { HasColumns table.old (columns_of version) }
@@ -117,13 +117,12 @@ fn push_event(table: &mut CsvTable, version: Version, event: Event) -> Result<()
     push_row(table, version.columns(), event, 0)
 }
 
-/// The text of a history in a version: the header `event,caller,number,reply`, to which version 2
-/// adds `,core,max`, then a record for each event, in order. Version 1 has no columns for the sizes
-/// of a resize: it is for histories without one.
+/// Returns the text of a history in a version: the header `event,caller,number,reply`, and in version 2 also `,core,max`, then
+/// a record for each event, in order. Version 1 has no columns for the sizes of a resize: it is for histories without one.
 ///
 /// # Errors
 ///
-/// `AllocError` when out of memory.
+/// `AllocError` if out of memory.
 pub fn history_text(
     alloc: Global,
     version: Version,

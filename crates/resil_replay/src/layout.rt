@@ -1,6 +1,6 @@
-//! In which versions the text of a history is read: those that `audit` takes, and the one with times.
+//! The versions in which the text of a history is read: those that `audit` accepts, and the one with times.
 //!
-//! The header of each version is the first columns of the last one's. A body is opened once, and its header says the version.
+//! The header of each version is the first columns of the last version's. A body is opened once, and its header says the version.
 
 ghost use Rattle.std.specs.Prelude.{◌≡◌, ◌≢◌, IfNone, IfSome, map};
 ghost use Rattle.resil_input.specs.ReaderState.{header_of};
@@ -34,7 +34,7 @@ impl Layout {
         }
     }
 
-    /// The version that the header of a body says.
+    /// Returns the version that the header of a body says.
     pub(crate) fn of(opened: &OpenBody<'_>) -> Option<Layout>
         ensures some { IfSome result (λ layout. header_of opened.now ≡ layout_header layout) }
         ensures none { IfNone result ((layout : Layout) → header_of opened.now ≢ layout_header layout) }

@@ -1,8 +1,8 @@
-//! `replay` and `audit`: a history that rows give on one pool, and whether a history is legal.
+//! `replay` and `audit`: the history of rows carried out on one pool, and whether a history is legal.
 //!
-//! Both have the head of a pool (`head`). `replay` reads rows (`rows`), carries them out on one pool (`play`, `pool`), and
-//! writes the history (`history`); `audit` reads a history (`events`) and writes the verdict; `timed` reads one with times too. What a history
-//! looks like as a text is said here alone: `run` writes one too.
+//! Both have the head of a pool (`head`). `replay` reads rows (`rows`), carries them out on one pool (`play`, `pool`), and writes the history
+//! (`history`); `audit` reads a history (`events`) and writes the verdict; `timed` also reads one with times. Only this crate says what a
+//! history looks like as a text: `run` uses it to write one too.
 #![tactic(auto)]
 
 pub mod audit;

@@ -20,7 +20,7 @@ use thiserror::Error;
 /// Why not all rows were carried out.
 #[derive(Clone, Copy, Debug, Error)]
 pub enum ReplayError {
-    /// Memory ran out.
+    /// Out of memory.
     #[error("out of memory")]
     Memory,
     /// The pool refused the row at this position, from 1.
@@ -28,8 +28,7 @@ pub enum ReplayError {
     Refused(usize, RowRefusal),
 }
 
-// Carries out one row. Errors: `Memory` when out of memory; `Refused` where the pool refuses the
-// row.
+// Carries out one row. Errors: `Memory` if out of memory; `Refused` if the pool refuses the row.
 fn apply_row(alloc: Global, pool: &mut ReplayPool, row: ReplayRow) -> Result<(), RowError>
     ensures played { OnOk result (IsCarriedOut row pool.old pool.new) }
     ensures refused { IfErr result (IsRowError pool.old.limits pool.old.history row) }
@@ -57,12 +56,12 @@ fn error_at_row(position: usize, why: RowError) -> ReplayError
     }
 }
 
-/// Carries out all rows on a new pool of these limits, and answers its machine.
+/// Carries out all rows on a new pool of these limits, and returns its machine.
 ///
 /// # Errors
 ///
-/// The first that is met: `Memory` when out of memory; `Refused` with the position of the first
-/// row that the pool refuses, and why.
+/// The first that occurs: `Memory` if out of memory; `Refused` with the position of the first row
+/// that the pool refuses, and why.
 pub fn play(alloc: Global, limits: Limits, rows: &[ReplayRow]) -> Result<Machine, ReplayError>
     ensures { MatchResult result (λ m. (m.limits ≡ limits) × IsHistoryOf limits rows.now m.history) (IsReplayError limits rows.now) }
 {

@@ -1,10 +1,8 @@
-//! The pool of a replay: one machine, and the jobs that are out, which are those that were picked
-//! and haven't finished.
+//! The pool of a replay: one machine, and the jobs that are out, that is, picked and not finished.
 //!
-//! A job that gets a worker of its own is picked at once, and a picked job is kept here until its
-//! finish, which runs it. So each job that a worker runs is here, with the plan that was submitted
-//! under its id. Room for a job is reserved before the machine is asked, so a refused row leaves
-//! all as it was.
+//! A job that gets a worker of its own is picked at once, and a picked job is kept here until its finish,
+//! which runs it. So each job that a worker runs is here, with the plan that was submitted under its id.
+//! Room for a job is reserved before the machine is called, so a refused row leaves everything as it was.
 
 ghost use Rattle.std.specs.Prelude.{◌≡◌, [], false, IfOk, IfErr, IfSome, OnOk, IfNone, position};
 ghost use Rattle.resil_rule.specs.History.{is_among, is_same_id};
@@ -24,14 +22,14 @@ use std::marker::Model;
 /// Why a row wasn't carried out.
 #[derive(Clone, Copy)]
 pub(crate) enum RowError {
-    /// Memory ran out.
+    /// Out of memory.
     Memory,
     /// The pool refuses the row.
     Refused(RowRefusal),
 }
 
 /// A machine, the jobs that were picked and haven't finished, the plan that all jobs share, and a permitter
-/// that grants nothing, for jobs that have no bulkheads.
+/// that grants nothing, for jobs without bulkheads.
 #[derive(Drop)]
 pub(crate) struct ReplayPool {
     machine: Machine,
@@ -53,11 +51,11 @@ impl Model for ReplayPool {
 }
 
 impl ReplayPool {
-    /// A new pool of these limits. Its jobs have no layers, and a function that gives the value 0.
+    /// Makes a new pool of these limits. Its jobs have no layers, and a function that returns the value 0.
     ///
     /// # Errors
     ///
-    /// `AllocError` when out of memory.
+    /// `AllocError` if out of memory.
     pub(crate) fn new(alloc: Global, limits: Limits) -> Result<ReplayPool, AllocError>
         ensures { IfOk result (HasReplayed limits []) }
     {
@@ -74,12 +72,11 @@ impl ReplayPool {
         })
     }
 
-    /// Submits a job, which is picked at once if a worker was started for it.
+    /// Submits a job. It is picked at once if a worker was started for it.
     ///
     /// # Errors
     ///
-    /// With nothing changed: `WrongNumber` where the number isn't the caller's next one; `Memory`
-    /// when out of memory.
+    /// With nothing changed: `WrongNumber` if the number isn't the caller's next one; `Memory` if out of memory.
     pub(crate) fn submit(&mut self, alloc: Global, id: Id) -> Result<(), RowError>
         ensures played { OnOk result (IsCarriedOut (ReplayRow.Submit id) self.old self.new) }
         ensures refused { IfErr result (IsRowError self.old.limits self.old.history (ReplayRow.Submit id)) }
@@ -102,11 +99,11 @@ impl ReplayPool {
         }
     }
 
-    /// Runs the job that is out under an id, and hands its run to the machine.
+    /// Runs the job that is out under an id, and passes its run to the machine.
     ///
     /// # Errors
     ///
-    /// `NotOut` where no job of this id is out.
+    /// `NotOut` if no job of this id is out.
     pub(crate) fn finish(&mut self, id: Id) -> Result<(), RowError>
         ensures played { OnOk result (IsCarriedOut (ReplayRow.Finish id) self.old self.new) }
         ensures refused { IfErr result (IsRowError self.old.limits self.old.history (ReplayRow.Finish id)) }
@@ -127,8 +124,8 @@ impl ReplayPool {
     ///
     /// # Errors
     ///
-    /// In this order, with nothing changed: `Memory` when out of memory; `NotAllowed` where no
-    /// job waits or no worker is idle.
+    /// In this order, with nothing changed: `Memory` if out of memory; `NotAllowed` if no job waits or no
+    /// worker is idle.
     pub(crate) fn take(&mut self) -> Result<(), RowError>
         ensures played { OnOk result (IsCarriedOut ReplayRow.Take self.old self.new) }
         ensures refused { IfErr result (IsRowError self.old.limits self.old.history ReplayRow.Take) }
@@ -149,7 +146,7 @@ impl ReplayPool {
     ///
     /// # Errors
     ///
-    /// `NotAllowed`, with nothing changed, where no worker may end.
+    /// `NotAllowed`, with nothing changed, if no worker may end.
     pub(crate) fn idle(&mut self) -> Result<(), RowError>
         ensures played { OnOk result (IsCarriedOut ReplayRow.Idle self.old self.new) }
         ensures refused { IfErr result (IsRowError self.old.limits self.old.history ReplayRow.Idle) }
@@ -160,13 +157,12 @@ impl ReplayPool {
         Ok(())
     }
 
-    /// Sets the core size and the greatest size.
+    /// Sets the core size and the maximum size.
     ///
     /// # Errors
     ///
-    /// In this order, with nothing changed: `CoreOutOfRange` where the core size isn't from 1 to 64;
-    /// `MaxOutOfRange` where the greatest size is below it or above that of the limits; `Memory` where
-    /// memory runs out.
+    /// In this order, with nothing changed: `CoreOutOfRange` if the core size isn't from 1 to 64;
+    /// `MaxOutOfRange` if the maximum size is below it or above that of the limits; `Memory` if out of memory.
     pub(crate) fn resize(&mut self, core: u32, max: u32) -> Result<(), RowError>
         ensures played { OnOk result (IsCarriedOut (ReplayRow.Resize core max) self.old self.new) }
         ensures refused { IfErr result (IsRowError self.old.limits self.old.history (ReplayRow.Resize core max)) }
@@ -200,7 +196,7 @@ impl ReplayPool {
     }
 }
 
-// Removes the first job of an id from those that are out.
+// Removes the first job of an id from the jobs that are out.
 fn remove_job(out: &mut Vec<(Id, Job)>, id: Id) -> Option<Job>
     ensures taken { IfSome result (λ job. IsRemoved out.old.items id job out.new.items) }
     ensures none { IfNone result (is_among id (ids_in_flight out.old.items) ≡ false) }

@@ -1,7 +1,7 @@
 //! `replay`: carries out a list of events on one pool, and writes its history.
 //!
-//! All rows are read before the first is carried out, so a bad row anywhere comes before an event
-//! that the pool refuses.
+//! All rows are read before the first one is carried out, so a bad row anywhere is reported before
+//! an event that the pool refuses.
 
 ghost use Rattle.std.specs.Prelude.{◌≡◌, MatchResult};
 ghost use Rattle.resil_heads.specs.CommandError.{IsError};
@@ -28,7 +28,7 @@ impl From<ReplayError> for CommandError {
     }
 }
 
-/// The text of the history that the rows of an input give on one pool.
+/// Returns the text of the history of the rows of an input on one pool.
 ///
 /// # Errors
 ///
@@ -41,7 +41,7 @@ pub fn text(alloc: Global, input: &[u8]) -> Result<Vec<u8>, CommandError>
     let limits = read_head(alloc, head)?;
     let ReplayBody { version, rows } = read_rows(alloc, body)?;
     let machine = play(alloc, limits, &rows)?;
-    // The history says all that the rows did, so the text may have their room.
+    // The history says everything that the rows did, so the text may reuse their room.
     drop(rows);
     Ok(history_text(alloc, version, machine.history())?)
 }

@@ -1,7 +1,7 @@
 //! The bodies of `replay`: what is done to a pool, one row after the other.
 //!
 //! Under the long header a row may resize the pool. A field that a row doesn't use must be empty. All
-//! rows are read before the first is carried out, so a row that can't be read is reported even where
+//! rows are read before the first one is carried out, so a row that can't be read is reported even if
 //! the pool would refuse an earlier one.
 
 ghost use Rattle.std.specs.Prelude.{◌≡◌, map, MatchResult};
@@ -27,20 +27,20 @@ pub enum ReplayRow {
     Submit(Id),
     /// The end of a job that a worker runs, `finish,caller,number`.
     Finish(Id),
-    /// The taking of the job at the front of the queue by an idle worker, `take,,`.
+    /// An idle worker takes the job at the front of the queue, `take,,`.
     Take,
     /// The end of an idle worker, `idle,,`.
     Idle,
     /// The closing of the pool, `close,,`.
     Close,
-    /// The setting of the core size and the greatest size, `resize,,,core,max`.
+    /// The core size and the maximum size are set, `resize,,,core,max`.
     Resize { core: u32, max: u32 },
 }
 
 /// The rows of a `replay`, and the version of the text of their history.
 #[derive(Drop)]
 pub struct ReplayBody {
-    /// Version 2 exactly where the header is the long one.
+    /// Version 2 exactly if the header is the long one.
     pub version: Version,
     /// What is done to the pool, in order.
     pub rows: Vec<ReplayRow>,
@@ -52,7 +52,7 @@ const SHORT_HEADER: &[&str] = &["event", "caller", "number"];
 // The fields of the long header.
 const LONG_HEADER: &[&str] = &["event", "caller", "number", "core", "max"];
 
-/// What the bodies may have.
+/// What a body may contain.
 pub const BODY: Body = Body {
     header: LONG_HEADER,
     forms: &[Form::Word, CALLER, NUMBER, SIZE, SIZE],
@@ -67,7 +67,7 @@ pub const BODY: Body = Body {
     has_resizes: true,
 };
 
-// Reads a row from the fields of a record. Those that the row doesn't use must be empty.
+// Reads a row from the fields of a record. Fields that the row doesn't use must be empty.
 fn parse_replay_row(fields: &ByteRecord) -> Option<ReplayRow>
     ensures { result ≡ parse_replay_row (fields_of fields.now) }
 {
@@ -110,9 +110,8 @@ fn read_under(alloc: Global, header: &[&str], body: &[u8]) -> Result<Vec<ReplayR
 ///
 /// # Errors
 ///
-/// The first that is met: `Memory` when out of memory; `BadHeader` where the first record is
-/// missing or is neither header; `BadRow` with the position of the first record that is no row under
-/// that header.
+/// The first that occurs: `Memory` if out of memory; `BadHeader` if the first record is missing or is
+/// neither header; `BadRow` with the position of the first record that is no row under that header.
 pub fn read_rows(alloc: Global, body: &[u8]) -> Result<ReplayBody, BodyError>
     ensures { MatchResult result (λ read. IsReplayBody body.now read.version read.rows.items) (IsReplayBodyError body.now) }
 {
@@ -129,9 +128,8 @@ pub fn read_rows(alloc: Global, body: &[u8]) -> Result<ReplayBody, BodyError>
     }
 }
 
-/// The law of reading: a body alone determines how it is read. It has one version and one list of rows
-/// at most, a body with rows has no error but `Memory`, and a body has one error at most beside
-/// `Memory`.
+/// The law of reading: a body alone determines how it is read. It has at most one version and one list of
+/// rows, a body with rows has no error but `Memory`, and a body has at most one error besides `Memory`.
 pub fn bodies_unique()
     ensures rows { VersionsUnique replay_rows_header parse_replay_row }
     ensures fault { VersionsExcludeErrors replay_rows_header parse_replay_row }

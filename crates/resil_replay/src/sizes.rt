@@ -1,6 +1,6 @@
-//! The sizes of a resize, as two fields of a row write them: the core size, and the greatest size.
+//! The sizes of a resize, as two fields of a row write them: the core size and the maximum size.
 //!
-//! Each number that fits its type is read, also 0, so that it is for the pool to refuse it.
+//! Each number that fits its type is read, even 0: it is for the pool to refuse it.
 
 ghost use Rattle.std.specs.Prelude.{◌≡◌};
 ghost use Rattle.resil_replay.specs.Sizes.{parse_size, parse_sizes, SizesAreDecimal, SizesRoundTrip};
@@ -18,7 +18,7 @@ fn parse_size(field: &[u8]) -> Option<u32>
     u32::try_from(parse_from_zero(field)?).ok()
 }
 
-/// Reads a core size and a greatest size from two fields, each from 0 to 4,294,967,295.
+/// Reads a core size and a maximum size from two fields, each from 0 to 4,294,967,295.
 pub(crate) fn parse_sizes(core: &[u8], max: &[u8]) -> Option<(u32, u32)>
     ensures { result ≡ parse_sizes core.now max.now }
 {

@@ -1,14 +1,16 @@
-//! What `replay` and `audit` say of their inputs to whoever explains what is wrong with one.
+//! What `replay` and `audit` say of their inputs, to explain what is wrong with one.
 
 use crate::head::{POOL_KEYS, read_head};
 use crate::rows::{self, ReplayRow};
 use crate::timed::{self, read_history};
 use csv::ByteRecord;
+use resil_heads::document::{check_keys, read_document};
 use resil_heads::forms::{Body, Key};
 use resil_heads::pool_head::{Uses, read_pool_head};
 use resil_heads::run::RUN_KEYS;
+use resil_heads::sizes::parse_limits;
 use resil_heads::subject::Subject;
-use resil_heads::{HeadError, HeadFault, history};
+use resil_heads::{HeadError, HeadFault};
 use resil_input::csv_rows::has_fields;
 use resil_rule::{Event, Id, Limits, Reply};
 use std::alloc::Global;
@@ -24,7 +26,7 @@ pub struct ReplaySubject;
 #[derive(Clone, Copy)]
 pub struct AuditSubject;
 
-// The event of a row. The reply and the job that it takes are the pool's to say.
+// The event of a row. The reply, and the job that it takes, are up to the pool.
 fn event_of(row: ReplayRow) -> Event {
     let (caller, number) = (0, 0);
     let reply = Reply::Full;
@@ -66,7 +68,7 @@ impl Subject for ReplaySubject {
         Some((limits, events.collect(alloc).ok()?))
     }
 
-    // Names `judge` where the body is a history.
+    // Names `judge` if the body is a history.
     fn other_command(
         self,
         _alloc: Global,
@@ -80,26 +82,31 @@ impl Subject for ReplaySubject {
             || has_fields(header, untimed.header)
             || has_fields(header, untimed.without_resizes().header);
         (name == "BadHeader" && is_history).then_some(
-            "this is a history, which the command `judge` takes; `replay` takes events without replies",
+            "this is a history; check it with `judge`, since `replay` takes events without replies",
         )
     }
 }
 
-// What is said if `judge` takes a head that `audit` refuses; nothing without memory to read it.
+// The sizes that the head of a `run` gives.
+fn limits_of_run(alloc: Global, head: &[u8]) -> Result<Limits, HeadFault> {
+    let table = read_document(alloc, head)?;
+    check_keys(RUN_KEYS, &table)?;
+    parse_limits(&table)
+}
+
+// What to say if `judge` accepts a head that `audit` refuses; nothing if there is no memory to read it.
 fn judge_of_head(alloc: Global, head: &[u8]) -> Option<&'static str> {
     if read_pool_head(alloc, Uses::NONE, head).is_err() {
         return None;
     }
-    let Err(fault) = history::read_head(alloc, RUN_KEYS, head) else {
+    let Err(fault) = limits_of_run(alloc, head) else {
         return Some(
-            "the command `judge` says the same of a history, and takes the head of a `run` too",
+            "the command `judge` gives the same answer for a history, and also accepts the head of a `run`",
         );
     };
     match fault.why() {
         HeadError::Memory => None,
-        _ => Some(
-            "the command `judge` takes this head: it judges histories of any pool of the JDK",
-        ),
+        _ => Some("the command `judge` accepts this head: it checks histories of any JDK pool"),
     }
 }
 
@@ -118,7 +125,7 @@ impl Subject for AuditSubject {
 
     fn said_of(self, name: &str) -> Option<&'static str> {
         (name == "TooLong").then_some(
-            "an input of `audit` has at most 1048576 bytes; one of the command `judge`, which says the same of a history, has up to 16777216",
+            "an input of `audit` may have at most 1048576 bytes; the command `judge` gives the same answer for histories of up to 16777216",
         )
     }
 
@@ -127,7 +134,7 @@ impl Subject for AuditSubject {
         Some((limits, read_history(alloc, part).ok()?.events))
     }
 
-    // Names `judge` where that takes it.
+    // Names `judge` if that accepts it.
     fn other_command(
         self,
         alloc: Global,
@@ -141,11 +148,11 @@ impl Subject for AuditSubject {
         }
         if name == "BadHeader" && has(timed::BODY.header) {
             Some(
-                "the command `judge` says the same of a history, and takes a history with times too",
+                "the command `judge` gives the same answer for a history, and also accepts a history with times",
             )
         } else if name == "BadRow" && has(RESULTS_HEADER) {
             Some(
-                "the command `judge` says the same of a history, and takes the results of a `run` behind its history too",
+                "the command `judge` gives the same answer for a history, and also accepts the results of a `run` after it",
             )
         } else {
             None

@@ -1,5 +1,4 @@
-//! Version 3 of the text of a history: that of version 2, with the time of each event behind it; and the reading of all three
-//! versions.
+//! Version 3 of the text of a history: that of version 2, with the time of each event at the end; and the reading of all three versions.
 //!
 //! Each row is read by itself, so `first_back` of `resil_rule` says whether times ascend. The text of a history with times is read as
 //! that history with those times.
@@ -25,7 +24,7 @@ use resil_rule::{Event, Timed, events_in, times_in};
 use std::alloc::{AllocError, Global};
 use std::marker::Model;
 
-/// What the bodies of version 3 may have, and, without times, those of the others.
+/// What a body of version 3 may contain, and, without times, what a body of the others may.
 pub const BODY: Body = Body {
     header: HEADER,
     forms: &[
@@ -53,7 +52,7 @@ pub const BODY: Body = Body {
 pub struct History {
     /// Its events, in order.
     pub events: Vec<Event>,
-    /// The time of each event, in microseconds, where the body is of version 3.
+    /// The time of each event, in microseconds, if the body is of version 3.
     pub times: Option<Vec<u64>>,
 }
 
@@ -79,7 +78,7 @@ fn parse_timed(fields: &ByteRecord) -> Option<Timed>
 ///
 /// # Errors
 ///
-/// The first that is met: `BadHeader` if the first record isn't the header; `Memory` when out of memory; `BadRow` with the position of
+/// The first that occurs: `BadHeader` if the first record isn't the header; `Memory` if out of memory; `BadRow` with the position of
 /// the first record that is no event, or has no time.
 pub fn read_opened(alloc: Global, opened: OpenBody<'_>) -> Result<Vec<Timed>, BodyError>
     requires { (body : List ℕ) × IsOpened body opened }
@@ -91,12 +90,12 @@ pub fn read_opened(alloc: Global, opened: OpenBody<'_>) -> Result<Vec<Timed>, Bo
     opened.rows(alloc, |fields| Ok(parse_timed(fields)))
 }
 
-/// Reads the history in a body, in the version that its header tells.
+/// Reads the history in a body, in the version that its header says.
 ///
 /// # Errors
 ///
-/// The first that is met: `Memory` when out of memory; `BadHeader` where the first record is missing or isn't the header of a
-/// version; `BadRow` with the position of the first record that is no event, or has no time, in that version.
+/// The first that occurs: `Memory` if out of memory; `BadHeader` if the first record is missing or isn't the header of a version;
+/// `BadRow` with the position of the first record that is no event, or has no time, in that version.
 pub fn read_history(alloc: Global, body: &[u8]) -> Result<History, BodyError>
     ensures { MatchResult result (λ read. IsHistoryBody body.now read.events read.times) (IsHistoryBodyError body.now) }
 {
@@ -122,11 +121,11 @@ pub fn read_history(alloc: Global, body: &[u8]) -> Result<History, BodyError>
     }
 }
 
-/// The text of a history in version 3: the header `event,caller,number,reply,core,max,at`, then a record for each event, in order.
+/// Returns the text of a history in version 3: the header `event,caller,number,reply,core,max,at`, then a record for each event, in order.
 ///
 /// # Errors
 ///
-/// `AllocError` when out of memory.
+/// `AllocError` if out of memory.
 #[tactic(auto, using(crate::proofs::HistoryLaws::all_fields))]
 pub fn timed_text(alloc: Global, history: &[Timed]) -> Result<Vec<u8>, AllocError>
     ensures { IfOk result (λ text. text.items ≡ timed_text history.now) }

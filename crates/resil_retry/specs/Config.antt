@@ -9,7 +9,7 @@ use Rattle.resil_retry.specs.ErrorTest.{ErrorTestView}
 use Rattle.resil_retry.specs.Interval.{interval}
 use Rattle.resil_retry.specs.OutcomeTest.{is_retried}
 
--- the greatest number of attempts of a retry, the first call included
+-- the maximum number of attempts of a retry, the first call included
 abbrev pub attempt_limit : ℕ
 attempt_limit = 1000
 
@@ -21,7 +21,7 @@ pub record RetryConfigView : Type 0 where
   pub error_test : ErrorTestView
   pub fail_after_max : Bool
 
--- the policy of a retry by this configuration: how often, after which waits and for which outcomes
+-- the policy of a retry by this configuration: how many attempts, after which waits and for which outcomes
 abbrev pub policy_of : RetryConfigView → RetryPolicy Backoff OutcomeTest
 policy_of settings = record {
   max_attempts = settings.max_attempts;

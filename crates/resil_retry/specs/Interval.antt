@@ -1,4 +1,4 @@
--- How long a retry waits after each attempt, in milliseconds, as whole numbers without bound
+-- How long a retry waits after each attempt, in milliseconds, as unbounded whole numbers
 -- (Resilience4j user guide, Retry, interval functions).
 use Rattle.std.specs.Prelude.{ℕ, zero, suc, ◌-◌, ◌*◌, ◌/◌, ◌≤◌, min}
 use Rattle.resil_retry.specs.declared.interval.Backoff.{Backoff}
@@ -8,13 +8,12 @@ use Rattle.resil_retry.specs.declared.interval.Backoff.TheVariants.{Fixed, Expon
 abbrev pub interval_limit : ℕ
 interval_limit = 31536000000
 
--- the wait that an initial one grows to in this number of steps: each step multiplies by a fraction
--- and truncates
+-- what an initial wait grows to in this number of steps: each step multiplies by a fraction and truncates
 unfoldable pub uncapped_wait : ℕ → ℕ → ℕ → ℕ → ℕ
 uncapped_wait initial numerator denominator zero = initial
 uncapped_wait initial numerator denominator (suc steps) = uncapped_wait initial numerator denominator steps * numerator / denominator
 
--- the wait after attempt k, where attempts are numbered from 1
+-- the wait after attempt k. Attempts are numbered from 1
 abbrev pub interval : Backoff → ℕ → ℕ
 interval (Fixed ms) k = ms
 interval (Exponential initial numerator denominator cap) k = min (uncapped_wait initial numerator denominator (k - 1)) cap

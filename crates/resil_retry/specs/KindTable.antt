@@ -1,4 +1,4 @@
--- Tables of kinds: for each kind of error an answer.
+-- Tables of kinds: an answer for each kind of error.
 use Rattle.std.specs.Prelude.{ℕ, ◌+◌, ◌<◌, ◌≡◌, Bool, false, List, slice_index_or}
 use Rattle.resil_retry.specs.declared.outcome.Kind.{Kind}
 use Rattle.resil_retry.specs.declared.outcome.Kind.TheVariants.{Code, Full, Exceeded}

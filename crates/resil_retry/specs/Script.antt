@@ -1,11 +1,11 @@
--- The outcomes of a script, what it answers to one call, and what it leaves for the next.
+-- The outcomes of a script, the answer to one call, and what is left for the next call.
 use Rattle.std.specs.Prelude.{List, [], ◌∷◌, Option, Some, None}
 use Rattle.std.specs.Arc.{arc_value}
 use Rattle.resil_retry.specs.declared.outcome.Outcome.{Outcome}
 use Rattle.resil_retry.specs.declared.script.Outcomes.{Outcomes}
 use Rattle.resil_retry.specs.declared.script.Outcomes.TheVariants.{One, Many, Shared}
 
--- the outcomes, wherever they are
+-- the outcomes, wherever they are kept
 abbrev pub outcomes_at : Outcomes → List Outcome
 outcomes_at (One outcome) = outcome ∷ []
 outcomes_at (Many outcomes) = outcomes.items

@@ -1,7 +1,7 @@
-//! Callees, which are calls that go by a script, and the retry of one.
+//! Callees, which are calls that follow a script, and the retry of one.
 //!
-//! It is the retry of any call, by the policy of a configuration. The waits are recorded in reserved
-//! room, one for each attempt but the last, so a retry takes no memory and can't fail.
+//! This is the retry of any call, by the policy of a configuration. The waits are recorded in
+//! reserved room, one for each attempt but the last, so a retry allocates nothing and can't fail.
 
 ghost use Rattle.std.specs.Prelude.{◌≡◌, ◌≤◌, ◌+◌, ◌-◌, ◌++◌, length, List, Some, IsSomeAnd};
 ghost use Rattle.resil_retry.specs.declared.outcome.Outcome.{Outcome};
@@ -13,31 +13,30 @@ use crate::outcome::{Ending, Outcome};
 use crate::waits::Waits;
 use resil_call::{Call, End};
 
-/// A call of outcomes that goes by a script, and can be made again and again.
+/// A call that returns outcomes, follows a script, and can be made repeatedly.
 ///
 /// ```
 /// let mut player = Player::new(&script);
 /// let outcome = player.call();
 /// ```
 pub trait Callee: Call<Output = Outcome> {
-    /// The outcomes of its calls from here on.
+    /// The outcomes of its calls from now on.
     ghost script: { Self → List Outcome };
 
     /// It can be called.
     ghost can_call: { (x : Self) → Self.CanCall x };
 
-    /// A call answers the first outcome of its script and drops it, unless it is the only one.
+    /// A call returns the first outcome of its script and drops it, unless it is the only one.
     ghost answers: { (x y : Self) (outcome : Outcome) → Self.IsAnswer x outcome y → (first (script x) ≡ Some outcome) × (script y ≡ rest (script x)) };
 }
 
 /// Calls the callee until an outcome isn't to be retried or no attempt is left, records the wait
-/// after each attempt but the last, in milliseconds, and answers the outcome and how the retry
-/// ended (Resilience4j user guide, Retry). The list of waits needs room for `max_attempts - 1`
-/// more.
+/// after each attempt but the last, in milliseconds, and returns the outcome and how the retry ended
+/// (Resilience4j user guide, Retry). The list of waits needs room for `max_attempts - 1` more.
 ///
-/// An outcome that isn't to be retried is answered at once: a value as `First` or `Later`, an error
-/// as `Ignored`. Where no attempt is left the last outcome is answered as `Exhausted`; a value
-/// becomes the error `Exceeded` where the configuration fails after the last attempt.
+/// An outcome that isn't to be retried is returned at once: a value as `First` or `Later`, an error
+/// as `Ignored`. If no attempt is left, the last outcome is returned as `Exhausted`; a value becomes
+/// the error `Exceeded` if the configuration fails after the last attempt.
 ///
 /// ```
 /// let mut waits = Waits::new(alloc, config.max_attempts() as usize - 1)?;

@@ -1,9 +1,9 @@
 //! The configuration of a retry.
 //!
 //! A configuration has at least one attempt, since the first call is one, and at most
-//! `MAX_ATTEMPTS`, so the waits of a retry fit into room that is reserved before it starts. The
-//! rest is the policy of a retry of any call: the interval gives the wait after an attempt, the
-//! result test and the error test say which outcomes are to be retried.
+//! `MAX_ATTEMPTS`, so the waits of a retry fit into room reserved before it starts. The rest is the
+//! policy of a retry of any call: the interval gives the wait after an attempt, and the result test
+//! and the error test say which outcomes are to be retried.
 
 ghost use Rattle.std.specs.Prelude.{◌≡◌, ◌≤◌, ◌<◌, ◌↔◌, IsTrue, OkIff, IsErrOf, IfOk, IfErr};
 ghost use Rattle.resil_retry.specs.Config.{again, attempt_limit, policy_of, wait_after};
@@ -20,11 +20,11 @@ use resil_call::{RetryPolicy, RetryTest};
 use std::alloc::Global;
 use std::marker::Model;
 
-/// The greatest number of attempts of a retry, the first call included (Resilience4j user guide,
+/// The maximum number of attempts of a retry, the first call included (Resilience4j user guide,
 /// Retry: `maxAttempts`). The limit is this library's own.
 pub const MAX_ATTEMPTS: u32 = 1_000;
 
-/// How often, after which waits and for which outcomes a call is tried again (Resilience4j user
+/// How many attempts a retry makes, after which waits and for which outcomes (Resilience4j user
 /// guide, Retry: `maxAttempts`, `intervalFunction`, `retryOnResultPredicate`,
 /// `retryOnExceptionPredicate`, `failAfterMaxAttempts`).
 ///
@@ -57,14 +57,13 @@ impl Model for RetryConfig {
 }
 
 impl RetryConfig {
-    /// A configuration of these parts: the number of attempts, of which the first call is one; the
+    /// Makes a configuration of these parts: the number of attempts, the first call included; the
     /// wait after each; the values and the errors that are to be retried; and whether a value that
     /// is still to be retried after the last attempt becomes the error `Exceeded`.
     ///
     /// # Errors
     ///
-    /// In this order: `NoAttempts` where `max_attempts` is 0; `TooManyAttempts` where it is above
-    /// `MAX_ATTEMPTS`.
+    /// In this order: `NoAttempts` if `max_attempts` is 0; `TooManyAttempts` if it is above `MAX_ATTEMPTS`.
     ///
     /// ```
     /// let negative = ResultTest::Below(0);
@@ -110,7 +109,8 @@ impl RetryConfig {
         })
     }
 
-    /// How often, after which waits and for which outcomes, as the policy of a retry of any call.
+    /// Returns how many attempts, after which waits and for which outcomes, as the policy of a
+    /// retry of any call.
     ///
     /// ```
     /// let tried = resil_call::retry(config.policy(), &mut Player::new(&script), &mut NoPause);
@@ -122,7 +122,7 @@ impl RetryConfig {
         &self.policy
     }
 
-    /// The number of attempts, from 1 to `MAX_ATTEMPTS`. The first call is one of them.
+    /// Returns the number of attempts, from 1 to `MAX_ATTEMPTS`. The first call is one of them.
     pub fn max_attempts(&self) -> u32
         ensures value { result ≡ self.now.max_attempts }
         ensures least { 1 ≤ result }
@@ -131,15 +131,14 @@ impl RetryConfig {
         self.policy.max_attempts
     }
 
-    /// Whether a value that is still to be retried after the last attempt becomes the error
-    /// `Exceeded`.
+    /// Returns whether a value that is still to be retried after the last attempt becomes the error `Exceeded`.
     pub fn fails_after_max(&self) -> bool
         ensures { result ≡ self.now.fail_after_max }
     {
         self.fail_after_max
     }
 
-    /// Whether an outcome is to be retried: a value by the result test, an error by the error test.
+    /// Returns whether an outcome is to be retried: a value by the result test, an error by the error test.
     ///
     /// ```
     /// // The result test is ResultTest::Below(0).
@@ -152,9 +151,9 @@ impl RetryConfig {
         self.policy.retry_on.is_retried(&outcome)
     }
 
-    /// What a retry answers where no attempt is left and the outcome is still to be retried: the
-    /// outcome itself, or the error `Exceeded` in place of a value where the configuration fails
-    /// after the last attempt (Resilience4j user guide, Retry: `failAfterMaxAttempts`).
+    /// Returns the outcome of a retry if no attempt is left and this outcome is still to be
+    /// retried: the outcome itself, or the error `Exceeded` instead of a value if the configuration
+    /// fails after the last attempt (Resilience4j user guide, Retry: `failAfterMaxAttempts`).
     ///
     /// ```
     /// // The configuration fails after the last attempt.
@@ -170,7 +169,7 @@ impl RetryConfig {
         }
     }
 
-    /// The wait after an attempt, in milliseconds. Attempts are numbered from 1.
+    /// Returns the wait after an attempt, in milliseconds. Attempts are numbered from 1.
     ///
     /// ```
     /// // The interval is Interval::exponential(10, 2, 1, 1_000)?.
@@ -185,11 +184,11 @@ impl RetryConfig {
         self.policy.backoff.after(attempt)
     }
 
-    /// A copy with memory of its own.
+    /// Returns a copy with memory of its own.
     ///
     /// # Errors
     ///
-    /// `Memory` when out of memory.
+    /// `Memory` if out of memory.
     pub fn copy(&self, alloc: Global) -> Result<RetryConfig, RetryError>
         ensures copied { IfOk result (λ copy. copy ≡ self.now) }
         ensures refused { IfErr result (λ error. error ≡ RetryError.Memory) }
@@ -209,7 +208,7 @@ impl RetryConfig {
         })
     }
 
-    /// Whether both configurations have equal parts.
+    /// Returns whether both configurations have equal parts.
     pub fn same(&self, other: &RetryConfig) -> bool
         ensures { IsTrue result ↔ (self.now ≡ other.now) }
     {

@@ -1,7 +1,7 @@
 //! Error tests: which kinds of error a layer acts on.
 //!
-//! A kind is named where it isn't ignored and the test lists it or lists none, so a kind in both
-//! lists is ignored. A retry tries again after an error of a named kind.
+//! A kind is named if it isn't ignored and the test lists it or lists none, so a kind in both lists
+//! is ignored. A retry tries again after an error of a named kind.
 
 ghost use Rattle.std.specs.Prelude.{◌≡◌, ◌↔◌, IsTrue, IfOk, IfErr, IfSome};
 ghost use Rattle.resil_retry.specs.ErrorTest.{names, IsNamed};
@@ -13,18 +13,18 @@ use crate::outcome::Kind;
 use std::alloc::{AllocError, Global};
 use std::marker::Model;
 
-// How long a list may be that is searched from its start at each question. A copy of a test with a
-// longer one keeps a table of all kinds.
+// The maximum length of a list that is searched from its start at each question. A copy of a test
+// with a longer list keeps a table of all kinds.
 const MAX_SEARCHED: usize = 64;
 
-/// A test of kinds of error: it names the kinds of its first list, or every kind where that list is
-/// empty, but none of those that it ignores (Resilience4j user guide, Retry: `retryExceptions`,
+/// A test of kinds of error: it names the kinds of its first list, or every kind if that list is
+/// empty, except those that it ignores (Resilience4j user guide, Retry: `retryExceptions`,
 /// `ignoreExceptions`).
 #[derive(Debug, Drop)]
 pub struct ErrorTest {
     named: Vec<Kind>,
     ignored: Vec<Kind>,
-    // For each kind whether the test names it, where the lists are long.
+    // For each kind whether the test names it, if the lists are long.
     table: Option<KindTable>,
 }
 
@@ -41,8 +41,8 @@ impl Model for ErrorTest {
 }
 
 impl ErrorTest {
-    /// A test that names the kinds of the first list and ignores those of the second. Where `named`
-    /// is empty it names every kind that it doesn't ignore.
+    /// Makes a test that names the kinds of the first list and ignores those of the second. If
+    /// `named` is empty, it names every kind that it doesn't ignore.
     ///
     /// ```
     /// let ignored = Vec::from_array(alloc, [Kind::Code(404)])?;
@@ -56,7 +56,7 @@ impl ErrorTest {
         ErrorTest::with_table(named, ignored, None)
     }
 
-    // A test of these lists, with a table of what it names or none.
+    // A test of these lists, with a table of the kinds that it names or without one.
     fn with_table(named: Vec<Kind>, ignored: Vec<Kind>, table: Option<KindTable>) -> ErrorTest
         requires { IfSome table (TellsNames (record { named = named.items; ignored = ignored.items })) }
         ensures { result ≡ record { named = named.items; ignored = ignored.items } }
@@ -68,7 +68,7 @@ impl ErrorTest {
         }
     }
 
-    /// Whether the test names the kind: a retry tries again after such an error.
+    /// Returns whether the test names the kind: a retry tries again after an error of that kind.
     pub fn names(&self, kind: Kind) -> bool
         ensures value { result ≡ names self.now kind }
         ensures rule { IsTrue result ↔ IsNamed self.now kind }
@@ -76,7 +76,7 @@ impl ErrorTest {
         self.look_up(kind)
     }
 
-    // Whether the test names the kind: by the table, or by the lists.
+    // Returns whether the test names the kind: by the table, or by the lists.
     fn look_up(&self, kind: Kind) -> bool
         ensures { result ≡ names self.now kind }
     {
@@ -86,11 +86,11 @@ impl ErrorTest {
         }
     }
 
-    /// A copy with memory of its own.
+    /// Returns a copy with memory of its own.
     ///
     /// # Errors
     ///
-    /// `Memory` when out of memory.
+    /// `Memory` if out of memory.
     pub fn copy(&self, alloc: Global) -> Result<ErrorTest, RetryError>
         ensures copied { IfOk result (λ copy. copy ≡ self.now) }
         ensures refused { IfErr result (λ error. error ≡ RetryError.Memory) }
@@ -101,7 +101,7 @@ impl ErrorTest {
         Ok(ErrorTest::with_table(named, ignored, table))
     }
 
-    /// Whether both tests name and ignore the same kinds, listed in the same order.
+    /// Returns whether both tests name and ignore the same kinds, listed in the same order.
     pub fn same(&self, other: &ErrorTest) -> bool
         ensures { IsTrue result ↔ (self.now ≡ other.now) }
     {
@@ -109,15 +109,15 @@ impl ErrorTest {
     }
 }
 
-// Whether a test of these lists names the kind.
+// Returns whether a test of these lists names the kind.
 fn is_named(named: &[Kind], ignored: &[Kind], kind: Kind) -> bool
     ensures { result ≡ names (record { named = named.now; ignored = ignored.now }) kind }
 {
     !ignored.contains(&kind) && (named.is_empty() || named.contains(&kind))
 }
 
-// For each kind whether a test of these lists names it, where they are long. Errors: `AllocError`
-// when out of memory.
+// For each kind whether a test of these lists names it, if they are long. Errors: `AllocError` if
+// out of memory.
 fn table_of(
     alloc: Global,
     named: &[Kind],

@@ -3,8 +3,8 @@
 //! No wait is longer than `MAX_INTERVAL`. An exponential interval starts at `initial` and is
 //! multiplied by `numerator / denominator` from attempt to attempt, truncated at each step, so no
 //! wait is shorter than the one before it. The multiplier is at least 1 and at most 1000, so a wait
-//! below the cap can be multiplied in 64 bits, and a wait that has reached the cap, or that
-//! truncation keeps as it is, stays for all later attempts.
+//! below the cap can be multiplied in 64 bits. Once a wait has reached the cap, or truncation
+//! leaves it unchanged, all later waits are the same.
 
 ghost use Rattle.std.specs.Prelude.{ℕ, ◌≡◌, ◌≤◌, ◌<◌, ◌↔◌, ◌⊎◌, ◌+◌, ◌*◌, ◌/◌, min, OkIff, IsErrOf};
 ghost use Rattle.resil_retry.specs.Interval.{interval, interval_limit, uncapped_wait, IsMultiplier, IsBackoff};
@@ -17,7 +17,7 @@ use std::marker::Model;
 /// usual cap.
 pub const MAX_INTERVAL: u64 = 31_536_000_000;
 
-// The greatest numerator and denominator of a multiplier, a limit of this library: with it a wait
+// The maximum numerator and denominator of a multiplier, a limit of this library: within it a wait
 // below the cap can be multiplied in 64 bits.
 const MAX_MULTIPLIER_TERM: u32 = 1_000;
 
@@ -64,7 +64,7 @@ impl Interval {
     ///
     /// # Errors
     ///
-    /// `IntervalTooLong` where `ms` is above `MAX_INTERVAL`.
+    /// `IntervalTooLong` if `ms` is above `MAX_INTERVAL`.
     pub fn fixed(ms: u64) -> Result<Interval, RetryError>
         ensures made { OkIff result (ms ≤ interval_limit) (Fixed ms) }
         ensures too_long { IsErrOf result RetryError.IntervalTooLong ↔ (interval_limit < ms) }
@@ -83,9 +83,9 @@ impl Interval {
     ///
     /// # Errors
     ///
-    /// In this order: `IntervalTooLong` where `initial` or `cap` is above `MAX_INTERVAL`;
-    /// `BadMultiplier` unless `1 <= denominator <= numerator <= 1000`; `CapBelowInitial` where
-    /// `cap` is below `initial`.
+    /// In this order: `IntervalTooLong` if `initial` or `cap` is above `MAX_INTERVAL`;
+    /// `BadMultiplier` unless `1 <= denominator <= numerator <= 1000`; `CapBelowInitial` if `cap`
+    /// is below `initial`.
     ///
     /// ```
     /// let growing = Interval::exponential(500, 3, 2, 2_000)?;
@@ -124,7 +124,7 @@ impl Interval {
         })
     }
 
-    /// The wait after an attempt, in milliseconds. Attempts are numbered from 1.
+    /// Returns the wait after an attempt, in milliseconds. Attempts are numbered from 1.
     pub fn after(&self, attempt: u32) -> u64
         requires { 1 ≤ attempt }
         ensures rule { result ≡ interval self.now attempt }
@@ -147,8 +147,8 @@ impl Interval {
         }
     }
 
-    /// The wait after the next attempt, in milliseconds, where `wait` is the one after an attempt.
-    /// It takes one step, however many attempts there were: a retry goes from wait to wait.
+    /// Returns the wait after the next attempt, in milliseconds, if `wait` is the one after an
+    /// attempt. It takes one step, however many attempts there were: a retry goes from wait to wait.
     pub fn next(&self, wait: u64) -> u64
         ensures rule { (attempt : ℕ) → 1 ≤ attempt → wait ≡ interval self.now attempt → result ≡ interval self.now (attempt + 1) }
         ensures limit { result ≤ interval_limit }
@@ -184,7 +184,7 @@ impl resil_call::Backoff for Interval {
     }
 }
 
-// The wait after this one, or the cap where that is less. A wait that has reached the cap stays.
+// The wait after this one, or the cap if that is less. A wait that has reached the cap stays there.
 fn next_wait(cap: u64, wait: u64, numerator: u64, denominator: u64) -> u64
     requires multiplier { IsMultiplier numerator denominator }
     requires limit { cap ≤ interval_limit }
@@ -199,8 +199,8 @@ fn next_wait(cap: u64, wait: u64, numerator: u64, denominator: u64) -> u64
     }
 }
 
-// The wait that the first one grows to in this number of steps, or the cap where that is less. The
-// loop ends at the first step that reaches the cap or changes nothing.
+// What the first wait grows to in this number of steps, or the cap if that is less. The loop ends
+// at the first step that reaches the cap or changes nothing.
 fn capped_wait(cap: u64, first: u64, numerator: u64, denominator: u64, steps: u32) -> u64
     requires multiplier { IsMultiplier numerator denominator }
     requires start { first ≤ cap }

@@ -1,4 +1,4 @@
-//! Tables of kinds: for each kind of error an answer, which is found in one step.
+//! Tables of kinds: an answer for each kind of error, found in one step.
 
 ghost use Rattle.std.specs.Prelude.{◌≡◌, ◌<◌, if◌then◌else◌, IfOk};
 ghost use Rattle.resil_retry.specs.ErrorTest.{has_kind};
@@ -29,7 +29,7 @@ impl Model for KindTable {
 }
 
 impl KindTable {
-    // A table with this answer for every kind. Errors: `AllocError` when out of memory.
+    // Makes a table with this answer for every kind. Errors: `AllocError` if out of memory.
     pub(crate) fn new(alloc: Global, answer: bool) -> Result<KindTable, AllocError>
         ensures { IfOk result (λ table. (kind : Kind) → HasIndex kind → answer_of table kind ≡ answer) }
     {
@@ -37,7 +37,7 @@ impl KindTable {
         Ok(KindTable { answers })
     }
 
-    // Gives the kinds of a list this answer, and leaves the others'.
+    // Sets this answer for the kinds of a list, and leaves the others as they are.
     pub(crate) fn set(&mut self, kinds: &[Kind], answer: bool)
         ensures { (kind : Kind) → HasIndex kind → answer_of self.new kind ≡ (if has_kind kinds.now kind then answer else answer_of self.old kind) }
     {

@@ -1,11 +1,11 @@
-//! Retries: intervals, scripts of outcomes, and the retry rule over any call that can be tried
-//! again (after Resilience4j's module retry; user guide, chapter Retry).
+//! Retries: intervals, scripts of outcomes, and the retry rule over any call that can be retried
+//! (modelled on Resilience4j's module retry; user guide, chapter Retry).
 //!
 //! Attempts are numbered from 1 and the first call is one of them. An outcome that isn't to be
-//! retried is answered at once; one that is to be retried is followed by the wait of its attempt
-//! and by the next attempt, while attempts are left. What a retry answers is defined by `retry_of`
-//! in `specs/Retry.antt`. Waits are recorded and not slept, in room that was reserved before, so a
-//! retry takes no memory and can't fail.
+//! retried is returned at once. One that is to be retried is followed by the wait of its attempt
+//! and by the next attempt, while attempts are left. `retry_of` in `specs/Retry.antt` defines what
+//! a retry returns. Waits are recorded, not slept, in room reserved before, so a retry allocates
+//! nothing and can't fail.
 #![tactic(auto)]
 
 mod callee;

@@ -1,7 +1,7 @@
-//! Outcomes: what a call answers, and how a retry ends.
+//! Outcomes: what a call returns, and how a retry ends.
 //!
 //! A value is a number and an error is known by its kind, so outcomes are compared and copied
-//! without memory.
+//! without allocating.
 
 /// The kind of an error. Kinds are compared by equality.
 ///
@@ -22,12 +22,12 @@ pub enum Kind {
     Exceeded,
 }
 
-/// What one call answered.
+/// What one call returned.
 #[derive(Clone, Copy, Debug, PartialEq, Eq)]
 pub enum Outcome {
-    /// The function answered a value.
+    /// The function returned a value.
     Value(i64),
-    /// The function, or a layer around it, answered an error.
+    /// The function, or a layer around it, returned an error.
     Error(Kind),
 }
 

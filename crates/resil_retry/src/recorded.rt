@@ -1,4 +1,4 @@
-//! Recording the waits of a retry that stands inside a chain.
+//! Records the waits of a retry inside a chain.
 
 ghost use Rattle.std.specs.Prelude.{ℕ, ◌≡◌, ◌≤◌, ◌++◌, ◌∷◌, [], List, length};
 ghost use Rattle.std.specs.List.{FoldsTo};
@@ -7,9 +7,9 @@ ghost use Rattle.resil_retry.specs.Waits.{WaitsView, AreRecorded};
 use crate::waits::Waits;
 use resil_call::Pause;
 
-/// Records pauses in a list of waits while it has room, and leaves the list as it is after. So it
-/// pauses as often as it is asked, as a retry inside a chain needs it, which doesn't know how often
-/// the chain will be called.
+/// Records pauses in a list of waits while it has room, and then leaves the list as it is. So it
+/// can pause any number of times. A retry inside a chain needs that: it doesn't know how often the
+/// chain will be called.
 ///
 /// ```
 /// let mut waits = Waits::new(alloc, 100)?;
@@ -31,8 +31,8 @@ impl Pause for Recorded<'_> {
     }
 }
 
-/// The law of pauses that are recorded one after the other: of all their waits those are recorded
-/// that fit, the first of them, in their order; and all are where the room was enough.
+/// The law of pauses recorded one after the other: the first of their waits are recorded, as many
+/// as fit, in their order; and all of them if there was room enough.
 pub fn recorded_waits()
     ensures one_by_one { (waits : List ℕ) (old new : WaitsView) → FoldsTo (λ x wait y. AreRecorded x (wait ∷ []) y) old waits new → AreRecorded old waits new }
     ensures all { (waits : List ℕ) (old new : WaitsView) → AreRecorded old waits new → length waits ≤ old.room → new.items ≡ old.items ++ waits }

@@ -1,7 +1,7 @@
 //! Result tests: which values are to be retried.
 //!
-//! A test compares a value with one number. It is plain data and no function of the user, so a
-//! configuration can be copied and compared, and a test always answers.
+//! A test compares a value with one number. It is plain data and not a function of the user's, so a
+//! configuration can be copied and compared, and a test always has an answer.
 
 ghost use Rattle.std.specs.Prelude.{◌≡◌};
 ghost use Rattle.resil_retry.specs.ResultTest.{matches};
@@ -12,16 +12,16 @@ ghost use Rattle.resil_retry.specs.ResultTest.{matches};
 pub enum ResultTest {
     /// Matches no value.
     Never,
-    /// Matches this value alone.
+    /// Matches only this value.
     Equal(i64),
-    /// Matches each lesser value.
+    /// Matches each smaller value.
     Below(i64),
     /// Matches this value and each greater one.
     AtLeast(i64),
 }
 
 impl ResultTest {
-    // Whether the test matches a value.
+    // Returns whether the test matches a value.
     pub(crate) fn matches(self, value: i64) -> bool
         ensures { result ≡ matches self value }
     {

@@ -1,8 +1,7 @@
-//! Scripts: what a function answers, call by call.
+//! Scripts: what a function returns, call by call.
 //!
-//! A script is a list of outcomes that is never empty, so every call has an outcome. A call answers
-//! the first outcome and drops it, unless it is the only one: that one is the answer of all later
-//! calls.
+//! A script is a list of outcomes that is never empty, so every call has an outcome. A call returns the first outcome and drops it,
+//! unless it is the only one: then all later calls return it too.
 
 ghost use Rattle.std.specs.Prelude.{◌≡◌, ◌<◌, ◌↔◌, ◌∷◌, [], length, IsTrue, OkIff, IsErrOf, IfOk, IfErr};
 ghost use Rattle.std.specs.Arc.{arc_value};
@@ -15,23 +14,21 @@ use std::alloc::Global;
 use std::marker::Model;
 use std::sync::Arc;
 
-/// The outcomes of a function's calls: the n-th call answers the n-th one, each call after the last
-/// outcome answers that one again.
+/// The outcomes of a function's calls: the n-th call returns the n-th one, and each call after the last outcome returns that one again.
 #[derive(Debug, Drop)]
 pub struct Script {
     outcomes: Outcomes,
 }
 
-// Where the outcomes of a script are. Most scripts have one, which is kept in place, so a copy of such a script takes
-// no memory. A copy of any other takes memory for all outcomes, where several owners can share them, and a copy of that
-// copy is one more owner.
+// Where the outcomes of a script are. Most scripts have one outcome, which is stored inline, so copying such a script doesn't allocate.
+// Copying any other allocates memory for all outcomes, which several owners can then share; a copy of that copy is one more owner.
 #[derive(Debug, Drop)]
 enum Outcomes {
     // The only one.
     One(Outcome),
     // All of them, with one owner.
     Many(Vec<Outcome>),
-    // All of them, with one owner or more, in any threads.
+    // All of them, with one or more owners, in any threads.
     Shared(Arc<Vec<Outcome>, Global>),
 }
 
@@ -49,11 +46,11 @@ impl Model for Script {
 }
 
 impl Script {
-    /// A script of these outcomes, in their order.
+    /// Makes a script of these outcomes, in their order.
     ///
     /// # Errors
     ///
-    /// `EmptyScript` where there are none.
+    /// `EmptyScript` if there are none.
     ///
     /// ```
     /// let script = Script::new(Vec::from_array(alloc, [Outcome::Value(7)])?)?;
@@ -72,7 +69,7 @@ impl Script {
         Ok(Script { outcomes })
     }
 
-    /// The script of this one outcome, which is the answer of all calls. It takes no memory.
+    /// Makes the script of this one outcome, which all calls return. It doesn't allocate.
     pub fn one(outcome: Outcome) -> Script
         ensures { result ≡ outcome ∷ [] }
     {
@@ -81,11 +78,11 @@ impl Script {
         }
     }
 
-    /// A copy. That of a script of one outcome takes no memory, and a copy of any other's copy shares its outcomes.
+    /// Returns a copy. Copying a script of one outcome doesn't allocate, and a copy of any other's copy shares its outcomes.
     ///
     /// # Errors
     ///
-    /// `Memory` when out of memory.
+    /// `Memory` if out of memory.
     pub fn copy(&self, alloc: Global) -> Result<Script, RetryError>
         ensures copied { IfOk result (λ copy. copy ≡ self.now) }
         ensures refused { IfErr result (λ error. error ≡ RetryError.Memory) }
@@ -98,7 +95,7 @@ impl Script {
         Ok(Script { outcomes })
     }
 
-    /// Whether both scripts have equal outcomes in the same order.
+    /// Returns whether both scripts have equal outcomes in the same order.
     pub fn same(&self, other: &Script) -> bool
         ensures { IsTrue result ↔ (self.now ≡ other.now) }
     {
@@ -118,7 +115,7 @@ impl Script {
     }
 }
 
-// A copy of outcomes where several owners can share it. Errors: `Memory`. Few copies come here, so this code stays out of the others.
+// A copy of the outcomes that several owners can share. Errors: `Memory`. It is called for few copies, so this code stays out of the others.
 #[cold]
 fn share_copy(alloc: Global, outcomes: &[Outcome]) -> Result<Arc<Vec<Outcome>, Global>, RetryError>
     ensures shared { IfOk result (λ shared. (arc_value shared).items ≡ outcomes.now) }
@@ -130,7 +127,7 @@ fn share_copy(alloc: Global, outcomes: &[Outcome]) -> Result<Arc<Vec<Outcome>, G
     }
 }
 
-/// A callee that plays a script from its start. It takes no memory.
+/// A callee that plays a script from its start. It doesn't allocate.
 #[derive(Drop)]
 pub struct Player<'a> {
     left: &'a [Outcome],
@@ -148,7 +145,7 @@ impl<'a> Model for Player<'a> {
 }
 
 impl<'a> Player<'a> {
-    /// A player at the start of the script.
+    /// Makes a player at the start of the script.
     ///
     /// ```
     /// // The script is Error(Code(503)), Value(7).

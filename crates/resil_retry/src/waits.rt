@@ -1,7 +1,7 @@
 //! The list of waits that retries record.
 //!
 //! The room of a list is the memory that was reserved for it when it was made and isn't used yet,
-//! so a retry records its waits without taking memory.
+//! so a retry records its waits without allocating.
 
 ghost use Rattle.std.specs.Prelude.{◌≡◌, ◌<◌, ◌+◌, ◌++◌, ◌∷◌, [], IfOk, IfErr};
 
@@ -26,11 +26,11 @@ impl Model for Waits {
 }
 
 impl Waits {
-    /// An empty list with room for `room` waits.
+    /// Makes an empty list with room for `room` waits.
     ///
     /// # Errors
     ///
-    /// `Memory` when out of memory.
+    /// `Memory` if out of memory.
     pub fn new(alloc: Global, room: usize) -> Result<Waits, RetryError>
         ensures made { IfOk result (λ waits. waits ≡ record { items = []; room = room }) }
         ensures refused { IfErr result (λ error. error ≡ RetryError.Memory) }
@@ -39,14 +39,14 @@ impl Waits {
         Ok(Waits { items })
     }
 
-    /// The waits, in milliseconds, in the order in which they were recorded.
+    /// Returns the waits, in milliseconds, in the order in which they were recorded.
     pub fn items(&self) -> &[u64]
         ensures { result.now ≡ self.now.items }
     {
         &self.items
     }
 
-    /// How many more waits can be recorded.
+    /// Returns how many more waits can be recorded.
     pub fn room(&self) -> usize
         ensures { result ≡ self.now.room }
     {
@@ -63,7 +63,7 @@ impl Waits {
     }
 }
 
-/// Waits are recorded, and not slept, in the room that was reserved for them.
+/// Waits are recorded, not slept, in the room reserved for them.
 impl Pause for Waits {
     ghost use Rattle.std.specs.Prelude.{◌≡◌, ◌≤◌, ◌+◌, ◌++◌, ◌∷◌, []};
 

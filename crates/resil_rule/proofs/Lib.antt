@@ -8,6 +8,7 @@ pub mod RefusalLaws
 pub mod RuleLaws
 pub mod RunningLaws
 pub mod SizeLaws
+pub mod SizesLaws
 pub mod SlotLaws
 pub mod TimesLaws
 pub mod UnpickedLaws

@@ -1,5 +1,5 @@
 -- A job gets a place, and leaves it.
-use Rattle.std.proofs.Common.{◌≡◌, ◌≢◌, ◌<◌, ◌≤◌, ◌+◌, ◌∷◌, [], ◌++◌, ◌∙◌, ℕ, zero, suc, Bool, true, false, cond, List, Option, Some, None, length, position, is_none, replicate, get_or, slice_get, slice_set, refl, sym, ap, arith, length-append, length-set}
+use Rattle.std.proofs.Common.{◌≡◌, ◌≢◌, ◌<◌, ◌≤◌, ◌+◌, ◌∷◌, [], ◌++◌, ◌∙◌, ℕ, zero, suc, All, Bool, true, false, cond, List, Option, Some, None, length, position, replicate, get_or, slice_get, slice_set, refl, sym, ap, arith, length-append, length-set}
 use Rattle.std.specs.List.{position_from}
 use Rattle.std.proofs.lemmas.Bool.{cases_Bool}
 use Rattle.std.proofs.lemmas.List.Quantifiers.{position-Some}
@@ -7,7 +7,8 @@ use Rattle.std.proofs.lemmas.List.{length-replicate}
 use Rattle.std.proofs.lemmas.Option.{slice_get-get_or}
 use Rattle.std.proofs.lemmas.Iterator.Adapters.{position_from-zero}
 use Rattle.resil_rule.specs.History.{is_same_id, is_among, times}
-use Rattle.resil_rule.specs.Slots.{ids_out, is_of}
+use Rattle.circular_buffer.proofs.Places.{slice_get-set_other}
+use Rattle.resil_rule.specs.Slots.{AreFree, ids_out, is_of}
 use Rattle.resil_rule.specs.declared.event.Id.{Id}
 use Rattle.resil_rule.proofs.IdLaws.{same_id-equal, same_id-self}
 use Rattle.resil_rule.proofs.TimesLaws.{times-last, times-append}
@@ -69,25 +70,27 @@ nowhere-from id (Some y ∷ places) n h = grind (arith, h, nowhere-from id place
 pub nowhere-out : (id : Id) (places : List (Option Id)) → position (is_of id) places ≡ None → is_among id (ids_out places) ≡ false
 nowhere-out id places h = nowhere-from id places 0 (sym (position_from-zero (is_of id) places) ∙ h)
 
--- where fewer jobs are out than there are places, one is free
-full-from : (places : List (Option Id)) (n : ℕ) → position_from is_none n places ≡ None → length (ids_out places) ≡ length places
-full-from [] n h = refl
-full-from (None ∷ places) n h = absurd (cc h)
-full-from (Some id ∷ places) n h = ap suc (full-from places (n + 1) h)
+-- the free places stay free where another one changes
+pub free-kept : (o : Option Id) (places : List (Option Id)) (i : ℕ) (free : List ℕ) → All (λ other. other ≢ i) free → AreFree places free → AreFree (slice_set places i o) free
+free-kept o places i [] others are = are
+free-kept o places i (p ∷ free) others are =
+    (slice_get-set_other places i p o (others 0 p (omega arith)) ∙ are.0, are.1, free-kept o places i free (λ k d within. others (suc k) d (omega (arith, within))) are.2)
 
-pub free-found : (places : List (Option Id)) → length (ids_out places) < length places
-    → (i : ℕ) × (position is_none places ≡ Some i) × (slice_get places i ≡ Some None)
-free-found places few = go (position is_none places) refl
-  where
-    free : (o : Option Id) → is_none o ≡ true → o ≡ None
-    free None h = refl
-    free (Some id) h = absurd (cc h)
+-- a place that has a job isn't among them
+pub busy-others : (id : Id) (places : List (Option Id)) (i : ℕ) (free : List ℕ) → slice_get places i ≡ Some (Some id) → AreFree places free → All (λ other. other ≢ i) free
+busy-others id places i [] there are k d within = absurd (omega (arith, within))
+busy-others id places i (p ∷ free) there are zero d within = λ same. absurd (cc (are.0, there, same))
+busy-others id places i (p ∷ free) there are (suc k) d within = busy-others id places i free there are.2 k d (omega (arith, within))
 
-    go : (o : Option ℕ) → position is_none places ≡ o → (i : ℕ) × (position is_none places ≡ Some i) × (slice_get places i ≡ Some None)
-    go None h = let full = full-from places 0 (sym (position_from-zero is_none places) ∙ h) in absurd (omega (arith, few, full))
-    go (Some i) h =
-        let first = position-Some is_none places i None h in
-        (i, h, slice_get-get_or places i None first.0 ∙ ap Some (free (get_or places i None) first.1))
+-- the place of a job that is out no more is one of them
+pub free-more : (id : Id) (places : List (Option Id)) (i : ℕ) (free : List ℕ) → slice_get places i ≡ Some (Some id) → AreFree places free → AreFree (slice_set places i None) (i ∷ free)
+free-more id places i free there are = let others = busy-others id places i free there are in ((cleared None places i (Some id) there).0, others, free-kept None places i free others are)
+
+-- each place is free where there are no jobs
+pub free-at : (count i : ℕ) → i < count → slice_get {X = Option Id} (replicate count None) i ≡ Some None
+free-at zero i within = absurd (omega (arith, within))
+free-at (suc count) zero within = refl
+free-at (suc count) (suc i) within = free-at count i (omega (arith, within))
 
 pub none-out : (count : ℕ) → ids_out (replicate count None) ≡ []
 none-out zero = refl
@@ -96,5 +99,5 @@ none-out (suc count) = none-out count
 -- the law of a job that isn't found, under a name that code can cite
 pub ruleset unfound = (nowhere-out)
 
--- how many jobs are out after each change, and that one more finds a place
-pub ruleset places = (put-length, clear-length, none-out, free-found, length-set, length-replicate)
+-- how many jobs are out after each change
+pub ruleset places = (put-length, clear-length, none-out, length-set, length-replicate)

@@ -46,6 +46,6 @@ within-push limits h (Resized core max) within allowed =
 within-push limits h e within allowed = let one = workers-push h e in same-sizes limits h e within refl refl (omega (arith, one, within.workers_few))
 
 pub workers-within_opening : WorkersWithinOpening
-workers-within_opening limits h sizes legal =
-    let at_first : AreWithin limits [] = record { workers_few = omega arith; core_small = sizes.max.0; max_small = omega arith } in
+workers-within_opening limits h order legal =
+    let at_first : AreWithin limits [] = record { workers_few = omega arith; core_small = order; max_small = omega arith } in
     (holds-legal limits (AreWithin limits) (within-push limits) h at_first legal).workers_few

@@ -1,6 +1,6 @@
 -- Which event may follow a history (ThreadPoolExecutor class documentation), and which histories are legal.
 use Rattle.std.specs.Prelude.{◌≡◌, ◌<◌, ◌≤◌, ◌+◌, ◌⊎◌, ◌++◌, ◌∷◌, [], true, false, List, Some, length, nat_lt, slice_get, if◌then◌else◌}
-use Rattle.resil_rule.specs.Limits.{Sizes, AreLimits, AreSizesWithin}
+use Rattle.resil_rule.specs.Limits.{Sizes, AreSizesWithin}
 use Rattle.resil_rule.specs.History.{workers, waiting, running, finished, accepted, is_closed, is_among, times, next_number, core_size, max_size}
 use Rattle.resil_rule.specs.declared.event.Id.{Id}
 use Rattle.resil_rule.specs.declared.event.Reply.{Reply}
@@ -39,9 +39,10 @@ AreAllowedAfter limits before (event ∷ events) = IsAllowed limits before event
 abbrev pub IsLegal : Sizes → List Event → Type 0
 IsLegal limits history = AreAllowedAfter limits [] history
 
--- In a legal history there are never more workers than the greatest size of the opening, whatever the sizes are by then.
+-- In a legal history there are never more workers than the greatest size of the opening, whatever the sizes are by then, where the opening's
+-- core size is no greater.
 abbrev pub WorkersWithinOpening : Type 0
-WorkersWithinOpening = (limits : Sizes) (history : List Event) → AreLimits limits → IsLegal limits history → workers history ≤ limits.max
+WorkersWithinOpening = (limits : Sizes) (history : List Event) → limits.core ≤ limits.max → IsLegal limits history → workers history ≤ limits.max
 
 -- In a legal history no more jobs run than there are workers.
 abbrev pub RunningWithinWorkers : Type 0

@@ -7,6 +7,7 @@ pub mod Record
 pub mod RuleInvariant
 pub mod RuleState
 pub mod RuleView
+pub mod Sizes
 pub mod Slots
 pub mod Timed
 pub mod Verdict

@@ -1,12 +1,12 @@
 -- What is true of the rule's state between any two calls, whatever its history.
 use Rattle.std.specs.Prelude.{◌≡◌, ◌≤◌, ◌+◌, length}
-use Rattle.resil_rule.specs.Limits.{AreLimits}
+use Rattle.resil_rule.specs.Sizes.{AreSizes}
 use Rattle.resil_rule.specs.Slots.{ids_out}
 use Rattle.resil_rule.specs.declared.rule.Rule.TheInside.{Inside}
 
 module _ {W : Type 0} where
   pub record RuleInvariant (c : Inside W) : Type 0 where
-    pub limits : AreLimits c.limits
+    pub limits : AreSizes c.limits
     -- the rings have their room, and there is a place for each worker's job
     pub queue : c.waiting.capacity ≡ c.limits.queue
     pub starts : c.unpicked.capacity ≡ c.limits.max

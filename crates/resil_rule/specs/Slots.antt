@@ -1,5 +1,5 @@
 -- The places of the jobs that are out: at each the id of one, or nothing.
-use Rattle.std.specs.Prelude.{◌∷◌, [], Bool, false, List, Option, Some, None}
+use Rattle.std.specs.Prelude.{ℕ, ◌≡◌, ◌≢◌, ◌∷◌, [], All, Bool, false, List, Option, Some, None, slice_get}
 use Rattle.resil_rule.specs.History.{is_same_id}
 use Rattle.resil_rule.specs.declared.event.Id.{Id}
 
@@ -13,3 +13,8 @@ ids_out (Some id ∷ places) = id ∷ ids_out places
 abbrev pub is_of : Id → Option Id → Bool
 is_of id None = false
 is_of id (Some other) = is_same_id id other
+
+-- Each of these places is free, and no two of them are one.
+abbrev pub AreFree : List (Option Id) → List ℕ → Type 0
+AreFree places [] = Unit {0}
+AreFree places (place ∷ free) = (slice_get places place ≡ Some None) × All (λ other. other ≢ place) free × AreFree places free

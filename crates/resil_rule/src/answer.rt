@@ -69,7 +69,7 @@ pub fn answer_to(rule: &Rule<()>, event: Event) -> Answer {
 /// A rule of these limits that has carried out all events but the last, and that one, or `None` if there is none or when out of memory.
 pub fn rule_at_last(alloc: Global, limits: Limits, events: &[Event]) -> Option<(Rule<()>, Event)> {
     let (last, before) = events.split_last()?;
-    let mut rule = Rule::new(alloc, limits, 0).ok()?;
+    let mut rule = Rule::new(alloc, limits.into(), 0).ok()?;
     for event in before {
         let event = filled_in(&rule, *event);
         rule.follow(event).ok()?;

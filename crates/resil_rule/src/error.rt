@@ -14,11 +14,11 @@ use thiserror::Error;
 /// ```
 #[derive(Clone, Copy, Debug, PartialEq, Eq, Error)]
 pub enum AdmitError {
-    /// The core size isn't from 1 to 64.
-    #[error("the core size is not from 1 to 64")]
+    /// The core size isn't from 1 to 64, or to 1,024 by `Sizes` and in a pool that was opened for more than 64 workers.
+    #[error("the core size is not from 1 to 64, or to 1024 in a pool for more than 64 workers")]
     CoreOutOfRange,
-    /// The greatest size isn't from the core size to 64; of a resize, to the greatest size at making.
-    #[error("the greatest size is not from the core size to the largest one allowed")]
+    /// The maximum size isn't from the core size to 64, or to 1,024 by `Sizes`; of a resize, to the maximum size at making.
+    #[error("the maximum size is not from the core size to the largest one allowed: 64, 1024 by Sizes, or that of the opening")]
     MaxOutOfRange,
     /// The queue capacity isn't from 1 to 65,536.
     #[error("the queue capacity is not from 1 to 65536")]
@@ -30,7 +30,7 @@ pub enum AdmitError {
     #[error("not the caller's next number")]
     WrongNumber,
     /// No job that was picked and isn't finished has this id.
-    #[error("no job of this id is out")]
+    #[error("no job with this id is running")]
     NotOut,
     /// The run is of another plan than the one that was submitted under this id.
     #[error("the run is not of the job's plan")]

@@ -16,6 +16,7 @@ mod laws;
 mod limits;
 mod record;
 mod rule;
+mod sizes;
 mod slots;
 mod timed;
 mod verdict;
@@ -27,6 +28,7 @@ pub use laws::{jobs_conserved, running_within_workers, worked_histories, workers
 pub use limits::Limits;
 pub use record::{AllEvents, LastEvents, NoRecord, Record};
 pub use rule::{Origin, Picked, Rule};
+pub use sizes::Sizes;
 pub use slots::Slot;
 pub use timed::{Timed, events_in, first_back, times_in};
-pub use verdict::{Verdict, audit, verdicts_are_one};
+pub use verdict::{Verdict, audit, audit_by, verdicts_are_one};

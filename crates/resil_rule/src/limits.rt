@@ -1,9 +1,9 @@
 //! The sizes that a pool is opened with. A resize leaves them: they tell how far it may go.
 
 ghost use Rattle.std.specs.Prelude.{◌≡◌, IfOk, IfErr};
-ghost use Rattle.resil_rule.specs.Limits.{Sizes, AreLimits, IsSizeRefusal};
+ghost use Rattle.resil_rule.specs.Limits.{Sizes as SizesView, AreLimits, IsSizeRefusal};
 
-use super::AdmitError;
+use super::{AdmitError, Sizes};
 use std::marker::Model;
 
 /// The sizes of a pool: the core size (1 to 64), the greatest size (core size to 64) and the capacity
@@ -21,7 +21,7 @@ pub struct Limits {
 }
 
 impl Model for Limits {
-    ghost Value = { Sizes };
+    ghost Value = { SizesView };
 
     ghost view = { λ l. record { core = l.core; max = l.max; queue = l.queue } };
 
@@ -66,6 +66,18 @@ impl Limits {
             return Err(AdmitError::QueueOutOfRange);
         }
         Ok(Limits { core, max, queue })
+    }
+
+    /// The limits of sizes that are in the ranges of `Limits`, as those of a pool that was opened by limits.
+    pub fn of(sizes: Sizes) -> Limits
+        requires { AreLimits sizes }
+        ensures { result ≡ sizes }
+    {
+        Limits {
+            core: sizes.core(),
+            max: sizes.max(),
+            queue: sizes.queue(),
+        }
     }
 
     /// The core size, in workers.

@@ -6,19 +6,20 @@
 //! of one, has the rule's promises of it by that.
 //!
 //! `new` takes all room, and `reserve_caller` more of it for callers. No other call allocates, or looks
-//! through what came before. `pick` looks through the places of jobs, `Limits::MAX_WORKERS` at most.
+//! through what came before. `find` alone looks through the places of jobs.
 
 ghost use Rattle.std.specs.Prelude.{◌≡◌, ◌↔◌, ◌≤◌, ◌<◌, ◌-◌, ◌+◌, ℕ, None as nothing, Some, [], max, suc, true, false, if◌then◌else◌, length, option_map, slice_get, slice_index_or, IsTrue, IsOk, IfOk, IfErr, IfSome, IfNone, OnOk, OnErr};
 ghost use Rattle.std.specs.Bool.{OnTrue, OnFalse};
 ghost use Rattle.resil_rule.specs.History.{is_among};
 ghost use Rattle.resil_rule.specs.Slots.{ids_out};
-ghost use Rattle.resil_rule.specs.Limits.{AreSizesWithin, IsResizeRefusal};
+ghost use Rattle.resil_rule.specs.Limits.{AreSizesWithin};
+ghost use Rattle.resil_rule.specs.Sizes.{IsCoreOf, IsRefusedResize};
 ghost use Rattle.resil_rule.specs.RuleInvariant.{RuleInvariant};
 ghost use Rattle.resil_rule.specs.RuleView.{RuleView, opened, busy, owed, next_reply, made_by, is_acceptance, with_submission, with_finish, with_close, with_idle_end, with_sizes, MayEndIdle, HasOneToPick};
 ghost use Rattle.resil_rule.specs.RuleState.{IsStateOf, Follows, StaysAt, IsPicked, HasNoneToPick, IsSubmitRefusal};
 
 use super::slots::{Slot, Slots};
-use super::{AdmitError, Event, Id, Limits, Refusal, Reply};
+use super::{AdmitError, Event, Id, Refusal, Reply, Sizes};
 use circular_buffer::HeapCircularBuffer;
 use std::alloc::{AllocError, Global};
 use std::marker::Model;
@@ -47,7 +48,7 @@ pub struct Picked<W: Drop> {
 /// maximum pool sizes, queuing, rejected tasks).
 ///
 /// ```
-/// let mut rule = Rule::new(alloc, Limits::new(2, 4, 100)?, 2)?;
+/// let mut rule = Rule::new(alloc, Sizes::new(2, 4, 100)?, 2)?;
 /// match rule.submit(Id { caller: 1, number: 1 }, work) {
 ///     Ok(reply) => println!(rt; "{reply:?}")?,
 ///     Err((refusal, _work)) => println!(rt; "{refusal}")?,
@@ -60,7 +61,7 @@ pub struct Picked<W: Drop> {
 #[derive(Drop)]
 pub struct Rule<W: Drop> {
     // The sizes at making.
-    limits: Limits,
+    limits: Sizes,
     // The core size now.
     core: u32,
     // The greatest size now.
@@ -88,7 +89,7 @@ impl<W: Drop> Model for Rule<W> {
 }
 
 impl<W: Drop> Rule<W> {
-    /// The rule of an open pool of these limits without workers or work, for the callers from 0 to
+    /// The rule of an open pool of these sizes without workers or work, for the callers from 0 to
     /// `callers - 1` (at most 65,536 can be named). It takes the room for a full queue, for as many jobs
     /// as there may be workers, and for a count of each caller.
     ///
@@ -96,7 +97,7 @@ impl<W: Drop> Rule<W> {
     ///
     /// `Memory` when out of memory.
     #[tactic(auto, using(crate::proofs::SlotLaws::places))]
-    pub fn new(alloc: Global, limits: Limits, callers: usize) -> Result<Rule<W>, AdmitError>
+    pub fn new(alloc: Global, limits: Sizes, callers: usize) -> Result<Rule<W>, AdmitError>
         ensures opened { IfOk result (λ c. c ≡ opened limits callers) }
         ensures history { IfOk result (IsStateOf []) }
         ensures memory { IfErr result (λ e. e ≡ AdmitError.Memory) }
@@ -356,18 +357,19 @@ impl<W: Drop> Rule<W> {
     ///
     /// # Errors
     ///
-    /// In this order, with nothing changed: `CoreOutOfRange` where the core size isn't from 1 to
-    /// `Limits::MAX_WORKERS`; `MaxOutOfRange` where the greatest size is below the core size, or above that of
-    /// the limits at making.
+    /// In this order, with nothing changed: `CoreOutOfRange` where the core size isn't from 1 to `Sizes::most_core` of the
+    /// sizes at making, which is 64, or 1,024 where they are of more than 64 workers; `MaxOutOfRange` where the greatest
+    /// size is below the core size, or above that at making.
     ///
     /// ```
     /// rule.resize(2, 3)?;
     /// ```
     pub fn resize(&mut self, core: u32, max: u32) -> Result<(), AdmitError>
         ensures within { IsOk result ↔ AreSizesWithin self.old.limits core max }
+        ensures core { OnOk result (IsCoreOf self.old.limits core) }
         ensures event { OnOk result (self.new ≡ with_sizes self.old core max) }
         ensures follows { OnOk result (Follows self.old (Event.Resized core max) self.new) }
-        ensures refused { IfErr result (IsResizeRefusal self.old.limits core max) }
+        ensures refused { IfErr result (IsRefusedResize self.old.limits core max) }
         ensures unchanged { OnErr result (self.new ≡ self.old) }
     {
         self.check_sizes(core, max)?;
@@ -383,10 +385,12 @@ impl<W: Drop> Rule<W> {
     /// Those of `resize`, in their order.
     pub fn check_sizes(&self, core: u32, max: u32) -> Result<(), AdmitError>
         ensures within { IsOk result ↔ AreSizesWithin self.now.limits core max }
-        ensures refused { IfErr result (IsResizeRefusal self.now.limits core max) }
+        ensures core { OnOk result (IsCoreOf self.now.limits core) }
+        ensures refused { IfErr result (IsRefusedResize self.now.limits core max) }
     {
         let greatest = self.limits.max();
-        if core < 1 || core > Limits::MAX_WORKERS {
+        let most = self.limits.most_core();
+        if core < 1 || core > most {
             return Err(AdmitError::CoreOutOfRange);
         }
         if core > max || max > greatest {
@@ -405,7 +409,7 @@ impl<W: Drop> Rule<W> {
     /// How many workers there are: never more than the greatest size of the opening.
     pub fn workers(&self) -> u32
         ensures workers { result ≡ self.now.workers }
-        ensures limit { (result ≤ self.now.limits.max) × (result ≤ 64) }
+        ensures limit { (result ≤ self.now.limits.max) × (result ≤ 1024) }
     {
         self.workers
     }
@@ -413,7 +417,7 @@ impl<W: Drop> Rule<W> {
     /// How many workers have a job, picked or not.
     pub fn running(&self) -> usize
         ensures running { result ≡ busy self.now }
-        ensures limit { (result ≤ self.now.workers) × (result ≤ 64) }
+        ensures limit { (result ≤ self.now.workers) × (result ≤ 1024) }
     {
         self.unpicked.len() + self.out.len()
     }
@@ -449,7 +453,7 @@ impl<W: Drop> Rule<W> {
     /// ```
     pub fn owed(&self) -> usize
         ensures owed { result ≡ owed self.now }
-        ensures limit { result ≤ 131201 }
+        ensures limit { result ≤ 133121 }
     {
         let closing = usize::from(!self.closed);
         2 * self.waiting() + self.running() + self.workers() as usize + closing
@@ -479,8 +483,8 @@ impl<W: Drop> Rule<W> {
         self.max
     }
 
-    /// The limits at making.
-    pub fn limits(&self) -> Limits
+    /// The sizes at making.
+    pub fn limits(&self) -> Sizes
         ensures { result ≡ self.now.limits }
     {
         self.limits

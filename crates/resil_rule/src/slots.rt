@@ -1,15 +1,16 @@
 //! The jobs that are out, each at a place of its own.
 //!
-//! `put` gives the first free place, and it is free again once it is cleared, so a job is found by its place
-//! at once. All places are there from the making on.
+//! `put` gives the free place that was cleared last, and it is free again once it is cleared, so a job is found by its place at once.
+//! The free places stand in a row, so neither looks through the others. All places are there from the making on.
 
-ghost use Rattle.std.specs.Prelude.{◌≡◌, ◌↔◌, ◌<◌, List, Option, None as nothing, Some, false, length, position, is_none, replicate, slice_get, slice_set, IsTrue, IfOk, IfSome, IfNone};
+ghost use Rattle.std.specs.Prelude.{◌≡◌, ◌↔◌, ◌<◌, ◌+◌, List, Option, None as nothing, Some, false, length, position, replicate, slice_get, slice_set, IsTrue, IfOk, IfSome, IfNone};
 ghost use Rattle.std.specs.Bool.{OnTrue, OnFalse};
 ghost use Rattle.resil_rule.specs.History.{is_among};
-ghost use Rattle.resil_rule.specs.Slots.{ids_out, is_of};
+ghost use Rattle.resil_rule.specs.Slots.{AreFree, ids_out, is_of};
 ghost use Rattle.resil_rule.specs.declared.event.Id.{Id as IdOf};
 
 use super::Id;
+use circular_buffer::HeapCircularBuffer;
 use std::alloc::{AllocError, Global};
 use std::marker::Model;
 
@@ -27,8 +28,8 @@ pub struct Slot {
 pub(crate) struct Slots {
     // The id of the job at each place.
     jobs: Vec<Option<Id>>,
-    // How many jobs are out.
-    count: usize,
+    // The places without a job. The first one is given next.
+    free: HeapCircularBuffer<usize>,
 }
 
 impl Model for Slots {
@@ -36,7 +37,7 @@ impl Model for Slots {
 
     ghost view = { λ s. s.jobs.items };
 
-    ghost invariant = { λ s. s.count ≡ length (ids_out s.jobs.items) };
+    ghost invariant = { λ s. (length s.free.items + length (ids_out s.jobs.items) ≡ length s.jobs.items) × (s.free.capacity ≡ length s.jobs.items) × AreFree s.jobs.items s.free.items };
 }
 
 impl Slots {
@@ -47,7 +48,7 @@ impl Slots {
     {
         Ok(Slots {
             jobs: vec![in alloc; None; count]?,
-            count: 0,
+            free: all_free(alloc, count)?,
         })
     }
 
@@ -55,19 +56,18 @@ impl Slots {
     pub(crate) fn len(&self) -> usize
         ensures { result ≡ length (ids_out self.now) }
     {
-        self.count
+        self.jobs.len() - self.free.len()
     }
 
-    // Gives a job the first free place. It looks through the places before that.
+    // Gives a job a free place: the one that was cleared last.
     #[tactic(auto, using(crate::proofs::SlotLaws::places))]
     pub(crate) fn put(&mut self, id: Id) -> usize
         requires { length (ids_out self.old) < length self.old }
         ensures free { slice_get self.old result ≡ Some nothing }
         ensures put { self.new ≡ slice_set self.old result (Some id) }
     {
-        let place = free_place(&self.jobs).unwrap();
+        let place = self.free.pop_front().unwrap();
         self.jobs[place] = Some(id);
-        self.count += 1;
         place
     }
 
@@ -92,7 +92,7 @@ impl Slots {
             return false;
         }
         self.jobs[slot.place] = None;
-        self.count -= 1;
+        self.free.try_push_front(slot.place).unwrap();
         true
     }
 
@@ -123,9 +123,16 @@ fn is_of(job: Option<Id>, id: Id) -> bool
     }
 }
 
-// The first place without a job.
-fn free_place(jobs: &[Option<Id>]) -> Option<usize>
-    ensures { result ≡ position is_none jobs.now }
+// So many places, all of them free, the first one first. Errors: `AllocError` when out of memory.
+fn all_free(alloc: Global, count: usize) -> Result<HeapCircularBuffer<usize>, AllocError>
+    ensures many { IfOk result (λ free. (length free.items ≡ count) × (free.capacity ≡ count)) }
+    ensures free { IfOk result (λ free. AreFree (replicate count nothing) free.items) }
 {
-    jobs.iter().position(|job| job.is_none())
+    let mut free = HeapCircularBuffer::with_capacity(alloc, count)?;
+    let mut left = count;
+    while left > 0 {
+        left -= 1;
+        free.try_push_front(left).unwrap();
+    }
+    Ok(free)
 }

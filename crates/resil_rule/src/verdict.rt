@@ -3,8 +3,8 @@
 //! Each event is held against the rule's state after the events before it, over no work at all. A job
 //! with a worker of its own is picked at once, so all jobs that run are out. The events before the one in
 //! hand are legal at every moment, so the first event that may not follow them is the first illegal one.
-//! It is one pass. An event costs at most a look through the places of the jobs that are out, 64 at
-//! most. A submission of a new caller allocates the room to count it.
+//! It is one pass. An event costs at most a look through the places of the jobs that are out, as many
+//! as the greatest size says. A submission of a new caller allocates the room to count it.
 
 ghost use Rattle.std.specs.Prelude.{◌≡◌, ◌<◌, [], suc, length, IfOk, IfErr};
 ghost use Rattle.std.specs.Bool.{OnTrue, OnFalse};
@@ -12,7 +12,7 @@ ghost use Rattle.resil_rule.specs.RuleView.{made_by, next_reply};
 ghost use Rattle.resil_rule.specs.RuleState.{Follows};
 ghost use Rattle.resil_rule.specs.Verdict.{IsVerdict, VerdictsAreOne, IsBarred};
 
-use super::{AdmitError, Event, Id, Limits, Reply, Rule};
+use super::{AdmitError, Event, Id, Limits, Reply, Rule, Sizes};
 use std::alloc::Global;
 
 /// What an audit says of a history.
@@ -43,12 +43,31 @@ pub enum Verdict {
 /// let verdict = audit(alloc, &limits, &[Event::Close, Event::Close])?;
 /// assert_eq!(rt; verdict, Verdict::FirstIllegal(2));
 /// ```
-#[tactic(auto, using(crate::proofs::VerdictLaws::state_next))]
 pub fn audit(alloc: Global, limits: &Limits, history: &[Event]) -> Result<Verdict, AdmitError>
     ensures verdict { IfOk result (IsVerdict limits.now history.now) }
     ensures memory { IfErr result (λ e. e ≡ AdmitError.Memory) }
 {
-    let mut rule = Rule::new(alloc, *limits, 0)?;
+    let sizes = Sizes::from(*limits);
+    audit_by(alloc, &sizes, history)
+}
+
+/// The same under sizes, of which those of `Limits` are some.
+///
+/// # Errors
+///
+/// `Memory` when out of memory.
+///
+/// ```
+/// let sizes = Sizes::new(200, 400, 100)?;
+/// let verdict = audit_by(alloc, &sizes, &[Event::Close, Event::Close])?;
+/// assert_eq!(rt; verdict, Verdict::FirstIllegal(2));
+/// ```
+#[tactic(auto, using(crate::proofs::VerdictLaws::state_next))]
+pub fn audit_by(alloc: Global, sizes: &Sizes, history: &[Event]) -> Result<Verdict, AdmitError>
+    ensures verdict { IfOk result (IsVerdict sizes.now history.now) }
+    ensures memory { IfErr result (λ e. e ≡ AdmitError.Memory) }
+{
+    let mut rule = Rule::new(alloc, *sizes, 0)?;
     for (index, event) in history.iter().enumerate() {
         if !rule.follow(*event)? {
             return Ok(Verdict::FirstIllegal(index + 1));

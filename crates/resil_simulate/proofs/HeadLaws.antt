@@ -1,12 +1,12 @@
 -- Laws of the pools of a load: they are limits, and how many there are.
-use Rattle.resil_simulate.proofs.Words.{◌≡◌, ◌≤◌, ◌*◌, ℕ, true, List, All, filter, Contains, flat_map, length, arith, length-map, All-contains_itself, All-weaker, filter_passes, count_by-le-length, length-filter, sum_by-le, AreLimits, Sizes, combinations, is_pool, with_maxes, with_queues}
+use Rattle.resil_simulate.proofs.Words.{◌≡◌, ◌≤◌, ◌*◌, ℕ, true, List, All, filter, Contains, flat_map, length, arith, length-map, All-contains_itself, All-weaker, filter_passes, count_by-le-length, length-filter, sum_by-le, AreJdkLimits, Sizes, combinations, is_pool, with_maxes, with_queues}
 use Rattle.std.proofs.lemmas.Bool.Decides.{nat_tests}
 use Rattle.std.proofs.lemmas.List.Concat.{length-flat_map}
 
 -- what is kept are limits
-pub are_limits : (all : List Sizes) → All AreLimits (filter is_pool all)
+pub are_limits : (all : List Sizes) → All AreJdkLimits (filter is_pool all)
 are_limits all =
-    All-weaker (λ sizes. is_pool sizes ≡ true) AreLimits (λ sizes pool. record { core = grind (arith, nat_tests, pool); max = grind (arith, nat_tests, pool); queue = grind (arith, nat_tests, pool) })
+    All-weaker (λ sizes. is_pool sizes ≡ true) AreJdkLimits (λ sizes pool. record { core = grind (arith, nat_tests, pool); max = grind (arith, nat_tests, pool); queue = grind (arith, nat_tests, pool) })
     (filter is_pool all) (filter_passes is_pool all)
 
 -- of three lists of at most 8 there are at most 512 combinations

@@ -6,3 +6,4 @@ pub mod Load
 pub mod Numbers
 pub mod Rows
 pub mod Table
+pub mod Version

@@ -1,73 +1,87 @@
 -- The jobs of a load, by the rows of its body or by a history, and why they are none.
-use Rattle.std.specs.Prelude.{ℕ, suc, ◌≡◌, ◌≤◌, ◌<◌, ◌+◌, ◌-◌, ◌^◌, List, Option, Some, None, length, map, slice_get, slice_index, sum, take, unwrap_or}
+use Rattle.std.specs.Prelude.{ℕ, suc, ◌≡◌, ◌≤◌, ◌<◌, ◌+◌, ◌-◌, ◌*◌, ◌^◌, List, Some, None, length, map, max, slice_get, slice_index, sum, take}
 use Rattle.std.specs.List.{enumerate_from}
-use Rattle.resil_rule.specs.Timed.{AreAscending, GoesBackAt, events_in, times_in}
-use Rattle.resil_rule.specs.declared.timed.Timed.{Timed}
-use Rattle.resil_virtual.specs.Load.{runs_of, times_of}
+use Rattle.resil_rule.specs.Timed.{AreAscending, GoesBackAt}
+use Rattle.resil_jdk.specs.declared.event.JdkEvent.{JdkEvent}
+use Rattle.resil_jdk.specs.Timed.{events_in, times_in}
+use Rattle.resil_jdk.specs.declared.timed.TimedJdkEvent.{TimedJdkEvent}
+use Rattle.resil_virtual.specs.Load.{earliest_ends_of, latest, runs_of, times_of}
 use Rattle.resil_virtual.specs.declared.arrival.Arrival.{Arrival}
 use Rattle.resil_simulate.specs.History.{arrivals_by, first_without, submissions_in}
 use Rattle.resil_simulate.specs.Legality.{IsIllegalAt, IsLegalSomewhere}
+use Rattle.resil_simulate.specs.declared.head.Terms.{Terms}
+use Rattle.resil_simulate.specs.declared.head.Ways.{Ways}
 use Rattle.resil_simulate.specs.declared.history.Submitted.{Submitted}
 use Rattle.resil_simulate.specs.declared.rows.Row.{Row}
+use Rattle.resil_heads.specs.declared.error.HeadError.TheVariants.{BadValue}
 use Rattle.resil_heads.specs.declared.refusal.LoadRefusal.TheVariants.{NoTakes, Illegal, TimeGoesBack, TimeTooLate}
 use Rattle.resil_heads.specs.declared.refusal.Refusal.{Refusal}
 use Rattle.resil_heads.specs.declared.refusal.Refusal.TheVariants as refusal
 
 -- the job of a row at a place, from 1: the submission of caller 1 that has this number
 abbrev pub arrival_at : ℕ × Row → Arrival
-arrival_at placed = record { id = record { caller = 1; number = placed.0 }; at = placed.1.at; takes = placed.1.takes }
+arrival_at placed = record { id = record { caller = 1; number = placed.0 }; at = placed.1.at; takes = placed.1.takes; earliest_end = 0 }
 
 abbrev pub arrivals_of : List Row → List Arrival
 arrivals_of rows = map arrival_at (enumerate_from 1 rows)
 
--- the time of the job at an index, all runs up to it, its own too, and the time after which an idle worker may end, together
-abbrev pub end_of : ℕ → List Arrival → ℕ → ℕ
-end_of idle_for arrivals index = slice_index (times_of arrivals) index + sum (runs_of (take (suc index) arrivals)) + idle_for
+-- the time of the job at an index, or the latest of the earliest ends up to it, its own too, if that is later; all runs up to it, its own too, a time
+-- to wake for each of these, and the time after which an idle worker may end, together
+abbrev pub end_of : Ways → List Arrival → ℕ → ℕ
+end_of ways arrivals index =
+    max (slice_index (times_of arrivals) index) (latest (earliest_ends_of (take (suc index) arrivals))) + sum (runs_of (take (suc index) arrivals)) + ways.wakes * suc index + ways.idle_for
 
 -- for each job that is a number of 64 bits
-abbrev pub AreInTime : ℕ → List Arrival → Type 0
-AreInTime idle_for arrivals = (k : ℕ) → k < length arrivals → end_of idle_for arrivals k < 2 ^ 64
+abbrev pub AreInTime : Ways → List Arrival → Type 0
+AreInTime ways arrivals = (k : ℕ) → k < length arrivals → end_of ways arrivals k < 2 ^ 64
 
 -- The first job for which it isn't stands at this position, from 1.
-pub record IsTooLateAt (idle_for : ℕ) (arrivals : List Arrival) (position : ℕ) : Type 0 where
+pub record IsTooLateAt (ways : Ways) (arrivals : List Arrival) (position : ℕ) : Type 0 where
   pub within : (1 ≤ position) × (position ≤ length arrivals)
-  pub late : 2 ^ 64 ≤ end_of idle_for arrivals (position - 1)
-  pub first : (k : ℕ) → k + 1 < position → end_of idle_for arrivals k < 2 ^ 64
+  pub late : 2 ^ 64 ≤ end_of ways arrivals (position - 1)
+  pub first : (k : ℕ) → k + 1 < position → end_of ways arrivals k < 2 ^ 64
 
 -- why the jobs of rows are no load: a time is below the one before; or none is, and a job comes too late
-abbrev pub IsLoadRefusal : ℕ → List Arrival → Refusal → Type 0
-IsLoadRefusal idle_for arrivals (refusal.Load position TimeGoesBack) = GoesBackAt (times_of arrivals) position
-IsLoadRefusal idle_for arrivals (refusal.Load position TimeTooLate) = AreAscending (times_of arrivals) × IsTooLateAt idle_for arrivals position
-IsLoadRefusal idle_for arrivals why = ⊥
+abbrev pub IsLoadRefusal : Ways → List Arrival → Refusal → Type 0
+IsLoadRefusal ways arrivals (refusal.Load position TimeGoesBack) = GoesBackAt (times_of arrivals) position
+IsLoadRefusal ways arrivals (refusal.Load position TimeTooLate) = AreAscending (times_of arrivals) × IsTooLateAt ways arrivals position
+IsLoadRefusal ways arrivals why = ⊥
 
 -- ---- Of a history.
 
--- the place of the first submission that has no finish, where nothing else says how long such a one takes
-abbrev pub lacking : Option ℕ → List Submitted → Option ℕ
-lacking None jobs = first_without jobs
-lacking (Some takes) jobs = None
+-- the events that restate the state in which a history begins
+abbrev pub restated_in : ℕ → List TimedJdkEvent → List JdkEvent
+restated_in restated history = take restated (events_in history)
 
 -- the jobs of a history
-abbrev pub jobs_in : Option ℕ → List Timed → List Arrival
-jobs_in takes history = arrivals_by (unwrap_or takes 0) (submissions_in history)
+abbrev pub jobs_in : Terms → List TimedJdkEvent → List Arrival
+jobs_in terms history = arrivals_by terms (restated_in terms.made history) (submissions_in terms.made history)
 
--- A history that can be carried out: each of its jobs has a run, some pool has it, and its times ascend.
-pub record IsUsable (takes : Option ℕ) (history : List Timed) : Type 0 where
-  pub runs : lacking takes (submissions_in history) ≡ None
+-- A history that can be carried out: no more events restate a state than there are, each of its jobs has a run, some pool has it, and its times ascend.
+pub record IsUsable (terms : Terms) (history : List TimedJdkEvent) : Type 0 where
+  pub made : terms.made ≤ length history
+  pub runs : first_without terms (submissions_in terms.made history) ≡ None
   pub legal : IsLegalSomewhere (events_in history)
   pub ascending : AreAscending (times_in history)
 
--- why a history can't be carried out: the first of the three that doesn't hold, at its first row
-abbrev pub IsHistoryRefusal : Option ℕ → List Timed → Refusal → Type 0
-IsHistoryRefusal takes history (refusal.Load position NoTakes) = lacking takes (submissions_in history) ≡ Some position
-IsHistoryRefusal takes history (refusal.Load position Illegal) = (lacking takes (submissions_in history) ≡ None) × IsIllegalAt (events_in history) position
-IsHistoryRefusal takes history (refusal.Load position TimeGoesBack) =
-    (lacking takes (submissions_in history) ≡ None) × IsLegalSomewhere (events_in history) × GoesBackAt (times_in history) position
-IsHistoryRefusal takes history why = ⊥
+-- why a history can't be carried out: the first of the four that doesn't hold, at its first row
+abbrev pub IsHistoryRefusal : Terms → List TimedJdkEvent → Refusal → Type 0
+IsHistoryRefusal terms history (refusal.Head BadValue) = length history < terms.made
+IsHistoryRefusal terms history (refusal.Load position NoTakes) = (terms.made ≤ length history) × (first_without terms (submissions_in terms.made history) ≡ Some position)
+IsHistoryRefusal terms history (refusal.Load position Illegal) =
+    (terms.made ≤ length history) × (first_without terms (submissions_in terms.made history) ≡ None) × IsIllegalAt (events_in history) position
+IsHistoryRefusal terms history (refusal.Load position TimeGoesBack) =
+    (terms.made ≤ length history) × (first_without terms (submissions_in terms.made history) ≡ None) × IsLegalSomewhere (events_in history) × GoesBackAt (times_in history) position
+IsHistoryRefusal terms history why = ⊥
 
--- why its jobs are no load: it can't be carried out; or it can, and a job comes too late, whose submission stands at the position
-abbrev pub IsHistoryLoadRefusal : ℕ → Option ℕ → List Timed → Refusal → Type 0
-IsHistoryLoadRefusal idle_for takes history (refusal.Load position TimeTooLate) =
-    IsUsable takes history × (job : ℕ) × IsTooLateAt idle_for (jobs_in takes history) job
-    × (slice_get (map (λ submission. submission.place) (submissions_in history)) (job - 1) ≡ Some position)
-IsHistoryLoadRefusal idle_for takes history why = IsHistoryRefusal takes history why
+-- why the jobs of submissions are no load: one comes too late, whose submission stands at the position
+abbrev pub IsLateRefusal : Ways → List Arrival → List Submitted → Refusal → Type 0
+IsLateRefusal ways arrivals jobs (refusal.Load position TimeTooLate) =
+    (job : ℕ) × IsTooLateAt ways arrivals job × (slice_get (map (λ submission. submission.place) jobs) (job - 1) ≡ Some position)
+IsLateRefusal ways arrivals jobs why = ⊥
+
+-- why its jobs are no load: it can't be carried out; or it can, and a job comes too late
+abbrev pub IsHistoryLoadRefusal : Ways → Terms → List TimedJdkEvent → Refusal → Type 0
+IsHistoryLoadRefusal ways terms history (refusal.Load position TimeTooLate) =
+    IsUsable terms history × IsLateRefusal ways (jobs_in terms history) (submissions_in terms.made history) (refusal.Load position TimeTooLate)
+IsHistoryLoadRefusal ways terms history why = IsHistoryRefusal terms history why

@@ -1,18 +1,19 @@
-//! The head of a load: the sizes that it is carried out on, one or more for each of the three, when an idle worker may end, and how long a
-//! job of a history runs that has no finish there.
+//! The head of a load: the sizes that it is carried out on, one or more for each of the three, when an idle worker may end, and how the
+//! jobs of a history are taken. It reads past what else a recorder writes.
 
 ghost use Rattle.std.specs.Prelude.{◌≡◌, ◌≤◌, All, IfOk, filter, length};
 ghost use Rattle.toml.specs.View.{table_view, view};
-ghost use Rattle.resil_rule.specs.Limits.{AreLimits};
+ghost use Rattle.resil_jdk.specs.Limits.{AreJdkLimits};
 ghost use Rattle.resil_heads.specs.Checks.{GivesBy};
-ghost use Rattle.resil_simulate.specs.Head.{check_each, combinations, is_pool, load_head_of, parse_counts, parse_takes, plan_of, pools_from};
+ghost use Rattle.resil_simulate.specs.Head.{check_each, combinations, is_pool, load_head_of, micros_at, parse_counts, parse_takes, parse_terms, parse_time_out, parse_unfinished, parse_ways, plan_of, pools_from};
 
 use resil_heads::document::{check_keys, read_document};
 use resil_heads::forms::{Form, Key};
 use resil_heads::keys::{parse_count, required, value_at, wait_at};
 use resil_heads::sizes::DEFAULT_QUEUE;
 use resil_heads::{FaultyKey, HeadError, HeadFault, at_key};
-use resil_rule::{AdmitError, Limits};
+use resil_jdk::JdkLimits;
+use resil_rule::AdmitError;
 use std::alloc::{AllocError, Global};
 use toml::{Table, Value};
 
@@ -21,22 +22,60 @@ const DEFAULT_IDLE: u64 = 20_000;
 
 /// The keys of the head.
 pub const LOAD_KEYS: &[Key] = &[
-    Key::Required("core", Form::Sizes(1, 64)),
-    Key::Required("max", Form::Sizes(1, 64)),
-    Key::Optional("queue", Form::Sizes(1, 65_536)),
+    Key::Required("core", Form::Sizes(0, JdkLimits::MAX_WORKERS)),
+    Key::Required("max", Form::Sizes(1, JdkLimits::MAX_WORKERS)),
+    Key::Optional("queue", Form::Sizes(0, JdkLimits::MAX_WAITING)),
     Key::Optional("idle_for", Form::Integer(0, 31_536_000_000_000)),
+    Key::Optional("wakes", Form::Integer(0, 1_000_000)),
+    Key::Optional("time_out", Form::Flag),
     Key::Optional("takes", Form::Count(0, 4_294_967_295)),
+    Key::Optional("unfinished", Form::Unfinished),
+    Key::Optional("made", Form::Made),
+    Key::Optional("name", Form::ShortText(64)),
+    Key::Optional("record", Form::ShortText(64)),
+    Key::Optional("began", Form::Moment),
 ];
+
+/// How long a job of a history runs in another pool that was started there and has no finish.
+#[derive(Clone, Copy, Debug, PartialEq, Eq)]
+pub enum Unfinished {
+    /// What it ran there up to the last event.
+    Run,
+    /// What the head says at `takes`.
+    Takes,
+}
+
+/// How the jobs of a history are taken.
+#[derive(Clone, Copy, Debug)]
+pub struct Terms {
+    /// For how many microseconds a job runs that was never started there, if the head says so.
+    pub takes: Option<u32>,
+    /// How long one runs that was started and has no finish.
+    pub unfinished: Unfinished,
+    /// How many of the first events restate the state in which the history begins. They may be more than there are events.
+    pub made: u64,
+}
+
+/// How the workers of a pool end and wake.
+#[derive(Clone, Copy, Debug)]
+pub struct Ways {
+    /// After how many microseconds an idle worker may end.
+    pub idle_for: u64,
+    /// How many microseconds a worker takes to wake, 0 to 1,000,000.
+    pub wakes: u64,
+    /// Whether core workers may end too.
+    pub time_out: bool,
+}
 
 /// What the head of a load says.
 #[derive(Drop)]
 pub struct LoadHead {
     /// The pools that it is carried out on, 1 to 512 of them.
-    pub pools: Vec<Limits>,
-    /// After how many microseconds an idle worker may end.
-    pub idle_for: u64,
-    /// For how many microseconds a job of a history runs that has no finish there, if the head says so.
-    pub takes: Option<u32>,
+    pub pools: Vec<JdkLimits>,
+    /// How the workers of each of them end and wake.
+    pub ways: Ways,
+    /// How the jobs of a history are taken.
+    pub terms: Terms,
 }
 
 // A number, or the 1 to 8 numbers of an array. Errors: `BadValue`, `Memory`.
@@ -58,11 +97,11 @@ fn parse_counts(alloc: Global, value: &Value) -> Result<Vec<u32>, HeadError>
     Ok(counts)
 }
 
-// Checks that each of the sizes is from 1 to the greatest. Errors: this one of the pool.
-fn check_each(greatest: u32, why: AdmitError, sizes: &[u32]) -> Result<(), HeadError>
-    ensures { result ≡ check_each greatest why sizes.now }
+// Checks that each of the sizes is from the least to the greatest. Errors: this one of the pool.
+fn check_each(least: u32, greatest: u32, why: AdmitError, sizes: &[u32]) -> Result<(), HeadError>
+    ensures { result ≡ check_each least greatest why sizes.now }
 {
-    let all = sizes.iter().all(|size| 1 <= *size && *size <= greatest);
+    let all = sizes.iter().all(|size| least <= *size && *size <= greatest);
     all.then_some(()).ok_or(HeadError::Limits(why))
 }
 
@@ -72,14 +111,14 @@ fn combine(
     cores: &[u32],
     maxes: &[u32],
     queues: &[u32],
-) -> Result<Vec<Limits>, AllocError>
+) -> Result<Vec<JdkLimits>, AllocError>
     ensures { IfOk result (λ pools. pools.items ≡ filter is_pool (combinations cores.now maxes.now queues.now)) }
 {
     let mut pools = Vec::new(alloc);
     for core in cores {
         for max in maxes {
             for queue in queues {
-                if let Ok(limits) = Limits::new(*core, *max, *queue) {
+                if let Ok(limits) = JdkLimits::new(*core, *max, *queue) {
                     pools.push(limits)?;
                 }
             }
@@ -95,14 +134,19 @@ fn pools_from(
     cores: &[u32],
     maxes: &[u32],
     queues: &[u32],
-) -> Result<Vec<Limits>, HeadError>
+) -> Result<Vec<JdkLimits>, HeadError>
     ensures answer { GivesBy (λ pools. pools.items) result (pools_from cores.now maxes.now queues.now) }
-    ensures in_range { IfOk result (λ pools. All AreLimits pools.items × (1 ≤ length pools.items)) }
+    ensures in_range { IfOk result (λ pools. All AreJdkLimits pools.items × (1 ≤ length pools.items)) }
     ensures few { length cores.now ≤ 8 → length maxes.now ≤ 8 → length queues.now ≤ 8 → IfOk result (λ pools. length pools.items ≤ 512) }
 {
-    check_each(Limits::MAX_WORKERS, AdmitError::CoreOutOfRange, cores)?;
-    check_each(Limits::MAX_WORKERS, AdmitError::MaxOutOfRange, maxes)?;
-    check_each(Limits::MAX_WAITING, AdmitError::QueueOutOfRange, queues)?;
+    check_each(0, JdkLimits::MAX_WORKERS, AdmitError::CoreOutOfRange, cores)?;
+    check_each(1, JdkLimits::MAX_WORKERS, AdmitError::MaxOutOfRange, maxes)?;
+    check_each(
+        0,
+        JdkLimits::MAX_WAITING,
+        AdmitError::QueueOutOfRange,
+        queues,
+    )?;
     let pools = combine(alloc, cores, maxes, queues)?;
     if pools.is_empty() {
         return Err(HeadError::Limits(AdmitError::MaxOutOfRange));
@@ -120,19 +164,88 @@ fn parse_takes(table: &Table) -> Result<Option<u32>, HeadFault>
     }
 }
 
+// How long an unfinished job runs, as it did there where the head doesn't say it. Errors: `BadValue`.
+fn parse_unfinished(table: &Table) -> Result<Unfinished, HeadFault>
+    ensures { result ≡ parse_unfinished (table_view table.now) }
+{
+    let Some(value) = value_at("unfinished", table) else {
+        return Ok(Unfinished::Run);
+    };
+    match value.as_str() {
+        Some("run") => Ok(Unfinished::Run),
+        Some("takes") => Ok(Unfinished::Takes),
+        _ => Err(HeadFault::at(FaultyKey::Known("unfinished"), HeadError::BadValue)),
+    }
+}
+
+// How the jobs of a history are taken. Errors: `BadValue`.
+fn parse_terms(table: &Table) -> Result<Terms, HeadFault>
+    ensures { result ≡ parse_terms (table_view table.now) }
+{
+    let takes = parse_takes(table)?;
+    let unfinished = parse_unfinished(table)?;
+    let made = wait_at("made", 0, table)?;
+    Ok(Terms {
+        takes,
+        unfinished,
+        made,
+    })
+}
+
+// Microseconds at a key, up to the most, or the default where it is absent. Errors: `BadValue`.
+fn micros_at(key: &'static str, default: u64, most: u64, table: &Table) -> Result<u64, HeadFault>
+    ensures { result ≡ micros_at key.now default most (table_view table.now) }
+{
+    let length = wait_at(key, default, table)?;
+    if length > most {
+        return Err(HeadFault::at(FaultyKey::Known(key), HeadError::BadValue));
+    }
+    Ok(length)
+}
+
+// Whether core workers may end too, which they may not where the head doesn't say it. Errors: `BadValue`.
+fn parse_time_out(table: &Table) -> Result<bool, HeadFault>
+    ensures { result ≡ parse_time_out (table_view table.now) }
+{
+    let Some(value) = value_at("time_out", table) else {
+        return Ok(false);
+    };
+    match value.as_bool() {
+        Some(is_on) => Ok(is_on),
+        None => Err(HeadFault::at(FaultyKey::Known("time_out"), HeadError::BadValue)),
+    }
+}
+
+// How workers end and wake. Errors: `BadValue`.
+fn parse_ways(table: &Table) -> Result<Ways, HeadFault>
+    ensures { result ≡ parse_ways (table_view table.now) }
+{
+    let idle_for = micros_at("idle_for", DEFAULT_IDLE, 31_536_000_000_000, table)?;
+    let wakes = micros_at("wakes", 0, 1_000_000, table)?;
+    let time_out = parse_time_out(table)?;
+    Ok(Ways {
+        idle_for,
+        wakes,
+        time_out,
+    })
+}
+
 /// What the head of a load says: a pool for each combination of `core`, `max` (workers, both required) and `queue` (jobs, 100 where
 /// it is absent) whose core size is at most the greatest, in the order of the arrays, the queue quickest; `idle_for`, from 0 to
-/// 31,536,000,000,000 microseconds, 20,000 where it is absent; and `takes`, from 0 to 4,294,967,295 microseconds, `None` where it is absent.
+/// 31,536,000,000,000 microseconds, 20,000 if it is absent; `wakes`, from 0 to 1,000,000 microseconds, and `time_out`, 0 and false if they
+/// are absent; `takes`, from 0 to 4,294,967,295 microseconds, `None` if it is absent; `unfinished`, `"run"` (also if it is absent) or
+/// `"takes"`; and `made`, from 0 on, 0 if it is absent. `name`, `record` and `began` may have any value.
 ///
 /// # Errors
 ///
 /// The first in this order: `BadToml`; `UnknownKey`; `MissingKey`; `BadValue` where a size is neither an integer from 0 to 4,294,967,295
-/// nor an array of 1 to 8 of them, or else `idle_for` or `takes` is out of its range; `Limits` for the first of `core`, `max` and `queue` that has an
-/// item out of its range, and for `max` where no combination is left. `Memory` may come at any stage.
+/// nor an array of 1 to 8 of them, or else `idle_for`, `wakes`, `time_out`, `takes`, `unfinished` or `made` isn't of its kind, or is out of
+/// its range; `Limits` for the first of `core`, `max` and `queue` that has an item out of its range, and for `max` if no combination is left.
+/// `Memory` may come at any stage.
 #[tactic(auto, unfolding(crate::specs::Head::load_head_of))]
 pub fn read_load_head(alloc: Global, bytes: &[u8]) -> Result<LoadHead, HeadFault>
     ensures answer { GivesBy plan_of result (load_head_of bytes.now) }
-    ensures in_range { IfOk result (λ head. All AreLimits head.pools.items × (1 ≤ length head.pools.items) × (length head.pools.items ≤ 512)) }
+    ensures in_range { IfOk result (λ head. All AreJdkLimits head.pools.items × (1 ≤ length head.pools.items) × (length head.pools.items ≤ 512)) }
 {
     let table = read_document(alloc, bytes)?;
     check_keys(LOAD_KEYS, &table)?;
@@ -142,15 +255,8 @@ pub fn read_load_head(alloc: Global, bytes: &[u8]) -> Result<LoadHead, HeadFault
         Some(value) => at_key("queue", parse_counts(alloc, value))?,
         None => vec![in alloc; DEFAULT_QUEUE]?,
     };
-    let idle_for = wait_at("idle_for", DEFAULT_IDLE, &table)?;
-    if idle_for > 31_536_000_000_000 {
-        return Err(HeadFault::at(FaultyKey::Known("idle_for"), HeadError::BadValue));
-    }
-    let takes = parse_takes(&table)?;
+    let ways = parse_ways(&table)?;
+    let terms = parse_terms(&table)?;
     let pools = pools_from(alloc, &cores, &maxes, &queues)?;
-    Ok(LoadHead {
-        pools,
-        idle_for,
-        takes,
-    })
+    Ok(LoadHead { pools, ways, terms })
 }

@@ -1,25 +1,56 @@
-//! The jobs that a history has: its submissions, whatever was replied, each with the time from its start to its finish.
+//! The jobs that a history has: its submissions, whatever was replied, each with how long it ran there.
 //!
 //! The times of starts and of finishes are put into tables by the jobs' ids, so that each event costs the same however many jobs wait.
 
-ghost use Rattle.std.specs.Prelude.{◌≡◌, ◌<◌, ◌^◌, ℕ, List, Some, None, IfOk, OnOk, if◌then◌else◌, ◌==◌};
+ghost use Rattle.std.specs.Prelude.{◌≡◌, ◌≤◌, ◌<◌, ◌+◌, ◌^◌, ℕ, List, Some, None, drop, length, IfOk, OnOk, if◌then◌else◌, ◌==◌};
 ghost use Rattle.std.specs.BTreeMap.{IsOrdered, get};
 ghost use Rattle.std.specs.Option.{option_or};
 ghost use Rattle.std.specs.Ordering.{nat_cmp};
-ghost use Rattle.resil_rule.specs.declared.timed.Timed.{Timed};
-ghost use Rattle.resil_simulate.specs.History.{AreTimesOf, arrivals_by, first_without, job_at, key, run_of, submissions_in};
+ghost use Rattle.resil_jdk.specs.declared.event.JdkEvent.{JdkEvent};
+ghost use Rattle.resil_jdk.specs.declared.timed.TimedJdkEvent.{TimedJdkEvent};
+ghost use Rattle.resil_stats.specs.Stats.{AreJdkCallersOf};
+ghost use Rattle.resil_simulate.specs.History.{AreTimesOf, arrival_by, arrivals_by, earliest_end_by, first_without, in_whole_words, job_at, key, last_at, ran_from, ran_of, run_by, submissions_in};
 ghost use Rattle.resil_simulate.specs.declared.history.Moment.TheVariants as moment;
 
-use resil_rule::{Event, Id, Reply, Timed};
+use crate::head::{Terms, Unfinished};
+use resil_jdk::{JdkEvent, JdkReply, TimedJdkEvent, jdk_event};
+use resil_rule::{Id, Timed};
+use resil_stats::CallerStats;
 use resil_virtual::Arrival;
 use std::alloc::{AllocError, Global};
 use std::collections::BTreeMap;
+
+/// A history in version 3, in the words of the whole rule.
+///
+/// # Errors
+///
+/// `AllocError` when out of memory.
+pub fn in_whole_words(alloc: Global, history: &[Timed]) -> Result<Vec<TimedJdkEvent>, AllocError>
+    ensures { IfOk result (λ all. all.items ≡ in_whole_words history.now) }
+{
+    let all = history.iter().map(|timed| TimedJdkEvent {
+        event: jdk_event(timed.event),
+        at: timed.at,
+    });
+    all.collect(alloc)
+}
 
 // What happens to a job once.
 #[derive(Clone, Copy)]
 enum Moment {
     Start,
     Finish,
+}
+
+/// How long a job of a history ran there, in microseconds.
+#[derive(Clone, Copy)]
+pub enum Ran {
+    /// From its start to its finish.
+    Whole(u64),
+    /// From its start to the last event, and when that is, since any start: it has no finish.
+    Cut { us: u64, until: u64 },
+    /// It was refused or removed, or waits to the end.
+    Never,
 }
 
 /// A submission of a history.
@@ -31,20 +62,20 @@ pub struct Submitted {
     pub id: Id,
     /// When it was submitted, in microseconds since any start.
     pub at: u64,
-    /// How long its job ran, in microseconds, or `None` where it has no finish.
-    pub run: Option<u64>,
+    /// How long its job ran.
+    pub ran: Ran,
 }
 
 // The job that an event starts, or finishes.
-fn job_at(moment: Moment, event: Event) -> Option<Id>
+fn job_at(moment: Moment, event: JdkEvent) -> Option<Id>
     ensures { result ≡ job_at moment event }
 {
     match (moment, event) {
-        (Moment::Start, Event::Submit { id, reply }) => match reply {
-            Reply::Core | Reply::Extra => Some(id),
-            Reply::Queued | Reply::Full | Reply::Closed => None,
+        (Moment::Start, JdkEvent::Submit { id, reply }) => match reply {
+            JdkReply::Core | JdkReply::Handed | JdkReply::Extra => Some(id),
+            JdkReply::First | JdkReply::Queued | JdkReply::Full | JdkReply::Closed => None,
         },
-        (Moment::Start, Event::Take(id)) | (Moment::Finish, Event::Finish(id)) => Some(id),
+        (Moment::Start, JdkEvent::Take(id)) | (Moment::Finish, JdkEvent::Finish(id)) => Some(id),
         _ => None,
     }
 }
@@ -73,7 +104,7 @@ fn keep_first(times: &mut BTreeMap<u128, u64>, key: u128, at: u64) -> Result<(),
 fn times_of(
     alloc: Global,
     moment: Moment,
-    history: &[Timed],
+    history: &[TimedJdkEvent],
 ) -> Result<BTreeMap<u128, u64>, AllocError>
     ensures times { IfOk result (AreTimesOf moment history.now) }
     ensures ordered { IfOk result (IsOrdered nat_cmp) }
@@ -88,65 +119,150 @@ fn times_of(
     Ok(times)
 }
 
-// How long a job ran.
-fn run_of(starts: &BTreeMap<u128, u64>, finishes: &BTreeMap<u128, u64>, id: Id) -> Option<u64>
-    ensures { (history : List Timed) → AreTimesOf moment.Start history starts.now → AreTimesOf moment.Finish history finishes.now → result ≡ run_of history id }
+// The time of the last event, 0 if there is none.
+fn last_at(history: &[TimedJdkEvent]) -> u64
+    ensures { result ≡ last_at history.now }
 {
-    let key = key_of(id);
-    let start = starts.get(&key)?;
-    let finish = finishes.get(&key)?;
-    Some(finish.saturating_sub(*start))
+    let mut last = 0;
+    for timed in history {
+        last = timed.at;
+    }
+    last
 }
 
-/// The submissions of a history, in order.
-///
-/// # Errors
-///
-/// `AllocError` when out of memory.
-pub fn submissions_in(alloc: Global, history: &[Timed]) -> Result<Vec<Submitted>, AllocError>
-    ensures { IfOk result (λ jobs. jobs.items ≡ submissions_in history.now) }
+// How long a job ran that started.
+fn ran_from(start: u64, finish: Option<u64>, last: u64) -> Ran
+    ensures { result ≡ ran_from start finish last }
+{
+    match finish {
+        Some(finish) => Ran::Whole(finish.saturating_sub(start)),
+        None => Ran::Cut {
+            us: last.saturating_sub(start),
+            until: last,
+        },
+    }
+}
+
+// How long a job ran, by the times of starts and finishes and that of the last event.
+fn ran_of(starts: &BTreeMap<u128, u64>, finishes: &BTreeMap<u128, u64>, last: u64, id: Id) -> Ran
+    ensures { (history : List TimedJdkEvent) → AreTimesOf moment.Start history starts.now → AreTimesOf moment.Finish history finishes.now → last ≡ last_at history → result ≡ ran_of history id }
+{
+    let key = key_of(id);
+    match starts.get(&key).copied() {
+        Some(start) => ran_from(start, finishes.get(&key).copied(), last),
+        None => Ran::Never,
+    }
+}
+
+// The submissions in the rest of a history, behind its first events. Errors: `AllocError` when out of memory.
+fn submissions_behind(
+    alloc: Global,
+    restated: usize,
+    history: &[TimedJdkEvent],
+    rest: &[TimedJdkEvent],
+) -> Result<Vec<Submitted>, AllocError>
+    requires few { restated + length rest.now < 2 ^ 64 }
+    requires rest { rest.now ≡ drop restated history.now }
+    ensures { IfOk result (λ jobs. jobs.items ≡ submissions_in restated history.now) }
 {
     let starts = times_of(alloc, Moment::Start, history)?;
     let finishes = times_of(alloc, Moment::Finish, history)?;
+    let last = last_at(history);
     let mut jobs = Vec::new(alloc);
-    for (index, timed) in history.iter().enumerate() {
-        let Event::Submit { id, .. } = timed.event else {
+    for (index, timed) in rest.iter().enumerate() {
+        let JdkEvent::Submit { id, .. } = timed.event else {
             continue;
         };
         jobs.push(Submitted {
-            place: index + 1,
+            place: restated + index + 1,
             id,
             at: timed.at,
-            run: run_of(&starts, &finishes, id),
+            ran: ran_of(&starts, &finishes, last, id),
         })?;
     }
     Ok(jobs)
 }
 
-/// The place of the first submission whose job has no finish.
-pub fn first_without(jobs: &[Submitted]) -> Option<usize>
-    ensures { result ≡ first_without jobs.now }
+/// The submissions of a history, in order, behind its first events, as many as `restated`, which restate the state in which it begins.
+///
+/// # Errors
+///
+/// `AllocError` when out of memory.
+pub fn submissions_in(
+    alloc: Global,
+    restated: usize,
+    history: &[TimedJdkEvent],
+) -> Result<Vec<Submitted>, AllocError>
+    requires { restated ≤ length history.now }
+    ensures { IfOk result (λ jobs. jobs.items ≡ submissions_in restated history.now) }
 {
-    let unfinished = jobs.iter().find(|job| job.run.is_none())?;
-    Some(unfinished.place)
+    submissions_behind(alloc, restated, history, &history[restated..])
 }
 
-/// The jobs of a load by submissions, in order: each takes what it ran, or else this many microseconds.
+// How long a job runs in another pool, if it ran to its end, or the head says it.
+fn run_by(terms: Terms, ran: Ran) -> Option<u64>
+    ensures { result ≡ run_by terms ran }
+{
+    match (ran, terms.unfinished) {
+        (Ran::Whole(us), _) | (Ran::Cut { us, .. }, Unfinished::Run) => Some(us),
+        (Ran::Cut { .. }, Unfinished::Takes) | (Ran::Never, _) => terms.takes.map(u64::from),
+    }
+}
+
+// The earliest moment at which the run of a job may end in another pool: the last event, if it went on there up to that and the head says
+// no other run.
+fn earliest_end_by(terms: Terms, ran: Ran) -> u64
+    ensures { result ≡ earliest_end_by terms ran }
+{
+    match (ran, terms.unfinished) {
+        (Ran::Cut { until, .. }, Unfinished::Run) => until,
+        _ => 0,
+    }
+}
+
+/// The place of the first submission of which nothing says how long its job runs.
+pub fn first_without(terms: Terms, jobs: &[Submitted]) -> Option<usize>
+    ensures { result ≡ first_without terms jobs.now }
+{
+    let without = jobs.iter().find(|job| run_by(terms, job.ran).is_none())?;
+    Some(without.place)
+}
+
+// A submission as a job of a load. `callers` has the numbers of the callers that submitted in the events that are left out.
+fn arrival_by(terms: Terms, callers: &BTreeMap<u16, CallerStats>, job: &Submitted) -> Arrival
+    requires { IsOrdered nat_cmp callers.now }
+    ensures { (restated : List JdkEvent) → AreJdkCallersOf restated callers.now → result ≡ arrival_by terms restated job.now }
+{
+    let Id { caller, number } = job.id;
+    let before = callers.get(&caller).map_or(0, |stats| stats.submissions);
+    Arrival {
+        id: Id {
+            caller,
+            number: number.saturating_sub(before as u64),
+        },
+        at: job.at,
+        takes: run_by(terms, job.ran).unwrap_or(0),
+        earliest_end: earliest_end_by(terms, job.ran),
+    }
+}
+
+/// The jobs of a load by submissions, in order. `callers` has the numbers of the callers that submitted in the events that are left out.
 ///
 /// # Errors
 ///
 /// `AllocError` when out of memory.
 pub fn arrivals_by(
     alloc: Global,
-    takes: u64,
+    terms: Terms,
+    callers: &BTreeMap<u16, CallerStats>,
     jobs: &[Submitted],
 ) -> Result<Vec<Arrival>, AllocError>
-    ensures { IfOk result (λ arrivals. arrivals.items ≡ arrivals_by takes jobs.now) }
+    requires { IsOrdered nat_cmp callers.now }
+    ensures { (restated : List JdkEvent) → AreJdkCallersOf restated callers.now → IfOk result (λ arrivals. arrivals.items ≡ arrivals_by terms restated jobs.now) }
 {
-    let arrivals = jobs.iter().map(|job| Arrival {
-        id: job.id,
-        at: job.at,
-        takes: job.run.unwrap_or(takes),
-    });
-    arrivals.collect(alloc)
+    let mut arrivals = Vec::new(alloc);
+    for job in jobs {
+        arrivals.push(arrival_by(terms, callers, job))?;
+    }
+    Ok(arrivals)
 }

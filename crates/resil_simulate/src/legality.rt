@@ -1,18 +1,18 @@
-//! Whether a history is legal in some pool, whatever its sizes.
+//! Whether a history is legal in some pool of the JDK, whatever its sizes.
 //!
-//! A history asks of the sizes that they aren't less: more workers than there are where a submission gets one, a place in the queue where
-//! one is put there. All else that the rule says of sizes holds of smaller ones too. So a history that is legal in some pool is so in that
-//! of the least sizes that it asks for, and one audit tells.
+//! A history asks of the sizes that they aren't less: more workers than there are where one begins, a place in the queue where a job is put
+//! there, and one where a job isn't handed to an idle worker. All else that the rule says of sizes holds of smaller ones too. So a history
+//! that is legal in some pool is so in that of the least sizes that it asks for, and one audit tells.
 
-ghost use Rattle.std.specs.Prelude.{◌≡◌, ◌↔◌, ◌≤◌, [], List, IfNone, IfOk, IfSome, IsTrue, MatchOption, max, take};
-ghost use Rattle.resil_rule.specs.Admission.{IsLegal};
-ghost use Rattle.resil_rule.specs.Limits.{AreLimits, Sizes};
-ghost use Rattle.resil_rule.specs.declared.event.Event.{Event};
-ghost use Rattle.resil_stats.specs.Stats.{AreCountsOf, MayGrow};
-ghost use Rattle.resil_simulate.specs.Legality.{AreEnough, IsAsked, IsIllegalAt, IsLegalSomewhere, asked_at, one_more};
+ghost use Rattle.std.specs.Prelude.{◌≡◌, ◌↔◌, ◌≤◌, ◌++◌, ◌∷◌, [], List, IfNone, IfOk, IfSome, IsTrue, MatchOption, max, take};
+ghost use Rattle.resil_rule.specs.Limits.{Sizes};
+ghost use Rattle.resil_jdk.specs.Admission.{IsLegal};
+ghost use Rattle.resil_jdk.specs.Limits.{AreJdkLimits};
+ghost use Rattle.resil_jdk.specs.declared.event.JdkEvent.{JdkEvent};
+ghost use Rattle.resil_simulate.specs.Legality.{AreEnough, AreTallied, IsAsked, IsIllegalAt, IsLegalSomewhere, MayBeTallied, asked_at, no_hand_off, one_more, one_place};
 
-use resil_rule::{Event, Limits, Reply, Verdict, audit};
-use resil_stats::Counts;
+use resil_jdk::{JdkEvent, JdkLimits, JdkReply, audit};
+use resil_rule::Verdict;
 use std::alloc::{AllocError, Global};
 
 // The sizes that events ask for, at least.
@@ -26,9 +26,9 @@ struct Asked {
 impl Asked {
     // Those of an event that asks for none.
     const NONE: Asked = Asked {
-        core: 1,
+        core: 0,
         max: 1,
-        queue: 1,
+        queue: 0,
     };
 
     // The greater of each.
@@ -45,80 +45,162 @@ impl Asked {
     }
 }
 
-// One more worker than there are after events of these counts, 1 where they have a resize.
-fn one_more(before: &Counts) -> usize
-    requires { MayGrow before.now }
-    ensures { (history : List Event) → AreCountsOf history before.now → result ≡ one_more history }
-{
-    if before.resizes != 0 {
-        return 1;
-    }
-    (before.core + before.extra).saturating_sub(before.idle_ends) + 1
+// How often workers begin and end, jobs are queued, leave the queue, come to a worker and are finished, and sizes are set.
+#[derive(Clone, Copy, Default)]
+struct Tally {
+    begun: usize,
+    ended: usize,
+    queued: usize,
+    left: usize,
+    at_once: usize,
+    taken: usize,
+    finished: usize,
+    resizes: usize,
 }
 
-// What an event asks for behind events of these counts.
-fn asked_at(before: &Counts, event: Event) -> Asked
-    requires { MayGrow before.now }
-    ensures { (history : List Event) → AreCountsOf history before.now → result ≡ asked_at history event }
+impl Tally {
+    // Counts one more event.
+    #[tactic(auto, using(resil_stats::proofs::CountLaws::filter_few, resil_stats::proofs::CountLaws::filter_more, resil_stats::proofs::CountLaws::made_few, resil_stats::proofs::CountLaws::made_more))]
+    fn record(&mut self, event: JdkEvent)
+        requires { MayBeTallied self.old }
+        ensures { (history : List JdkEvent) → AreTallied history self.old → AreTallied (history ++ event ∷ []) self.new }
+    {
+        match event {
+            JdkEvent::Submit { reply, .. } => match reply {
+                JdkReply::Core | JdkReply::Extra => {
+                    self.begun += 1;
+                    self.at_once += 1;
+                }
+                JdkReply::First => {
+                    self.begun += 1;
+                    self.queued += 1;
+                }
+                JdkReply::Queued => self.queued += 1,
+                JdkReply::Handed => self.at_once += 1,
+                JdkReply::Full | JdkReply::Closed => {}
+            },
+            JdkEvent::Take(_) => {
+                self.left += 1;
+                self.taken += 1;
+            }
+            JdkEvent::Finish(_) => self.finished += 1,
+            JdkEvent::Remove(_) => self.left += 1,
+            JdkEvent::Start => self.begun += 1,
+            JdkEvent::IdleEnd | JdkEvent::Cull => self.ended += 1,
+            JdkEvent::Resized { .. } => self.resizes += 1,
+            JdkEvent::Close | JdkEvent::Stop | JdkEvent::TimeOut(_) => {}
+        }
+    }
+}
+
+// One more worker than there are after events of this tally, 0 where they have a resize.
+#[tactic(auto, using(resil_stats::proofs::CountLaws::filter_few))]
+fn one_more(before: &Tally) -> usize
+    requires { MayBeTallied before.now }
+    ensures { (history : List JdkEvent) → AreTallied history before.now → result ≡ one_more history }
+{
+    if before.resizes != 0 {
+        return 0;
+    }
+    before.begun.saturating_sub(before.ended) + 1
+}
+
+// One more place than jobs wait after events of this tally.
+#[tactic(auto, using(resil_stats::proofs::CountLaws::made_few))]
+fn one_place(before: &Tally) -> usize
+    requires { MayBeTallied before.now }
+    ensures { (history : List JdkEvent) → AreTallied history before.now → result ≡ one_place history }
+{
+    before.queued.saturating_sub(before.left) + 1
+}
+
+// One place where a worker is idle after events of this tally.
+fn no_hand_off(before: &Tally) -> usize
+    ensures { (history : List JdkEvent) → AreTallied history before.now → result ≡ no_hand_off history }
+{
+    let busy = before.at_once as u128 + before.taken as u128 + before.ended as u128;
+    usize::from(busy < before.finished as u128 + before.begun as u128)
+}
+
+// What an event asks for behind events of this tally.
+fn asked_at(before: &Tally, event: JdkEvent) -> Asked
+    requires { MayBeTallied before.now }
+    ensures { (history : List JdkEvent) → AreTallied history before.now → result ≡ asked_at history event }
 {
     match event {
-        Event::Submit { reply, .. } => match reply {
-            Reply::Core => Asked {
+        JdkEvent::Submit { reply, .. } => match reply {
+            JdkReply::Core => Asked {
                 core: one_more(before),
                 ..Asked::NONE
             },
-            Reply::Extra => Asked {
+            JdkReply::First | JdkReply::Queued => Asked {
+                queue: one_place(before),
+                ..Asked::NONE
+            },
+            JdkReply::Extra => Asked {
+                core: 0,
                 max: one_more(before),
+                queue: no_hand_off(before),
+            },
+            JdkReply::Full => Asked {
+                queue: no_hand_off(before),
                 ..Asked::NONE
             },
-            Reply::Queued => Asked {
-                queue: before.queued.saturating_sub(before.taken) + 1,
-                ..Asked::NONE
-            },
-            Reply::Full | Reply::Closed => Asked::NONE,
+            JdkReply::Handed | JdkReply::Closed => Asked::NONE,
         },
-        Event::Resized { max, .. } => Asked {
+        JdkEvent::Start => Asked {
+            core: one_more(before),
+            ..Asked::NONE
+        },
+        JdkEvent::Resized { max, .. } => Asked {
             max: max as usize,
             ..Asked::NONE
         },
-        Event::Take(_) | Event::Finish(_) | Event::IdleEnd | Event::Close => Asked::NONE,
+        JdkEvent::Take(_)
+        | JdkEvent::Finish(_)
+        | JdkEvent::IdleEnd
+        | JdkEvent::Close
+        | JdkEvent::Cull
+        | JdkEvent::Remove(_)
+        | JdkEvent::Stop
+        | JdkEvent::TimeOut(_) => Asked::NONE,
     }
 }
 
 // What events ask for.
-fn asked_by(events: &[Event]) -> Asked
-    ensures some { (1 ≤ result.core) × (1 ≤ result.queue) }
+fn asked_by(events: &[JdkEvent]) -> Asked
+    ensures some { 1 ≤ result.max }
     ensures most { IsAsked [] events.now result }
-    ensures least { (limits : Sizes) → AreLimits limits → IsLegal limits events.now → AreEnough result limits }
+    ensures least { (limits : Sizes) → AreJdkLimits limits → IsLegal limits events.now → AreEnough result limits }
 {
-    let mut counts = Counts::default();
+    let mut tally = Tally::default();
     let mut most = Asked::NONE;
     for event in events {
-        most = most.max(asked_at(&counts, *event));
-        counts.record(*event);
+        most = most.max(asked_at(&tally, *event));
+        tally.record(*event);
     }
     most
 }
 
 // The limits of these sizes, the greatest size no less than the core size, or `None` where no pool has so large ones.
-fn limits_of(least: Asked) -> Option<Limits>
-    requires { (1 ≤ least.core) × (1 ≤ least.queue) }
+fn limits_of(least: Asked) -> Option<JdkLimits>
+    requires { 1 ≤ least.max }
     ensures sizes { IfSome result (λ limits. limits ≡ record { core = least.core; max = max least.max least.core; queue = least.queue }) }
-    ensures in_range { IfSome result AreLimits }
-    ensures none { IfNone result ((limits : Sizes) → AreLimits limits → ¬ AreEnough least limits) }
+    ensures in_range { IfSome result AreJdkLimits }
+    ensures none { IfNone result ((limits : Sizes) → AreJdkLimits limits → ¬ AreEnough least limits) }
 {
     let core = u32::try_from(least.core).ok()?;
     let max = u32::try_from(least.max).ok()?;
     let queue = u32::try_from(least.queue).ok()?;
-    match Limits::new(core, max.max(core), queue) {
+    match JdkLimits::new(core, max.max(core), queue) {
         Ok(limits) => Some(limits),
         Err(_) => None,
     }
 }
 
 // The least sizes of a pool that could have these events, or `None` where there is no such pool.
-fn least_limits(events: &[Event]) -> Option<Limits>
-    ensures legal { IfSome result (λ least. AreLimits least × ((limits : Sizes) → AreLimits limits → IsLegal limits events.now → IsLegal least events.now)) }
+fn least_limits(events: &[JdkEvent]) -> Option<JdkLimits>
+    ensures legal { IfSome result (λ least. AreJdkLimits least × ((limits : Sizes) → AreJdkLimits limits → IsLegal limits events.now → IsLegal least events.now)) }
     ensures none { IfNone result (¬ IsLegalSomewhere events.now) }
 {
     let least = asked_by(events);
@@ -127,7 +209,7 @@ fn least_limits(events: &[Event]) -> Option<Limits>
 }
 
 // Whether events are legal in some pool. Errors: `AllocError` when out of memory.
-fn is_legal(alloc: Global, events: &[Event]) -> Result<bool, AllocError>
+fn is_legal(alloc: Global, events: &[JdkEvent]) -> Result<bool, AllocError>
     ensures { IfOk result (λ is. IsTrue is ↔ IsLegalSomewhere events.now) }
 {
     let Some(limits) = least_limits(events) else {
@@ -147,7 +229,7 @@ fn is_legal(alloc: Global, events: &[Event]) -> Result<bool, AllocError>
 /// # Errors
 ///
 /// `AllocError` when out of memory.
-pub fn first_illegal(alloc: Global, events: &[Event]) -> Result<Option<usize>, AllocError>
+pub fn first_illegal(alloc: Global, events: &[JdkEvent]) -> Result<Option<usize>, AllocError>
     ensures { IfOk result (λ first. MatchOption first (IsLegalSomewhere events.now) (IsIllegalAt events.now)) }
 {
     if is_legal(alloc, events)? {

@@ -15,3 +15,4 @@ pub mod numbers;
 pub mod rows;
 mod subject;
 pub mod table;
+mod version;

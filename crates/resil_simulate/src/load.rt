@@ -1,19 +1,30 @@
 //! The jobs of a load, by the rows of its body or by a history. All rows are held against each other first, then each against the end of
 //! time.
 
-ghost use Rattle.std.specs.Prelude.{◌≡◌, IfErr, IfOk, MatchOption, MatchResult};
+ghost use Rattle.std.specs.Prelude.{◌≡◌, ◌≤◌, ◌<◌, IfErr, IfOk, MatchOption, MatchResult, length, take};
+ghost use Rattle.std.specs.BTreeMap.{IsOrdered};
+ghost use Rattle.std.specs.Ordering.{nat_cmp};
 ghost use Rattle.resil_heads.specs.CommandError.{IsError};
+ghost use Rattle.resil_jdk.specs.Admission.{IsLegal};
+ghost use Rattle.resil_jdk.specs.Timed.{events_in};
+ghost use Rattle.resil_rule.specs.Limits.{Sizes};
+ghost use Rattle.resil_stats.specs.Stats.{AreJdkCallersOf};
 ghost use Rattle.resil_virtual.specs.Load.{IsLoad, times_of};
-ghost use Rattle.resil_simulate.specs.History.{submissions_in};
-ghost use Rattle.resil_simulate.specs.Load.{AreInTime, IsHistoryLoadRefusal, IsHistoryRefusal, IsLoadRefusal, IsTooLateAt, IsUsable, arrivals_of, jobs_in, lacking};
+ghost use Rattle.resil_simulate.specs.History.{arrivals_by, submissions_in};
+ghost use Rattle.resil_simulate.specs.Load.{AreInTime, IsHistoryLoadRefusal, IsHistoryRefusal, IsLateRefusal, IsLoadRefusal, IsTooLateAt, IsUsable, arrivals_of, jobs_in};
 
+use crate::head::{Terms, Ways};
 use crate::history::{Submitted, arrivals_by, first_without, submissions_in};
 use crate::legality::first_illegal;
 use crate::rows::Row;
-use resil_heads::{CommandError, LoadRefusal, Refusal};
-use resil_rule::{Id, Timed, events_in, first_back, times_in};
+use resil_heads::{CommandError, HeadError, LoadRefusal, Refusal};
+use resil_jdk::timed::{events_in, times_in};
+use resil_jdk::{JdkEvent, TimedJdkEvent};
+use resil_rule::{Id, Verdict, first_back};
+use resil_stats::{CallerStats, JdkStats, count_jdk};
 use resil_virtual::Arrival;
 use std::alloc::{AllocError, Global};
+use std::collections::BTreeMap;
 
 // The refusal of the row at a position, from 1.
 fn refused(position: usize, why: LoadRefusal) -> CommandError
@@ -35,6 +46,7 @@ fn arrivals_of(alloc: Global, rows: &[Row]) -> Result<Vec<Arrival>, AllocError>
             id: Id { caller: 1, number },
             at: row.at,
             takes,
+            earliest_end: 0,
         })?;
     }
     Ok(arrivals)
@@ -48,66 +60,70 @@ fn times_of(alloc: Global, arrivals: &[Arrival]) -> Result<Vec<u64>, AllocError>
 }
 
 // The position, from 1, of the first job that comes too late, or `None` where each is in time.
-fn first_late(arrivals: &[Arrival], idle_for: u64) -> Option<usize>
-    ensures { MatchOption result (AreInTime idle_for arrivals.now) (IsTooLateAt idle_for arrivals.now) }
+fn first_late(arrivals: &[Arrival], ways: Ways) -> Option<usize>
+    ensures { MatchOption result (AreInTime ways arrivals.now) (IsTooLateAt ways arrivals.now) }
 {
-    let mut runs: u128 = 0;
+    let mut spent: u128 = 0;
+    let mut latest = 0;
     for (index, arrival) in arrivals.iter().enumerate() {
-        let Arrival { at, takes, .. } = *arrival;
-        runs += u128::from(takes);
-        if u128::from(at) + runs + u128::from(idle_for) > u128::from(u64::MAX) {
+        spent += u128::from(arrival.takes) + u128::from(ways.wakes);
+        latest = arrival.earliest_end.max(latest);
+        let at = u128::from(arrival.at.max(latest));
+        if at + spent + u128::from(ways.idle_for) > u128::from(u64::MAX) {
             return Some(index + 1);
         }
     }
     None
 }
 
-/// The jobs of rows: submissions of caller 1, numbered from 1. `idle_for` is the time after which an idle worker may end, in microseconds.
+/// The jobs of rows: submissions of caller 1, numbered from 1.
 ///
 /// # Errors
 ///
 /// In this order, each for the first such row: `TimeGoesBack`; `TimeTooLate`. `Memory` may come at any step.
-pub fn load_of(alloc: Global, rows: &[Row], idle_for: u64) -> Result<Vec<Arrival>, CommandError>
+pub fn load_of(alloc: Global, rows: &[Row], ways: Ways) -> Result<Vec<Arrival>, CommandError>
     ensures arrivals { IfOk result (λ arrivals. arrivals.items ≡ arrivals_of rows.now) }
-    ensures load { IfOk result (λ arrivals. IsLoad idle_for arrivals.items) }
-    ensures refused { IfErr result (IsError (IsLoadRefusal idle_for (arrivals_of rows.now))) }
+    ensures load { IfOk result (λ arrivals. IsLoad ways.idle_for ways.wakes arrivals.items) }
+    ensures refused { IfErr result (IsError (IsLoadRefusal ways (arrivals_of rows.now))) }
 {
     let arrivals = arrivals_of(alloc, rows)?;
     let times = times_of(alloc, &arrivals)?;
     if let Some(position) = first_back(&times) {
         return Err(refused(position, LoadRefusal::TimeGoesBack));
     }
-    match first_late(&arrivals, idle_for) {
+    match first_late(&arrivals, ways) {
         Some(position) => Err(refused(position, LoadRefusal::TimeTooLate)),
         None => Ok(arrivals),
     }
 }
 
-// The place of the first submission of which nothing says how long it takes.
-fn lacking(takes: Option<u32>, jobs: &[Submitted]) -> Option<usize>
-    ensures { result ≡ lacking takes jobs.now }
+// How many events restate a state. Errors: `Refused` as `Head` of `BadValue` if these are more than there are.
+fn restated_in(made: u64, history: &[TimedJdkEvent]) -> Result<usize, CommandError>
+    ensures { MatchResult result (λ restated. (restated ≡ made) × (made ≤ length history.now)) (λ why. (why ≡ CommandError.Refused (Refusal.Head HeadError.BadValue)) × (length history.now < made)) }
 {
-    match takes {
-        Some(_) => None,
-        None => first_without(jobs),
+    match usize::try_from(made) {
+        Ok(made) if made <= history.len() => Ok(made),
+        _ => Err(CommandError::Refused(Refusal::Head(HeadError::BadValue))),
     }
 }
 
 // Whether a history of these submissions can be carried out. Errors: `NoTakes`, `Illegal`, `TimeGoesBack`; `Memory` at any step.
 fn check_history(
     alloc: Global,
-    history: &[Timed],
-    takes: Option<u32>,
+    terms: Terms,
+    history: &[TimedJdkEvent],
+    events: &[JdkEvent],
     jobs: &[Submitted],
 ) -> Result<(), CommandError>
-    requires { jobs.now ≡ submissions_in history.now }
-    ensures { MatchResult result (λ _. IsUsable takes history.now) (IsError (IsHistoryRefusal takes history.now)) }
+    requires made { terms.made ≤ length history.now }
+    requires events { events.now ≡ events_in history.now }
+    requires jobs { jobs.now ≡ submissions_in terms.made history.now }
+    ensures { MatchResult result (λ _. IsUsable terms history.now) (IsError (IsHistoryRefusal terms history.now)) }
 {
-    if let Some(place) = lacking(takes, jobs) {
+    if let Some(place) = first_without(terms, jobs) {
         return Err(refused(place, LoadRefusal::NoTakes));
     }
-    let events = events_in(alloc, history)?;
-    if let Some(position) = first_illegal(alloc, &events)? {
+    if let Some(position) = first_illegal(alloc, events)? {
         return Err(refused(position, LoadRefusal::Illegal));
     }
     let times = times_in(alloc, history)?;
@@ -117,29 +133,68 @@ fn check_history(
     }
 }
 
-/// The jobs of a history: its submissions with their callers and numbers, each of which takes what it ran there, or `takes` microseconds
-/// where it has no finish.
+// What callers submitted in events. Errors: `AllocError` when out of memory.
+fn callers_in(alloc: Global, events: &[JdkEvent]) -> Result<BTreeMap<u16, CallerStats>, AllocError>
+    requires { (limits : Sizes) × IsLegal limits events.now }
+    ensures callers { IfOk result (AreJdkCallersOf events.now) }
+    ensures ordered { IfOk result (IsOrdered nat_cmp) }
+{
+    let JdkStats { callers, .. } = count_jdk(alloc, Verdict::Legal, 0, events)?;
+    Ok(callers)
+}
+
+// The jobs of submissions. The first events, as many as `restated`, are left out. Errors: `AllocError` when out of memory.
+fn jobs_of(
+    alloc: Global,
+    terms: Terms,
+    restated: usize,
+    events: &[JdkEvent],
+    jobs: &[Submitted],
+) -> Result<Vec<Arrival>, AllocError>
+    requires few { restated ≤ length events.now }
+    requires legal { (limits : Sizes) × IsLegal limits events.now }
+    ensures { IfOk result (λ arrivals. arrivals.items ≡ arrivals_by terms (take restated events.now) jobs.now) }
+{
+    let callers = callers_in(alloc, &events[..restated])?;
+    arrivals_by(alloc, terms, &callers, jobs)
+}
+
+// Whether each of the jobs of submissions is in time. Errors: `TimeTooLate`.
+fn check_times(arrivals: &[Arrival], ways: Ways, jobs: &[Submitted]) -> Result<(), CommandError>
+    requires { length jobs.now ≡ length arrivals.now }
+    ensures { MatchResult result (λ _. AreInTime ways arrivals.now) (IsError (IsLateRefusal ways arrivals.now jobs.now)) }
+{
+    match first_late(arrivals, ways) {
+        Some(position) => Err(refused(jobs[position - 1].place, LoadRefusal::TimeTooLate)),
+        None => Ok(()),
+    }
+}
+
+/// The jobs of a history: its submissions behind the events that restate a state, with their callers, each of which takes what it ran
+/// there. One that was started and has no finish takes what it ran up to the last event, and ends no earlier than that, or takes what
+/// the terms say; one that was never started takes that.
 ///
 /// # Errors
 ///
-/// In this order, each for the first such row: `NoTakes`; `Illegal`; `TimeGoesBack`; `TimeTooLate`. `Memory` may come at any step.
+/// In this order: `Head` of `BadValue` if more events than there are restate a state; then, each for the first such row, `NoTakes`;
+/// `Illegal`; `TimeGoesBack`; `TimeTooLate`. `Memory` may come at any step.
+#[tactic(auto, using(crate::proofs::HistoryLaws::late_refused))]
 pub fn load_of_history(
     alloc: Global,
-    history: &[Timed],
-    idle_for: u64,
-    takes: Option<u32>,
+    history: &[TimedJdkEvent],
+    ways: Ways,
+    terms: Terms,
 ) -> Result<Vec<Arrival>, CommandError>
-    ensures arrivals { IfOk result (λ arrivals. arrivals.items ≡ jobs_in takes history.now) }
-    ensures usable { IfOk result (λ _. IsUsable takes history.now) }
-    ensures load { IfOk result (λ arrivals. IsLoad idle_for arrivals.items) }
-    ensures refused { IfErr result (IsError (IsHistoryLoadRefusal idle_for takes history.now)) }
+    ensures arrivals { IfOk result (λ arrivals. arrivals.items ≡ jobs_in terms history.now) }
+    ensures usable { IfOk result (λ _. IsUsable terms history.now) }
+    ensures load { IfOk result (λ arrivals. IsLoad ways.idle_for ways.wakes arrivals.items) }
+    ensures refused { IfErr result (IsError (IsHistoryLoadRefusal ways terms history.now)) }
 {
-    let jobs = submissions_in(alloc, history)?;
-    check_history(alloc, history, takes, &jobs)?;
-    let takes = u64::from(takes.unwrap_or(0));
-    let arrivals = arrivals_by(alloc, takes, &jobs)?;
-    match first_late(&arrivals, idle_for) {
-        Some(position) => Err(refused(jobs[position - 1].place, LoadRefusal::TimeTooLate)),
-        None => Ok(arrivals),
-    }
+    let restated = restated_in(terms.made, history)?;
+    let jobs = submissions_in(alloc, restated, history)?;
+    let events = events_in(alloc, history)?;
+    check_history(alloc, terms, history, &events, &jobs)?;
+    let arrivals = jobs_of(alloc, terms, restated, &events, &jobs)?;
+    check_times(&arrivals, ways, &jobs)?;
+    Ok(arrivals)
 }

@@ -1,24 +1,28 @@
-//! What the history of one pool comes to, in the numbers that `simulate` writes.
+//! What a history comes to, in the numbers that `simulate` writes.
 //!
 //! How often things happen and how long jobs waited is counted by `resil_stats`. The time that jobs ran, and that workers were there
 //! to run them, is gathered event by event: as many of them as there are then, times the time to the next event.
 
-ghost use Rattle.std.specs.Prelude.{◌≡◌, length, IfOk};
-ghost use Rattle.resil_rule.specs.Admission.{IsLegal};
-ghost use Rattle.resil_rule.specs.Limits.{AreLimits, Sizes};
+ghost use Rattle.std.specs.Prelude.{◌≡◌, IfOk};
+ghost use Rattle.resil_jdk.specs.Admission.{IsLegal};
+ghost use Rattle.resil_jdk.specs.Limits.{AreJdkLimits};
+ghost use Rattle.resil_jdk.specs.Timed.{events_in, times_in};
+ghost use Rattle.resil_rule.specs.Limits.{Sizes};
 ghost use Rattle.resil_rule.specs.Timed.{AreAscending};
 ghost use Rattle.resil_simulate.specs.Numbers.{AreNumbersOf, HasTimes, busy, run_time, worker_time};
 
-use resil_rule::{Event, Verdict};
-use resil_stats::{Counts, Ranks, count_legal, spans_of};
+use resil_jdk::timed::{events_in, times_in};
+use resil_jdk::{JdkEvent, TimedJdkEvent};
+use resil_rule::Verdict;
+use resil_stats::{Load, Ranks, count_jdk, waits_of_jdk};
 use std::alloc::{AllocError, Global};
 
-/// The numbers of the history of a pool that isn't closed.
+/// The numbers of a history.
 #[derive(Clone, Copy)]
 pub struct Numbers {
     /// The submissions, refused ones too.
     pub submitted: usize,
-    /// The submissions that were refused.
+    /// The submissions that were refused since the pool was full.
     pub refused: usize,
     /// How long the jobs waited that started, in microseconds.
     pub waits: Ranks,
@@ -38,21 +42,20 @@ struct Areas {
 }
 
 // What jobs ran and workers were there up to the last finish.
-fn areas_of(events: &[Event], times: &[u64]) -> Areas
+fn areas_of(events: &[JdkEvent], times: &[u64]) -> Areas
     requires { HasTimes events.now times.now }
     ensures run_time { result.run_time ≡ run_time events.now times.now }
     ensures worker_time { result.worker_time ≡ worker_time events.now times.now }
 {
-    let mut counts = Counts::default();
+    let mut load = Load::default();
     let mut so_far = Areas::default();
     let mut finished = so_far;
     for (index, event) in events.iter().enumerate() {
-        let load = counts.load();
         let gap = u128::from(times[index].saturating_sub(times[index.saturating_sub(1)]));
         so_far.run_time += load.running as u128 * gap;
         so_far.worker_time += load.workers as u128 * gap;
-        counts.record(*event);
-        let Event::Finish(_) = event else {
+        load = load.after(*event);
+        let JdkEvent::Finish(_) = event else {
             continue;
         };
         finished = so_far;
@@ -61,7 +64,7 @@ fn areas_of(events: &[Event], times: &[u64]) -> Areas
 }
 
 // How busy the workers were.
-fn busy_of(events: &[Event], times: &[u64]) -> Option<u64>
+fn busy_of(events: &[JdkEvent], times: &[u64]) -> Option<u64>
     requires { HasTimes events.now times.now }
     ensures { result ≡ busy events.now times.now }
 {
@@ -73,25 +76,31 @@ fn busy_of(events: &[Event], times: &[u64]) -> Option<u64>
     }
 }
 
-/// The numbers of a legal history of a pool, by the times of its events, in microseconds.
+/// The numbers of a legal history whose times ascend. The first events, as many as `restated`, restate the state in which it begins: what
+/// they submit counts in no submission, refusal or wait.
 ///
 /// # Errors
 ///
 /// `AllocError` when out of memory.
-pub fn numbers_of(alloc: Global, events: &[Event], times: &[u64]) -> Result<Numbers, AllocError>
-    requires legal { (limits : Sizes) × AreLimits limits × IsLegal limits events.now }
-    requires times { length times.now ≡ length events.now }
-    requires ascending { AreAscending times.now }
-    ensures { IfOk result (AreNumbersOf events.now times.now) }
+pub fn numbers_of(
+    alloc: Global,
+    restated: usize,
+    history: &[TimedJdkEvent],
+) -> Result<Numbers, AllocError>
+    requires legal { (limits : Sizes) × AreJdkLimits limits × IsLegal limits (events_in history.now) }
+    requires ascending { AreAscending (times_in history.now) }
+    ensures { IfOk result (AreNumbersOf restated (events_in history.now) (times_in history.now)) }
 {
-    let spans = spans_of(alloc, events, times, Verdict::Legal)?;
-    let stats = count_legal(alloc, Verdict::Legal, events)?;
+    let events = events_in(alloc, history)?;
+    let times = times_in(alloc, history)?;
+    let waits = waits_of_jdk(alloc, restated, &events, &times)?;
+    let stats = count_jdk(alloc, Verdict::Legal, restated, &events)?;
     Ok(Numbers {
-        submitted: stats.counts.submissions,
-        refused: stats.counts.full,
-        waits: spans.waits,
+        submitted: stats.answers.submissions,
+        refused: stats.answers.full,
+        waits,
         most_waiting: stats.most.waiting,
         most_workers: stats.most.workers,
-        busy: busy_of(events, times),
+        busy: busy_of(&events, &times),
     })
 }

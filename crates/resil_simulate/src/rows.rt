@@ -1,17 +1,19 @@
-//! The bodies of `simulate`: the jobs of a load, or a history with times. A body is opened once, and its header says which. All rows are
+//! The bodies of `simulate`: the jobs of a load, or a history with times, in version 3 or 4. A body's header says which. All rows are
 //! read before anything else is said of them.
 
 ghost use Rattle.std.specs.Prelude.{◌≡◌, MatchResult};
 ghost use Rattle.csv.specs.Records.{fields_of};
 ghost use Rattle.resil_simulate.specs.Rows.{AreRows, IsBodyRefused, parse_row};
 
+use crate::history::in_whole_words;
 use csv::ByteRecord;
 use resil_heads::forms::{Body, Form};
 use resil_input::csv_rows::{BodyError, open_body};
 use resil_input::fields::field_at;
 use resil_input::number::parse_from_zero;
+use resil_jdk::TimedJdkEvent;
+use resil_record::body::{self, is_record};
 use resil_replay::timed;
-use resil_rule::Timed;
 use std::alloc::Global;
 
 /// What the bodies of jobs may have.
@@ -36,8 +38,8 @@ pub struct Row {
 pub enum Rows {
     /// Those of a load.
     Load(Vec<Row>),
-    /// The events of a history, with their times.
-    History(Vec<Timed>),
+    /// The events of a history of version 3 or 4, with their times.
+    History(Vec<TimedJdkEvent>),
 }
 
 // Reads a job from the fields of a record.
@@ -53,7 +55,7 @@ fn parse_row(fields: &ByteRecord) -> Option<Row>
 ///
 /// # Errors
 ///
-/// The first that is met: `Memory` when out of memory; `BadHeader` if the first record is missing, or is the header of neither; `BadRow`
+/// The first that is met: `Memory` when out of memory; `BadHeader` if the first record is missing, or is none of these headers; `BadRow`
 /// with the position of the first record that is no row under its header.
 pub fn read_rows(alloc: Global, body: &[u8]) -> Result<Rows, BodyError>
     ensures { MatchResult result (AreRows body.now) (IsBodyRefused body.now) }
@@ -63,6 +65,10 @@ pub fn read_rows(alloc: Global, body: &[u8]) -> Result<Rows, BodyError>
         let rows = opened.rows(alloc, |fields| Ok(parse_row(fields)))?;
         return Ok(Rows::Load(rows));
     }
+    if is_record(&opened) {
+        let history = body::read_rows(alloc, body)?;
+        return Ok(Rows::History(history));
+    }
     let history = timed::read_opened(alloc, opened)?;
-    Ok(Rows::History(history))
+    Ok(Rows::History(in_whole_words(alloc, &history)?))
 }

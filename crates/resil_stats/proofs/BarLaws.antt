@@ -4,17 +4,17 @@ use Rattle.std.specs.List.{position_or_len}
 use Rattle.std.proofs.lemmas.List.{map-append}
 use Rattle.std.proofs.lemmas.Bool.Decides.{eqb_tells}
 use Rattle.std.proofs.lemmas.Option.{slice_get_within}
-use Rattle.resil_rule.specs.Admission.{IsLegal}
+use Rattle.resil_jdk.specs.Admission.{IsLegal}
 use Rattle.resil_rule.specs.Limits.{Sizes}
 use Rattle.resil_rule.specs.declared.event.Id.{Id}
-use Rattle.resil_rule.specs.declared.event.Event.{Event}
+use Rattle.resil_jdk.specs.declared.event.JdkEvent.{JdkEvent}
 use Rattle.resil_stats.specs.Bars.{IsDrawn, IsPut, IsTaken, finish_place, free_row, is_finish_of, start_at, started_at, started_of}
 use Rattle.resil_stats.specs.declared.bars.Bar.{Bar}
 use Rattle.resil_stats.specs.declared.bars.Start.{Start}
 use Rattle.resil_stats.proofs.ListLaws.{each-more, get-kept, get-more, last-is, position-before, position-passes}
 use Rattle.resil_stats.proofs.PlaceLaws.{finish-elsewhere, finish-later, made_none, made_one}
 
-module _ (events : List Event) (i : ℕ) (d : Event) (lt : i < length events) (bars : List Bar) (ends : List ℕ) (old : IsDrawn (take i events) events bars ends) where
+module _ (events : List JdkEvent) (i : ℕ) (d : JdkEvent) (lt : i < length events) (bars : List Bar) (ends : List ℕ) (old : IsDrawn (take i events) events bars ends) where
   -- at the event no job starts
   pub drawn-quiet : start_at (get_or events i d) ≡ None → IsDrawn (take (i + 1) events) events bars ends
   drawn-quiet none = record {

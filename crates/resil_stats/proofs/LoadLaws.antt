@@ -1,5 +1,5 @@
 -- How many jobs wait and run after legal events of the whole rule, how many workers there are, and how many jobs were never started.
-use Rattle.std.proofs.Common.{◌≡◌, ◌≤◌, ◌<◌, ◌+◌, ◌-◌, ◌^◌, ◌⊎◌, inl, inr, ◌∷◌, [], ◌++◌, ◌∙◌, ℕ, zero, suc, Bool, true, false, not, cond, List, length, filter, take, get_or, refl, sym, ap, subst, arith, append_assoc, length-append}
+use Rattle.std.proofs.Common.{◌≡◌, ◌≤◌, ◌<◌, ◌+◌, ◌^◌, ◌⊎◌, inl, inr, ◌∷◌, [], ◌++◌, ◌∙◌, ℕ, zero, suc, Bool, true, false, not, cond, List, length, filter, take, get_or, refl, sym, ap, subst, arith, append_assoc, length-append}
 use Rattle.std.proofs.lemmas.List.{length-take-le, take_more}
 use Rattle.resil_rule.specs.Limits.{Sizes}
 use Rattle.resil_rule.specs.History.{is_among, times}
@@ -12,9 +12,9 @@ use Rattle.resil_jdk.specs.declared.event.JdkEvent.{JdkEvent}
 use Rattle.resil_jdk.specs.declared.event.JdkEvent.TheVariants.{Submit, Take, Finish, IdleEnd, Cull, Remove}
 use Rattle.resil_jdk.proofs.ConservationLaws.{accepted-parts, as-many, left-parts, line, tracked}
 use Rattle.resil_jdk.proofs.WorkerLaws.{served}
-use Rattle.resil_stats.specs.Whole.{IsJdkLoadAfter, IsMoved, MayCome, MayMove, never_started}
+use Rattle.resil_stats.specs.Stats.{IsJdkLoadAfter, IsMoved, MayCome, MayMove, never_started}
 use Rattle.resil_stats.specs.declared.stats.Load.{Load}
-use Rattle.resil_stats.proofs.WholeLaws.{filter_few, filter_more, made_few, made_more}
+use Rattle.resil_stats.proofs.CountLaws.{filter_few, filter_more, made_few, made_more}
 
 -- ---- The first events of a legal history.
 

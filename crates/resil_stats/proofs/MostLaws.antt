@@ -1,11 +1,11 @@
--- The greatest of a number over the prefixes of a history, with one more event.
+-- The greatest of a number over the prefixes of a history, with one more event, and the greatest loads.
 use Rattle.std.proofs.Common.{◌≡◌, ◌+◌, ◌∷◌, [], ◌++◌, ◌∙◌, ◌⊎◌, inl, inr, ℕ, List, length, take, max, min, arith}
 use Rattle.std.proofs.lemmas.Grind.{common_steps}
 use Rattle.std.proofs.lemmas.List.{take-append-le, take_all, take_min}
 use Rattle.std.proofs.lemmas.Bool.Decides.{leb_tells}
-use Rattle.resil_rule.specs.History.{running, waiting, workers}
-use Rattle.resil_rule.specs.declared.event.Event.{Event}
-use Rattle.resil_stats.specs.Stats.{AreMost, IsLoadAfter, IsMost}
+use Rattle.resil_jdk.specs.History.{running, waiting, workers}
+use Rattle.resil_jdk.specs.declared.event.JdkEvent.{JdkEvent}
+use Rattle.resil_stats.specs.Stats.{AreJdkMost, IsJdkLoadAfter, IsMost}
 use Rattle.resil_stats.specs.declared.stats.Load.{Load}
 
 -- a prefix of the events with one more is one of the events, or all of them
@@ -26,8 +26,8 @@ module _ {E : Type 0} (number : List E → ℕ) where
     ];
   }
 
-pub are-most_push : (h : List Event) (e : Event) (most now next : Load) → next.waiting ≡ max most.waiting now.waiting → next.running ≡ max most.running now.running → next.workers ≡ max most.workers now.workers
-    → IsLoadAfter (h ++ e ∷ []) now → AreMost h most → AreMost (h ++ e ∷ []) next
+pub are-most_push : (h : List JdkEvent) (e : JdkEvent) (most now next : Load) → next.waiting ≡ max most.waiting now.waiting → next.running ≡ max most.running now.running → next.workers ≡ max most.workers now.workers
+    → IsJdkLoadAfter (h ++ e ∷ []) now → AreJdkMost h most → AreJdkMost (h ++ e ∷ []) next
 are-most_push h e most now next a b c load old = record {
   waiting = most-push (λ events. length (waiting events)) h e most.waiting now.waiting next.waiting load.waiting a old.waiting;
   running = most-push (λ events. length (running events)) h e most.running now.running next.running load.running b old.running;

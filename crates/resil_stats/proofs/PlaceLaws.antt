@@ -1,19 +1,22 @@
--- What is made of the events at their places, with one more event, and the places of finishes.
-use Rattle.std.proofs.Common.{◌≡◌, ◌<◌, ◌+◌, ◌∷◌, [], ◌++◌, ◌∙◌, ℕ, false, List, Option, Some, None, drop, filter_map, get_or, length, take, refl, sym, ap, subst, arith, append-nil, append_assoc}
+-- What is made of the events at their places, with one more event, and the places of finishes in a legal history: no job is finished before it starts.
+use Rattle.std.proofs.Common.{◌≡◌, ◌<◌, ◌+◌, ◌∷◌, [], ◌++◌, ◌∙◌, inl, inr, ℕ, true, false, List, Option, Some, None, drop, filter_map, get_or, length, take, refl, sym, ap, subst, arith, append-nil, append_assoc}
 use Rattle.std.specs.List.{cons_option, enumerate_from, position_or_len}
+use Rattle.std.proofs.lemmas.Bool.{cases_Bool}
 use Rattle.std.proofs.lemmas.Grind.{common_steps}
 use Rattle.std.proofs.lemmas.List.{drop_more, length-take-le, take-append-drop}
 use Rattle.std.proofs.lemmas.List.Elements.{filter_map-append}
 use Rattle.std.proofs.lemmas.List.Sums.{passes_at_first}
 use Rattle.std.proofs.lemmas.Option.{some_pair_parts}
 use Rattle.resil_rule.specs.Limits.{Sizes}
-use Rattle.resil_rule.specs.Admission.{AreAllowedAfter, IsAllowed, IsLegal}
-use Rattle.resil_rule.specs.History.{finished, is_among}
+use Rattle.resil_rule.specs.History.{is_among, times}
 use Rattle.resil_rule.specs.declared.event.Id.{Id}
-use Rattle.resil_rule.specs.declared.event.Reply.TheVariants as reply
-use Rattle.resil_rule.specs.declared.event.Event.{Event}
-use Rattle.resil_rule.specs.declared.event.Event.TheVariants.{Submit, Take}
-use Rattle.resil_rule.proofs.ConservationLaws.{front-unfinished, new-unfinished}
+use Rattle.resil_rule.proofs.TimesLaws.{nowhere, somewhere}
+use Rattle.resil_jdk.specs.Admission.{AreAllowedAfter, IsAllowed, IsLegal}
+use Rattle.resil_jdk.specs.History.{accepted, finished, waiting}
+use Rattle.resil_jdk.specs.declared.event.JdkReply.TheVariants as reply
+use Rattle.resil_jdk.specs.declared.event.JdkEvent.{JdkEvent}
+use Rattle.resil_jdk.specs.declared.event.JdkEvent.TheVariants.{Submit, Take}
+use Rattle.resil_jdk.proofs.ConservationLaws.{accepted-parts, front-among, left-parts, line, next-fresh, tracked}
 use Rattle.resil_stats.specs.Bars.{finish_place, is_finish_of, start_at}
 use Rattle.resil_stats.specs.declared.bars.Start.{Start}
 
@@ -37,36 +40,49 @@ module _ {X A : Type 0} (f : ℕ × X → Option A) (events : List X) (i : ℕ) 
 -- ---- The places of finishes.
 
 -- in a legal history each event is allowed after those before it, which are legal
-pub parts-legal : (limits : Sizes) (before h : List Event) (e : Event) (t : List Event) → AreAllowedAfter limits before (h ++ e ∷ t) → AreAllowedAfter limits before h × IsAllowed limits (before ++ h) e
+parts-legal : (limits : Sizes) (before h : List JdkEvent) (e : JdkEvent) (t : List JdkEvent) → AreAllowedAfter limits before (h ++ e ∷ t) → AreAllowedAfter limits before h × IsAllowed limits (before ++ h) e
 parts-legal limits before [] e t legal = (tt, rw append-nil legal.0)
 parts-legal limits before (x ∷ h) e t legal = let rest = parts-legal limits (before ++ x ∷ []) h e t legal.1 in ((legal.0, rest.0), rw append_assoc at rest.1)
 
--- in a legal history an event is allowed after those before it
-pub allowed-at : (limits : Sizes) (events : List Event) (i : ℕ) (d : Event) → i < length events → IsLegal limits events → IsAllowed limits (take i events) (get_or events i d)
-allowed-at limits events i d lt legal =
-    let cut : events ≡ take i events ++ get_or events i d ∷ drop (i + 1) events = sym (take-append-drop i events) ∙ ap (λ (l : List Event). take i events ++ l) (drop_more events i d lt) in
-    (parts-legal limits [] (take i events) (get_or events i d) (drop (i + 1) events) (subst (IsLegal limits) cut legal)).1
+-- what is finished nowhere is not among those finished
+unfinished : (h : List JdkEvent) (id : Id) → times id (finished h) ≡ 0 → is_among id (finished h) ≡ false
+unfinished h id none = elim (cases_Bool (is_among id (finished h))) [ inl is ↦ let some = somewhere id (finished h) is in absurd (omega (arith, some, none)) | inr not ↦ not ]
+
+module _ (limits : Sizes) (h : List JdkEvent) (legal : IsLegal limits h) (id : Id) where
+  -- a job with its caller's next number
+  new : is_among id (accepted h) ≡ false → is_among id (finished h) ≡ false
+  new fresh =
+      let none = nowhere id (accepted h) fresh in let parts = accepted-parts h id in let lefts = left-parts h id in let kept = tracked limits h legal id in
+      unfinished h id (omega (arith, none, parts, lefts, kept.2, kept.3))
+
+  -- the job at the front of the queue
+  front : is_among id (waiting h) ≡ true → is_among id (finished h) ≡ false
+  front among =
+      let some = somewhere id (waiting h) among in let whole = line limits h legal id in let parts = accepted-parts h id in let lefts = left-parts h id in
+      let kept = tracked limits h legal id in
+      unfinished h id (omega (arith, some, whole, parts, lefts, kept.1, kept.2, kept.3))
 
 -- a job that starts isn't finished before
-fresh : (limits : Sizes) (h : List Event) (e : Event) (id : Id) (start : Start) → IsLegal limits h → IsAllowed limits h e → start_at e ≡ Some (id, start) → is_among id (finished h) ≡ false
-fresh limits h (Submit x reply.Core) id start legal allowed is = subst (λ y. is_among y (finished h) ≡ false) (some_pair_parts x id _ start is).0 (new-unfinished limits h legal x allowed.0)
-fresh limits h (Submit x reply.Extra) id start legal allowed is = subst (λ y. is_among y (finished h) ≡ false) (some_pair_parts x id _ start is).0 (new-unfinished limits h legal x allowed.0)
-fresh limits h (Take x) id start legal allowed is = subst (λ y. is_among y (finished h) ≡ false) (some_pair_parts x id _ start is).0 (front-unfinished limits h legal x allowed.0)
+fresh : (limits : Sizes) (h : List JdkEvent) (e : JdkEvent) (id : Id) (start : Start) → IsLegal limits h → IsAllowed limits h e → start_at e ≡ Some (id, start) → is_among id (finished h) ≡ false
+fresh limits h (Submit x reply.Core) id start legal allowed is = subst (λ y. is_among y (finished h) ≡ false) (some_pair_parts x id _ start is).0 (new limits h legal x (next-fresh limits h x legal allowed.0))
+fresh limits h (Submit x reply.Extra) id start legal allowed is = subst (λ y. is_among y (finished h) ≡ false) (some_pair_parts x id _ start is).0 (new limits h legal x (next-fresh limits h x legal allowed.0))
+fresh limits h (Submit x reply.Handed) id start legal allowed is = subst (λ y. is_among y (finished h) ≡ false) (some_pair_parts x id _ start is).0 (new limits h legal x (next-fresh limits h x legal allowed.0))
+fresh limits h (Take x) id start legal allowed is = subst (λ y. is_among y (finished h) ≡ false) (some_pair_parts x id _ start is).0 (front limits h legal x (front-among x (waiting h) allowed.0))
 fresh limits h e id start legal allowed is = absurd (cc is)
 
 -- an event at which a job starts is no finish
-start-no_finish : (e : Event) (id other : Id) (start : Start) → start_at e ≡ Some (id, start) → is_finish_of other e ≡ false
+start-no_finish : (e : JdkEvent) (id other : Id) (start : Start) → start_at e ≡ Some (id, start) → is_finish_of other e ≡ false
 start-no_finish e id other start is = grind arith
 
 -- what isn't finished in the first events is so later, if at all
-finish-after : (h t : List Event) (id : Id) → is_among id (finished h) ≡ false → position_or_len (is_finish_of id) (h ++ t) ≡ length h + position_or_len (is_finish_of id) t
+finish-after : (h t : List JdkEvent) (id : Id) → is_among id (finished h) ≡ false → position_or_len (is_finish_of id) (h ++ t) ≡ length h + position_or_len (is_finish_of id) t
 finish-after [] t id none = omega arith
 finish-after (e ∷ h) t id none = let ih = finish-after h t id in grind (arith, common_steps, ih)
 
 -- at the place of a start no job is finished, and the one that starts is so later
-module _ (events : List Event) (i : ℕ) (d : Event) (id : Id) (start : Start) (lt : i < length events) (is : start_at (get_or events i d) ≡ Some (id, start)) where
+module _ (events : List JdkEvent) (i : ℕ) (d : JdkEvent) (id : Id) (start : Start) (lt : i < length events) (is : start_at (get_or events i d) ≡ Some (id, start)) where
   cut : events ≡ take i events ++ get_or events i d ∷ drop (i + 1) events
-  cut = sym (take-append-drop i events) ∙ ap (λ (l : List Event). take i events ++ l) (drop_more events i d lt)
+  cut = sym (take-append-drop i events) ∙ ap (λ (l : List JdkEvent). take i events ++ l) (drop_more events i d lt)
 
   long : length (take i events) ≡ i
   long = length-take-le i events (omega (arith, lt))

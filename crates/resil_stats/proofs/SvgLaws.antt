@@ -25,7 +25,7 @@ made-more begins xs i x start old new lt same (text, at, made) (look, is) = (
 )
 
 -- the parts of a picture of which each event is drawn
-pub each-drawn : (picture : Picture) (a b c d e f : List ℕ) → (part : List ℕ) × (b ≡ a ++ part) → IsAddition (IsMadeOf bar_opening picture.bars.items) b c → (part : List ℕ) × (d ≡ c ++ part)
+pub each-drawn : (picture : Picture) (a b c d e f : List ℕ) → (part : List ℕ) × (b ≡ a ++ part) → IsAddition (IsMadeOf bar_opening picture.drawn.bars.items) b c → (part : List ℕ) × (d ≡ c ++ part)
     → IsAddition (IsMadeOf mark_opening picture.marks.items) d e → (part : List ℕ) × (f ≡ e ++ part) → IsAddition (IsEachDrawn picture) a f
 each-drawn picture a b c d e f (front, at_front) (bars, at_bars, of_bars) (middle, at_middle) (refusals, at_refusals, of_marks) (back, at_back) = (
   front ++ (bars ++ (middle ++ (refusals ++ back))),
@@ -34,7 +34,7 @@ each-drawn picture a b c d e f (front, at_front) (bars, at_bars, of_bars) (middl
 )
 
 -- the parts of a gathered picture
-pub gathered-drawn : (picture : Picture) (a b c d : List ℕ) → (part : List ℕ) × (b ≡ a ++ part) → IsAddition (IsMadeOf column_opening picture.columns.items) b c → (part : List ℕ) × (d ≡ c ++ part)
+pub gathered-drawn : (picture : Picture) (a b c d : List ℕ) → (part : List ℕ) × (b ≡ a ++ part) → IsAddition (IsMadeOf column_opening picture.drawn.columns.items) b c → (part : List ℕ) × (d ≡ c ++ part)
     → IsAddition (IsGatheredDrawn picture) a d
 gathered-drawn picture a b c d (front, at_front) (columns, at_columns, of_columns) (back, at_back) = (
   front ++ (columns ++ back),

@@ -31,10 +31,10 @@ span_of period time = (time - period.first) / span_length period
 abbrev pub column_end : Period → ℕ → ℕ
 column_end period time = min 78600 (9200 + 68000 * (span_of period time * span_length period + span_length period) / max 1 (period.last - period.first))
 
--- The events behind the first so many, up to an end, are those in a row that lie in one span.
-pub record IsSpanEnd (times : List ℕ) (count done end : ℕ) : Type 0 where
-  pub shared : (i : ℕ) → done ≤ i → i < end → span_of (period_of times count) (slice_index times i) ≡ span_of (period_of times count) (slice_index times done)
-  pub next : end < count → span_of (period_of times count) (slice_index times end) ≢ span_of (period_of times count) (slice_index times done)
+-- The events behind the first so many, up to an end, are those in a row that lie in one span: of those up to a place that are drawn in a period.
+pub record IsSpanEnd (times : List ℕ) (period : Period) (count done end : ℕ) : Type 0 where
+  pub shared : (i : ℕ) → done ≤ i → i < end → span_of period (slice_index times i) ≡ span_of period (slice_index times done)
+  pub next : end < count → span_of period (slice_index times end) ≢ span_of period (slice_index times done)
 
 -- ---- Ticks.
 

@@ -2,12 +2,12 @@ pub mod Stats
 pub mod Text
 pub mod Results
 pub mod Spans
-pub mod Whole
-pub mod WholeSpans
 pub mod Bars
 pub mod Marks
 pub mod Depth
+pub mod Areas
 pub mod Axis
+pub mod Window
 pub mod Columns
 pub mod Picture
 pub mod Svg

@@ -1,52 +1,83 @@
--- How long the jobs of a history waited and ran, by the times of its events: a filter over the events, and a place among these spans in
--- ascending order.
-use Rattle.std.specs.Prelude.{ℕ, ◌≡◌, ◌+◌, ◌-◌, ◌*◌, ◌/◌, Bool, false, List, Option, Some, None, if◌then◌else◌, length, nat_le, option_and_then, slice_get, slice_index}
-use Rattle.std.specs.List.{filter_map, position_or_len}
+-- How long the jobs of a history of the whole rule waited and ran, and how long idle workers took to come, by the times of its events: at each event
+-- that ends a span of a job, the time since the event that began it.
+use Rattle.std.specs.Prelude.{ℕ, ◌≡◌, ◌+◌, ◌-◌, ◌*◌, ◌/◌, ◌==◌, ◌&&◌, ◌∷◌, [], ◌++◌, Bool, List, Option, Some, None, if◌then◌else◌, length, nat_lt, option_and_then, slice_get, slice_index}
+use Rattle.std.specs.HashMap.{HashMap, get}
 use Rattle.std.specs.List.Sorted.{IsPermutation, IsSorted}
-use Rattle.std.specs.Option.{option_map, option_map_or}
+use Rattle.std.specs.Option.{option_map}
 use Rattle.std.specs.Ordering.{nat_cmp}
-use Rattle.resil_rule.specs.History.{accepted_id, is_same_id, queued_id}
+use Rattle.resil_rule.specs.History.{is_same_id}
 use Rattle.resil_rule.specs.declared.event.Id.{Id}
-use Rattle.resil_rule.specs.declared.event.Event.{Event}
-use Rattle.resil_stats.specs.Bars.{finish_place, placed, start_at}
+use Rattle.resil_jdk.specs.History.{accepted_id, finished_id, taken_id, waiting}
+use Rattle.resil_jdk.specs.declared.event.JdkReply.TheVariants.{Core, Queued, Handed, Extra}
+use Rattle.resil_jdk.specs.declared.event.JdkEvent.{JdkEvent}
+use Rattle.resil_jdk.specs.declared.event.JdkEvent.TheVariants.{Submit, Take}
+use Rattle.resil_stats.specs.Stats.{idle, made_after}
+use Rattle.resil_stats.specs.declared.spans.JdkSpans.{JdkSpans}
+use Rattle.resil_stats.specs.declared.spans.Measure.{Measure}
+use Rattle.resil_stats.specs.declared.spans.Measure.TheVariants.{Wait, Run, Wake}
 use Rattle.resil_stats.specs.declared.spans.Ranks.{Ranks}
-use Rattle.resil_stats.specs.declared.spans.Spans.{Spans}
+
+-- ---- What begins and ends a span.
+
+-- the job that a worker begins to run at an event: at once, or taken from the queue
+abbrev pub started_id : JdkEvent → Option Id
+started_id (Submit id Core) = Some id
+started_id (Submit id Handed) = Some id
+started_id (Submit id Extra) = Some id
+started_id (Take id) = Some id
+started_id _ = None
+
+-- the job of a submission that was queued while more workers were idle than jobs waited: an idle worker is to come for it
+abbrev pub woken_id : List JdkEvent → JdkEvent → Option Id
+woken_id before (Submit id Queued) = if nat_lt (length (waiting before)) (idle before) then Some id else None
+woken_id before _ = None
+
+-- The job whose span begins at an event, after those before it. The first events restate a state, and begin no wait and no wake.
+abbrev pub begun_id : Measure → ℕ → List JdkEvent → JdkEvent → Option Id
+begun_id Wait restated before event = if nat_lt (length before) restated then None else accepted_id event
+begun_id Run restated before event = started_id event
+begun_id Wake restated before event = if nat_lt (length before) restated then None else woken_id before event
+
+-- the job whose span ends at an event
+abbrev pub ended_id : Measure → JdkEvent → Option Id
+ended_id Wait event = started_id event
+ended_id Run event = finished_id event
+ended_id Wake event = taken_id event
 
 -- ---- Spans of time.
 
--- the time of the event at a place, which counts from 1
-abbrev pub time_at : List ℕ → ℕ → ℕ
-time_at times place = slice_index times (place - 1)
+-- the job whose span begins at an event, with the index of the event, from 0
+abbrev pub beginning : Measure → ℕ → List JdkEvent → JdkEvent → Option (Id × ℕ)
+beginning measure restated before event = option_map (λ id. (id, length before)) (begun_id measure restated before event)
 
--- the submission by which a job was accepted
-abbrev pub is_acceptance_of : Id → Event → Bool
-is_acceptance_of id event = option_map_or (is_same_id id) (accepted_id event) false
+abbrev pub beginnings : Measure → ℕ → List JdkEvent → List (Id × ℕ)
+beginnings measure restated history = made_after (beginning measure restated) [] history
 
--- the place of a job's submission
-abbrev pub submission_place : List Event → Id → ℕ
-submission_place history id = position_or_len (is_acceptance_of id) history + 1
+-- what was last noted of a job, another thing if nothing was
+abbrev pub last_index : {A : Type 0} → Id → Option A → List (Id × A) → Option A
+last_index id other [] = other
+last_index id other (begun ∷ others) = last_index id (if is_same_id id begun.0 then Some begun.1 else other) others
 
--- how long the job waited that starts at an event: from its submission to its start; none where no job starts
-abbrev pub wait_at : List Event → List ℕ → ℕ × Event → Option ℕ
-wait_at history times placed_event =
-    option_map (λ job. time_at times placed_event.0 - time_at times (submission_place history job.0)) (start_at placed_event.1)
+-- where the span of a job began, if it did, or what else was noted there
+abbrev pub begun_at : {A : Type 0} → List (Id × A) → Id → Option A
+begun_at begun id = last_index id None begun
 
--- how long a job ran from a place to its finish; none where it isn't finished
-abbrev pub run_from : List Event → List ℕ → ℕ → Id → Option ℕ
-run_from history times place id =
-    if nat_le (finish_place history id) (length history) then Some (time_at times (finish_place history id) - time_at times place) else None
+-- how long it is from one index to another
+abbrev pub span : List ℕ → ℕ → ℕ → ℕ
+span times from to = slice_index times to - slice_index times from
 
--- how long the job ran that starts at an event
-abbrev pub run_at : List Event → List ℕ → ℕ × Event → Option ℕ
-run_at history times placed_event = option_and_then (λ job. run_from history times placed_event.0 job.0) (start_at placed_event.1)
+-- the span that ends at an event, after those before it: since it began; none where none ends, or none began
+abbrev pub span_at : Measure → ℕ → List ℕ → List JdkEvent → JdkEvent → Option ℕ
+span_at measure restated times before event =
+    option_and_then (λ id. option_map (λ from. span times from (length before)) (begun_at (beginnings measure restated (before ++ event ∷ [])) id)) (ended_id measure event)
 
--- the waits of all jobs that started
-abbrev pub waits : List Event → List ℕ → List ℕ
-waits history times = filter_map (wait_at history times) (placed history)
+-- all spans of a history
+abbrev pub spans : Measure → ℕ → List ℕ → List JdkEvent → List ℕ
+spans measure restated times history = made_after (span_at measure restated times) [] history
 
--- the runs of all jobs that are finished
-abbrev pub runs : List Event → List ℕ → List ℕ
-runs history times = filter_map (run_at history times) (placed history)
+-- the waits of a history
+abbrev pub jdk_waits : ℕ → List ℕ → List JdkEvent → List ℕ
+jdk_waits restated times history = spans Wait restated times history
 
 -- ---- Their ranks.
 
@@ -60,13 +91,18 @@ pub record AreRanksOf (numbers : List ℕ) (ranks : Ranks) : Type 0 where
   pub p99 : ranks.p99 ≡ slice_get ascending ((99 * length numbers + 99) / 100 - 1)
   pub most : ranks.most ≡ slice_get ascending (length numbers - 1)
 
--- the ranks of the waits and of the runs of a history
-pub record AreSpansOf (history : List Event) (times : List ℕ) (spans : Spans) : Type 0 where
-  pub waits : AreRanksOf (waits history times) spans.waits
-  pub runs : AreRanksOf (runs history times) spans.runs
+-- the ranks of the waits, of the runs and of the wakes of a history
+pub record AreJdkSpansOf (restated : ℕ) (history : List JdkEvent) (times : List ℕ) (lengths : JdkSpans) : Type 0 where
+  pub waits : AreRanksOf (spans Wait restated times history) lengths.waits
+  pub runs : AreRanksOf (spans Run restated times history) lengths.runs
+  pub wakes : AreRanksOf (spans Wake restated times history) lengths.wakes
 
 -- ---- What is kept while a history is gone over.
 
--- the place, from 0, of a submission that is put into the queue
-abbrev pub queued_at : ℕ × Event → Option ℕ
-queued_at placed_event = option_map (λ _. placed_event.0 - 1) (queued_id placed_event.1)
+-- whether a key is that of a caller and a number
+abbrev pub is_key : (ℕ × ℕ) → (ℕ × ℕ) → Bool
+is_key key other = (key.0 == other.0) && (key.1 == other.1)
+
+-- a table has where the span of each job began, or what else was noted there
+abbrev pub AreBegun : {A S : Type 0} → List (Id × A) → HashMap (ℕ × ℕ) A S → Type 0
+AreBegun begun table = (id : Id) → get is_key table (id.caller, id.number) ≡ begun_at begun id

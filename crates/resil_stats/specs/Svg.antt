@@ -2,17 +2,19 @@
 use Rattle.std.specs.Prelude.{ℕ, ◌≡◌, ◌==◌, ◌||◌, ◌++◌, ◌∷◌, [], List, Option, chars, codes, encode_utf8, flat_map, if◌then◌else◌, length, nat_lt}
 use Rattle.std.specs.Fmt.{decimal}
 use Rattle.resil_rule.specs.Limits.{Sizes}
-use Rattle.resil_rule.specs.declared.event.Event.{Event}
 use Rattle.resil_rule.specs.declared.event.Id.{Id}
+use Rattle.resil_rule.specs.declared.verdict.Verdict.{Verdict}
+use Rattle.resil_jdk.specs.declared.event.JdkEvent.{JdkEvent}
 use Rattle.resil_stats.specs.Picture.{IsPictureOf}
 use Rattle.resil_stats.specs.declared.bars.Bar.{Bar}
 use Rattle.resil_stats.specs.declared.bars.Start.{Start}
-use Rattle.resil_stats.specs.declared.bars.Start.TheVariants.{Core, Extra, Queued}
+use Rattle.resil_stats.specs.declared.bars.Start.TheVariants.{Core, Extra, Queued, Handed}
 use Rattle.resil_stats.specs.declared.columns.Column.{Column}
 use Rattle.resil_stats.specs.declared.marks.Mark.{Mark}
 use Rattle.resil_stats.specs.declared.marks.Sign.{Sign}
 use Rattle.resil_stats.specs.declared.marks.Sign.TheVariants as shown
 use Rattle.resil_stats.specs.declared.picture.Picture.{Picture}
+use Rattle.resil_stats.specs.declared.window.Extent.{Extent}
 
 -- the beginning of a picture of this many events
 abbrev pub opening : ℕ → List ℕ
@@ -46,6 +48,7 @@ abbrev pub start_class : Start → List ℕ
 start_class Core = codes "core"
 start_class Extra = codes "extra"
 start_class Queued = codes "queued"
+start_class Handed = codes "handed"
 
 -- how the element of a bar begins: with its class, its job, its places and its row
 abbrev pub bar_opening : Bar → List ℕ
@@ -59,13 +62,24 @@ refusal_opening reason id at =
     codes "<path class=\"refused " ++ reason ++ codes "\" data-job=\"" ++ decimal id.caller ++ codes "." ++ decimal id.number
     ++ codes "\" data-at=\"" ++ decimal at ++ codes "\" "
 
+-- how the element of a worker begins that begins or ends without a job: with the class and its place
+abbrev pub worker_opening : List ℕ → ℕ → List ℕ
+worker_opening class at = codes "<path class=\"" ++ class ++ codes "\" data-at=\"" ++ decimal at ++ codes "\" "
+
+-- how the element of a removal begins: with its job and its place
+abbrev pub removal_opening : Id → ℕ → List ℕ
+removal_opening id at =
+    codes "<path class=\"removed\" data-job=\"" ++ decimal id.caller ++ codes "." ++ decimal id.number ++ codes "\" data-at=\"" ++ decimal at ++ codes "\" "
+
 abbrev pub sign_opening : Sign → ℕ → List ℕ
 sign_opening (shown.Full id) at = refusal_opening (codes "full") id at
 sign_opening (shown.Closed id) at = refusal_opening (codes "closed") id at
-sign_opening shown.Closing at = []
-sign_opening (shown.Resized core max) at = []
+sign_opening shown.Started at = worker_opening (codes "started") at
+sign_opening shown.Culled at = worker_opening (codes "culled") at
+sign_opening (shown.Removed id) at = removal_opening id at
+sign_opening _ at = []
 
--- how the element of a mark begins where it is of a refusal
+-- how the element of a mark begins where it stands between the bands: what is done to the pool lies over all of them
 abbrev pub mark_opening : Mark → List ℕ
 mark_opening mark = sign_opening mark.sign mark.at
 
@@ -83,7 +97,7 @@ abbrev pub IsMadeOf : {A : Type 0} → (A → List ℕ) → List A → List ℕ 
 IsMadeOf begins [] text = text ≡ []
 IsMadeOf begins (x ∷ xs) text = (look : List ℕ) × (rest : List ℕ) × (text ≡ begins x ++ (look ++ rest)) × IsMadeOf begins xs rest
 
--- The text of a picture of which each event is drawn: an element for each bar, and one for each refusal.
+-- The text of a picture of which each event is drawn: an element for each bar, and one for each refusal, start, cull and removal.
 pub record IsEachDrawn (picture : Picture) (text : List ℕ) : Type 0 where
   pub front : List ℕ
   pub bars : List ℕ
@@ -91,7 +105,7 @@ pub record IsEachDrawn (picture : Picture) (text : List ℕ) : Type 0 where
   pub refusals : List ℕ
   pub back : List ℕ
   pub whole : text ≡ front ++ (bars ++ (middle ++ (refusals ++ back)))
-  pub of_bars : IsMadeOf bar_opening picture.bars.items bars
+  pub of_bars : IsMadeOf bar_opening picture.drawn.bars.items bars
   pub of_marks : IsMadeOf mark_opening picture.marks.items refusals
 
 -- The text of a gathered picture: an element for each column.
@@ -100,11 +114,11 @@ pub record IsGatheredDrawn (picture : Picture) (text : List ℕ) : Type 0 where
   pub columns : List ℕ
   pub back : List ℕ
   pub whole : text ≡ front ++ (columns ++ back)
-  pub of_columns : IsMadeOf column_opening picture.columns.items columns
+  pub of_columns : IsMadeOf column_opening picture.drawn.columns.items columns
 
 -- the text of a picture behind its beginning
 abbrev pub IsRestDrawn : Picture → List ℕ → Type 0
-IsRestDrawn picture text = (picture.columns.items ≡ [] → IsEachDrawn picture text) × ((picture.columns.items ≡ [] → ⊥) → IsGatheredDrawn picture text)
+IsRestDrawn picture text = (picture.drawn.columns.items ≡ [] → IsEachDrawn picture text) × ((picture.drawn.columns.items ≡ [] → ⊥) → IsGatheredDrawn picture text)
 
 -- a text that was added to another one, of which something is known
 abbrev pub IsAddition : (List ℕ → Type 0) → List ℕ → List ℕ → Type 0
@@ -114,6 +128,6 @@ IsAddition known old new = (part : List ℕ) × (new ≡ old ++ part) × known p
 abbrev pub IsSvgOf : List ℕ → Picture → List ℕ → Type 0
 IsSvgOf name picture text = (page : List ℕ) × (rest : List ℕ) × (text ≡ opening (length picture.levels.items) ++ (page ++ (style ++ (name_line name ++ rest)))) × IsRestDrawn picture rest
 
--- the text of the picture, with a name, under some limits of a history, whose events may have times
-abbrev pub IsHistorySvg : List ℕ → Sizes → List Event → Option (List ℕ) → List ℕ → Type 0
-IsHistorySvg name limits history times text = (picture : Picture) × IsPictureOf limits history times picture × IsSvgOf name picture text
+-- the text of the picture, with a name, of the part of a history with this verdict in a pool of some limits that an extent asks for; its events may have times
+abbrev pub IsHistorySvg : Extent → List ℕ → Sizes → Verdict → List JdkEvent → Option (List ℕ) → List ℕ → Type 0
+IsHistorySvg extent name limits verdict history times text = (picture : Picture) × IsPictureOf extent limits verdict history times picture × IsSvgOf name picture text

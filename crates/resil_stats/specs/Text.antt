@@ -5,8 +5,8 @@ use Rattle.std.specs.List.{flat_map}
 use Rattle.resil_rule.specs.declared.verdict.Verdict.{Verdict}
 use Rattle.resil_rule.specs.declared.verdict.Verdict.TheVariants.{Legal, FirstIllegal}
 use Rattle.resil_stats.specs.declared.stats.CallerStats.{CallerStats}
-use Rattle.resil_stats.specs.declared.whole.JdkStats.{JdkStats}
-use Rattle.resil_stats.specs.declared.whole_spans.JdkSpans.{JdkSpans}
+use Rattle.resil_stats.specs.declared.stats.JdkStats.{JdkStats}
+use Rattle.resil_stats.specs.declared.spans.JdkSpans.{JdkSpans}
 use Rattle.resil_input.specs.CsvTable.{table_text}
 
 -- the fields of the header

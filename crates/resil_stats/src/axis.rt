@@ -7,10 +7,12 @@ ghost use Rattle.resil_stats.specs.Axis.{IsSpanEnd, IsSpanLength, IsTickStep, co
 
 use crate::spans::time_at;
 
-/// The times of the first event that is drawn and of the last one, in microseconds.
+/// From when to when an axis goes: two times in microseconds or, of events without times, two places.
 #[derive(Clone, Copy)]
-pub(crate) struct Period {
+pub struct Period {
+    /// The beginning.
     pub first: u64,
+    /// The end.
     pub last: u64,
 }
 
@@ -197,14 +199,13 @@ impl Period {
     }
 }
 
-/// Where the events end that follow in the span of the one behind the first so many, of all that are drawn.
-pub(crate) fn span_end(times: &[u64], count: usize, done: usize) -> usize
+/// Where the events end that follow in the span of the one behind the first so many, of all up to a place.
+pub(crate) fn span_end(times: &[u64], period: Period, count: usize, done: usize) -> usize
     requires { done < count }
     ensures later { done < result }
     ensures within { result ≤ count }
-    ensures span { IsSpanEnd times.now count done result }
+    ensures span { IsSpanEnd times.now period count done result }
 {
-    let period = period_of(times, count);
     let span = period.span_of(time_at(times, done));
     for end in done + 1..count {
         if period.span_of(time_at(times, end)) != span {

@@ -1,16 +1,17 @@
-//! The bars of a history: one for each job that started.
+//! The bars of a history: one for each job that a worker began to run.
 //!
 //! The events are gone over once. Each row knows where its last bar ends; a job that starts takes the first
-//! row that is free by then, and its finish is looked for in what follows. A pool has 64 workers at most, so
-//! there are no more rows than that to be looked at, and no more jobs that look over one event.
+//! row that is free by then, and its finish is looked for in what follows. Bars are drawn where there are
+//! 64 workers at most, so there are no more rows than that to be looked at, and no more jobs that look over one event.
 
 ghost use Rattle.std.specs.Prelude.{◌≡◌, ◌≤◌, ◌+◌, ◌++◌, ◌∷◌, [], length, IfOk, OnOk};
 ghost use Rattle.std.specs.List.{position_or_len};
-ghost use Rattle.resil_rule.specs.Admission.{IsLegal};
+ghost use Rattle.resil_jdk.specs.Admission.{IsLegal};
 ghost use Rattle.resil_rule.specs.Limits.{Sizes};
 ghost use Rattle.resil_stats.specs.Bars.{AreBarsOf, IsPut, free_row, is_finish_of, start_at};
 
-use resil_rule::{Event, Id, Reply};
+use resil_jdk::{JdkEvent, JdkReply};
+use resil_rule::Id;
 use std::alloc::{AllocError, Global};
 
 /// How a job started.
@@ -22,6 +23,8 @@ pub enum Start {
     Extra,
     /// A worker took it from the queue.
     Queued,
+    /// An idle worker got it at once, since the pool has no queue.
+    Handed,
 }
 
 /// The bar of a job that started.
@@ -47,32 +50,33 @@ struct Drawing {
 }
 
 /// The job that starts at an event, and how.
-pub(crate) fn start_at(event: Event) -> Option<(Id, Start)>
+pub(crate) fn start_at(event: JdkEvent) -> Option<(Id, Start)>
     ensures { result ≡ start_at event }
 {
     match event {
-        Event::Submit { id, reply } => match reply {
-            Reply::Core => Some((id, Start::Core)),
-            Reply::Extra => Some((id, Start::Extra)),
-            Reply::Queued | Reply::Full | Reply::Closed => None,
+        JdkEvent::Submit { id, reply } => match reply {
+            JdkReply::Core => Some((id, Start::Core)),
+            JdkReply::Extra => Some((id, Start::Extra)),
+            JdkReply::Handed => Some((id, Start::Handed)),
+            JdkReply::First | JdkReply::Queued | JdkReply::Full | JdkReply::Closed => None,
         },
-        Event::Take(id) => Some((id, Start::Queued)),
-        Event::Finish(_) | Event::IdleEnd | Event::Close | Event::Resized { .. } => None,
+        JdkEvent::Take(id) => Some((id, Start::Queued)),
+        _ => None,
     }
 }
 
 // Whether an event is the finish of a job.
-fn is_finish_of(event: &Event, id: Id) -> bool
+fn is_finish_of(event: &JdkEvent, id: Id) -> bool
     ensures { result ≡ is_finish_of id event.now }
 {
     match event {
-        Event::Finish(other) => id == *other,
+        JdkEvent::Finish(other) => id == *other,
         _ => false,
     }
 }
 
-/// Where a job is finished among events, from 0: at their number where it isn't.
-pub(crate) fn finish_in(events: &[Event], id: Id) -> usize
+// Where a job is finished among events, from 0: at their number where it isn't.
+fn finish_in(events: &[JdkEvent], id: Id) -> usize
     ensures finish { result ≡ position_or_len (is_finish_of id) events.now }
     ensures within { result ≤ length events.now }
 {
@@ -123,7 +127,7 @@ impl Drawing {
 
 /// The bars of legal events, in the order of their jobs' starts.
 /// Errors: `AllocError` when out of memory.
-pub(crate) fn bars_of(alloc: Global, events: &[Event]) -> Result<Vec<Bar>, AllocError>
+pub(crate) fn bars_of(alloc: Global, events: &[JdkEvent]) -> Result<Vec<Bar>, AllocError>
     requires { (limits : Sizes) × IsLegal limits events.now }
     ensures { IfOk result (λ bars. AreBarsOf events.now bars.items) }
 {

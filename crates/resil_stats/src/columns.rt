@@ -1,23 +1,26 @@
-//! The columns of a history that is too long for each event to be drawn.
+//! The columns of a history that is too long for each event to be drawn, or of a pool with too many workers for a row each.
 //!
 //! So many events make a column that there are 350 at most, or those of one of as many equal spans of time. A column has the greatest of
-//! each number, since a peak is what one looks for, and in place of its bars how many jobs run, by how they started.
+//! each number, since a peak is what one looks for.
 
 ghost use Rattle.std.specs.Prelude.{◌≡◌, ◌≤◌, ◌+◌, ◌<◌, IfOk, count_by, length, map, option_map};
-ghost use Rattle.resil_stats.specs.Stats.{has_reply};
-ghost use Rattle.resil_stats.specs.Columns.{AreColumnsOf, HasLastSizes, IsColumnEnd, IsColumnOf, IsPeakAmong, IsWidth, greatest, running_at, runs_by};
+ghost use Rattle.resil_stats.specs.Columns.{AreColumnsOf, HasLastSizes, IsColumnEnd, IsColumnOf, IsPeakAmong, IsWidth, greatest, is_gathered};
+ghost use Rattle.resil_stats.specs.Stats.{is_full, is_refused_closed};
 
 use crate::axis::span_end;
-use crate::bars::{Bar, Start};
 use crate::depth::Level;
-use resil_rule::{Event, Reply};
+use crate::window::Window;
+use resil_jdk::{JdkEvent, JdkReply};
 use std::alloc::{AllocError, Global};
 
-/// The most events of which each is drawn.
-pub(crate) const MOST_DRAWN: usize = 4000;
+// The most events of which each is drawn.
+const MOST_DRAWN: usize = 4000;
 
-/// The most columns of a picture.
-pub(crate) const MOST_COLUMNS: usize = 350;
+// The most workers that have a row each.
+const MOST_ROWS: usize = 64;
+
+// The most columns of a picture.
+const MOST_COLUMNS: usize = 350;
 
 /// Events that are drawn together.
 #[derive(Clone, Copy)]
@@ -42,25 +45,6 @@ pub struct Column {
     pub max: u32,
 }
 
-/// The jobs that run, by how they started.
-#[derive(Clone, Copy, Default)]
-pub struct Running {
-    /// With a new worker below the core size.
-    pub core: usize,
-    /// With a new worker above the core size.
-    pub extra: usize,
-    /// Taken from the queue.
-    pub queued: usize,
-}
-
-impl Running {
-    /// All of them.
-    pub fn all(&self) -> usize {
-        let own = self.core.saturating_add(self.extra);
-        own.saturating_add(self.queued)
-    }
-}
-
 /// How many events make a column: the least number that gives no more columns than there may be.
 pub fn column_width(events: usize) -> usize
     ensures { IsWidth events result }
@@ -68,24 +52,45 @@ pub fn column_width(events: usize) -> usize
     events.div_ceil(MOST_COLUMNS)
 }
 
-// Whether an event is a submission with this reply.
-fn has_reply(reply: Reply, event: &Event) -> bool
-    ensures { result ≡ has_reply reply event.now }
+// Whether an event is a submission that was refused since the pool was full.
+fn is_full(event: &JdkEvent) -> bool
+    ensures { result ≡ is_full event.now }
 {
-    match event {
-        Event::Submit { reply: given, .. } => reply == *given,
-        _ => false,
-    }
+    matches!(
+        event,
+        JdkEvent::Submit {
+            reply: JdkReply::Full,
+            ..
+        }
+    )
 }
 
-// How many submissions have this reply.
-fn count_replies(events: &[Event], reply: Reply) -> usize
-    ensures { result ≡ count_by (has_reply reply) events.now }
+// Whether an event is a submission that was refused since the pool was closed.
+fn is_refused_closed(event: &JdkEvent) -> bool
+    ensures { result ≡ is_refused_closed event.now }
 {
-    events
-        .iter()
-        .filter(|event| has_reply(reply, event))
-        .count()
+    matches!(
+        event,
+        JdkEvent::Submit {
+            reply: JdkReply::Closed,
+            ..
+        }
+    )
+}
+
+// How many submissions were refused since the pool was full.
+fn count_full(events: &[JdkEvent]) -> usize
+    ensures { result ≡ count_by is_full events.now }
+{
+    events.iter().filter(|event| is_full(event)).count()
+}
+
+// How many submissions were refused since the pool was closed.
+fn count_closed(events: &[JdkEvent]) -> usize
+    ensures { result ≡ count_by is_refused_closed events.now }
+{
+    let refused = events.iter().filter(|event| is_refused_closed(event));
+    refused.count()
 }
 
 // The most jobs that wait at some levels.
@@ -100,6 +105,13 @@ fn most_workers(levels: &[Level]) -> usize
     ensures { result ≡ greatest (map (λ level. level.workers) levels.now) }
 {
     levels.iter().fold(0, |most, level| most.max(level.workers))
+}
+
+/// Whether the events of a window of a history with these levels are gathered into columns.
+pub(crate) fn is_gathered(window: Window, levels: &[Level]) -> bool
+    ensures { result ≡ is_gathered window levels.now }
+{
+    window.end.saturating_sub(window.before) > MOST_DRAWN || most_workers(levels) > MOST_ROWS
 }
 
 // The first level at which most jobs run.
@@ -119,7 +131,7 @@ fn peak_of(levels: &[Level]) -> Level
 
 // The column of the events from one index up to another.
 #[tactic(auto, using(std::proofs::lemmas::Option::gets))]
-fn gather_column(events: &[Event], levels: &[Level], start: usize, end: usize) -> Column
+fn gather_column(events: &[JdkEvent], levels: &[Level], start: usize, end: usize) -> Column
     requires order { start < end }
     requires within { end ≤ length events.now }
     requires same { length events.now ≡ length levels.now }
@@ -136,83 +148,50 @@ fn gather_column(events: &[Event], levels: &[Level], start: usize, end: usize) -
         waiting: most_waiting(after),
         workers: most_workers(after),
         peak: peak_of(after).at,
-        full: count_replies(own, Reply::Full),
-        closed: count_replies(own, Reply::Closed),
+        full: count_full(own),
+        closed: count_closed(own),
         core: last.core,
         max: last.max,
     }
 }
 
-// Where a column ends of so many events that begins behind the first of them: by its span of time, or the width of all columns.
-fn column_end(times: Option<&[u64]>, count: usize, done: usize) -> usize
-    requires { done < count }
+// Where a column of a window ends that begins behind the first so many events: by its span of time, or the width of all columns.
+fn column_end(times: Option<&[u64]>, window: Window, done: usize) -> usize
+    requires order { window.before ≤ done }
+    requires more { done < window.end }
     ensures later { done < result }
-    ensures within { result ≤ count }
-    ensures column { IsColumnEnd (option_map (λ times. times.now) times.entry) count done result }
+    ensures within { result ≤ window.end }
+    ensures column { IsColumnEnd (option_map (λ times. times.now) times.entry) window done result }
 {
     match times {
-        Some(times) => span_end(times, count, done),
-        None => done + column_width(count).min(count - done),
+        Some(times) => span_end(times, window.period, window.end, done),
+        None => {
+            let width = column_width(window.end - window.before);
+            done + width.min(window.end - done)
+        }
     }
 }
 
-/// The columns of events, by their times where they have some, where there is a level for each event.
+/// The columns of the events of a window, by their times where they have some, where there is a level for each event.
 /// Errors: `AllocError` when out of memory.
 pub(crate) fn columns_of(
     alloc: Global,
-    events: &[Event],
+    events: &[JdkEvent],
     levels: &[Level],
     times: Option<&[u64]>,
+    window: Window,
 ) -> Result<Vec<Column>, AllocError>
-    requires { length events.now ≡ length levels.now }
-    ensures { IfOk result (λ columns. AreColumnsOf events.now levels.now (option_map (λ times. times.now) times.entry) columns.items) }
+    requires same { length events.now ≡ length levels.now }
+    requires order { window.before ≤ window.end }
+    requires within { window.end ≤ length levels.now }
+    ensures { IfOk result (λ columns. AreColumnsOf events.now levels.now (option_map (λ times. times.now) times.entry) window columns.items) }
 {
     let mut columns = Vec::new(alloc);
-    let mut done = 0;
-    while done < levels.len() {
-        let end = column_end(times, levels.len(), done);
+    let mut done = window.before;
+    while done < window.end {
+        let end = column_end(times, window, done);
         columns.push(gather_column(events, levels, done, end))?;
         done = end;
     }
     Ok(columns)
-}
-
-// Whether a bar is of a job that started so and runs after the event at a place.
-fn runs_by(start: Start, place: usize, bar: &Bar) -> bool
-    ensures { result ≡ runs_by start place bar.now }
-{
-    bar.start == start && bar.from <= place && place < bar.to
-}
-
-// How many such jobs there are.
-fn count_at(bars: &[Bar], start: Start, place: usize) -> usize
-    ensures { result ≡ count_by (runs_by start place) bars.now }
-{
-    bars.iter().filter(|bar| runs_by(start, place, bar)).count()
-}
-
-/// The jobs that run after the event at a place.
-pub(crate) fn running_at(bars: &[Bar], place: usize) -> Running
-    ensures { result ≡ running_at bars.now place }
-{
-    Running {
-        core: count_at(bars, Start::Core, place),
-        extra: count_at(bars, Start::Extra, place),
-        queued: count_at(bars, Start::Queued, place),
-    }
-}
-
-/// What runs in each column: after its peak.
-/// Errors: `AllocError` when out of memory.
-pub(crate) fn areas_of(
-    alloc: Global,
-    bars: &[Bar],
-    columns: &[Column],
-) -> Result<Vec<Running>, AllocError>
-    ensures { IfOk result (λ areas. areas.items ≡ map (λ column. running_at bars.now column.peak) columns.now) }
-{
-    columns
-        .iter()
-        .map(|column| running_at(bars, column.peak))
-        .collect(alloc)
 }

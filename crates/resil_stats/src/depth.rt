@@ -1,14 +1,12 @@
 //! How full the pool is after each event of a history.
 
-ghost use Rattle.std.specs.Prelude.{◌++◌, ◌∷◌, [], IfOk, List};
-ghost use Rattle.resil_rule.specs.Admission.{IsLegal};
-ghost use Rattle.resil_rule.specs.Numbers.{AreSizesOf};
-ghost use Rattle.resil_rule.specs.declared.event.Event.{Event};
+ghost use Rattle.std.specs.Prelude.{◌≡◌, IfOk};
+ghost use Rattle.resil_jdk.specs.Admission.{IsLegal};
 ghost use Rattle.resil_rule.specs.Limits.{Sizes};
-ghost use Rattle.resil_stats.specs.Depth.{AreLevelsOf};
+ghost use Rattle.resil_stats.specs.Depth.{AreLevelsOf, opening_sizes, sizes_after};
 
-use crate::stats::Counts;
-use resil_rule::{Event, Limits};
+use crate::stats::Load;
+use resil_jdk::{JdkEvent, JdkLimits};
 use std::alloc::{AllocError, Global};
 
 /// How full the pool is after an event, and its sizes.
@@ -29,12 +27,23 @@ pub struct Level {
 }
 
 // The core size and the greatest size after one more event.
-fn sizes_after(sizes: (u32, u32), event: Event) -> (u32, u32)
-    ensures { (limits : Sizes) (history : List Event) → AreSizesOf limits history sizes.0 sizes.1 → AreSizesOf limits (history ++ event ∷ []) result.0 result.1 }
+fn sizes_after(sizes: (u32, u32), event: JdkEvent) -> (u32, u32)
+    ensures { result ≡ sizes_after sizes event }
 {
     match event {
-        Event::Resized { core, max } => (core, max),
+        JdkEvent::Resized { core, max } => (core, max),
         _ => sizes,
+    }
+}
+
+/// The core size and the greatest size that a pool begins with: those of a resize before all else, or those of its opening.
+pub(crate) fn opening_sizes(limits: &JdkLimits, events: &[JdkEvent]) -> (u32, u32)
+    ensures { result ≡ opening_sizes limits.now events.now }
+{
+    let sizes = (limits.core(), limits.max());
+    match events.first() {
+        Some(event) => sizes_after(sizes, *event),
+        None => sizes,
     }
 }
 
@@ -42,19 +51,18 @@ fn sizes_after(sizes: (u32, u32), event: Event) -> (u32, u32)
 /// Errors: `AllocError` when out of memory.
 pub(crate) fn levels_of(
     alloc: Global,
-    limits: &Limits,
-    events: &[Event],
+    limits: &JdkLimits,
+    events: &[JdkEvent],
 ) -> Result<Vec<Level>, AllocError>
-    requires { IsLegal limits.now events.now }
+    requires { (legal : Sizes) × IsLegal legal events.now }
     ensures { IfOk result (λ levels. AreLevelsOf limits.now events.now levels.items) }
 {
-    let mut counts = Counts::default();
+    let mut load = Load::default();
     let mut sizes = (limits.core(), limits.max());
     let mut levels = Vec::new(alloc);
     for (index, event) in events.iter().enumerate() {
-        counts.record(*event);
+        load = load.after(*event);
         sizes = sizes_after(sizes, *event);
-        let load = counts.load();
         levels.push(Level {
             at: index + 1,
             waiting: load.waiting,

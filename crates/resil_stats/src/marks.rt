@@ -1,9 +1,11 @@
-//! What is marked in a picture: each refusal, the closing, and each resize.
+//! What is marked in a picture: each refusal, each worker that begins without a job or ends though jobs may wait, each removal, and
+//! what is done to the pool.
 
 ghost use Rattle.std.specs.Prelude.{◌≡◌, IfOk};
-ghost use Rattle.resil_stats.specs.Marks.{mark_at, marks_in};
+ghost use Rattle.resil_stats.specs.Marks.{mark_at, marks_in, sign_at};
 
-use resil_rule::{Event, Id, Reply};
+use resil_jdk::{JdkEvent, JdkReply};
+use resil_rule::Id;
 use std::alloc::{AllocError, Global};
 
 /// What a mark stands for.
@@ -13,10 +15,20 @@ pub enum Sign {
     Full(Id),
     /// The job was refused, since the pool was closed.
     Closed(Id),
+    /// A worker began without a job.
+    Started,
+    /// A worker without a job ended, though jobs might wait.
+    Culled,
+    /// The job left the queue, and no worker has it.
+    Removed(Id),
     /// The pool was closed.
     Closing,
+    /// The pool was stopped.
+    Stopping,
     /// The sizes of the pool were changed to these.
     Resized { core: u32, max: u32 },
+    /// From here on core workers time out, or not any more.
+    TimeOut(bool),
 }
 
 /// A mark, and where it stands.
@@ -28,27 +40,39 @@ pub struct Mark {
     pub sign: Sign,
 }
 
+// What an event is marked by, if it is.
+fn sign_at(event: JdkEvent) -> Option<Sign>
+    ensures { result ≡ sign_at event }
+{
+    match event {
+        JdkEvent::Submit { id, reply } => match reply {
+            JdkReply::Full => Some(Sign::Full(id)),
+            JdkReply::Closed => Some(Sign::Closed(id)),
+            _ => None,
+        },
+        JdkEvent::Start => Some(Sign::Started),
+        JdkEvent::Cull => Some(Sign::Culled),
+        JdkEvent::Remove(id) => Some(Sign::Removed(id)),
+        JdkEvent::Close => Some(Sign::Closing),
+        JdkEvent::Stop => Some(Sign::Stopping),
+        JdkEvent::Resized { core, max } => Some(Sign::Resized { core, max }),
+        JdkEvent::TimeOut(is_on) => Some(Sign::TimeOut(is_on)),
+        JdkEvent::Take(_) | JdkEvent::Finish(_) | JdkEvent::IdleEnd => None,
+    }
+}
+
 // The mark of an event at a place, where it has one.
-fn mark_at(at: usize, event: Event) -> Option<Mark>
+fn mark_at(at: usize, event: JdkEvent) -> Option<Mark>
     ensures { result ≡ mark_at (at, event) }
 {
-    let sign = match event {
-        Event::Submit { id, reply } => match reply {
-            Reply::Full => Sign::Full(id),
-            Reply::Closed => Sign::Closed(id),
-            Reply::Core | Reply::Queued | Reply::Extra => return None,
-        },
-        Event::Close => Sign::Closing,
-        Event::Resized { core, max } => Sign::Resized { core, max },
-        Event::Take(_) | Event::Finish(_) | Event::IdleEnd => return None,
-    };
+    let sign = sign_at(event)?;
     Some(Mark { at, sign })
 }
 
 /// The marks of events, in their order.
 /// Errors: `AllocError` when out of memory.
 #[tactic(auto, using(crate::proofs::PlaceLaws::made_none, crate::proofs::PlaceLaws::made_one))]
-pub(crate) fn marks_of(alloc: Global, events: &[Event]) -> Result<Vec<Mark>, AllocError>
+pub(crate) fn marks_of(alloc: Global, events: &[JdkEvent]) -> Result<Vec<Mark>, AllocError>
     ensures { IfOk result (λ marked. marked.items ≡ marks_in events.now) }
 {
     let mut marked = Vec::new(alloc);

@@ -1,21 +1,25 @@
-//! How long the jobs of a history waited and ran, by the times of its events.
+//! How long the jobs of a history of any version waited and ran, and how long idle workers took to come, by the times of its events.
 //!
-//! A pool takes its queue in order, so the job of a take is that of the first queued submission that isn't taken yet. A finish is
-//! looked for in what follows its job's start, as for a bar.
+//! A span of a job begins at one event and ends at another one: a wait with its submission and its start, a run with its start and its
+//! finish, a wake with a submission that was queued while more workers were idle than jobs waited, and its take. So a table of where
+//! each job's span began gives the span at the event that ends it. Jobs may leave the queue from anywhere in it.
 
-ghost use Rattle.std.specs.Prelude.{◌≡◌, ◌+◌, ◌-◌, IfOk, slice_get, slice_index};
-ghost use Rattle.std.specs.List.{filter_map};
-ghost use Rattle.resil_rule.specs.Admission.{IsLegal};
+ghost use Rattle.std.specs.Prelude.{◌≡◌, ◌-◌, ◌++◌, ◌∷◌, [], ℕ, List, IfOk, OnOk, length, nat_lt, option_and_then, slice_get, slice_index};
+ghost use Rattle.std.specs.List.{cons_option};
+ghost use Rattle.std.specs.Option.{option_map};
 ghost use Rattle.resil_rule.specs.Limits.{Sizes};
-ghost use Rattle.resil_rule.specs.Verdict.{IsVerdict};
-ghost use Rattle.resil_stats.specs.Bars.{placed};
-ghost use Rattle.resil_stats.specs.Spans.{AreRanksOf, AreSpansOf, queued_at, runs, waits};
-ghost use Rattle.resil_stats.specs.Stats.{legal_part};
+ghost use Rattle.resil_rule.specs.declared.event.Id.{Id};
+ghost use Rattle.resil_jdk.specs.Admission.{IsLegal};
+ghost use Rattle.resil_jdk.specs.History.{accepted_id, finished_id, taken_id};
+ghost use Rattle.resil_jdk.specs.declared.event.JdkEvent.{JdkEvent};
+ghost use Rattle.resil_stats.specs.Spans.{AreBegun, AreJdkSpansOf, AreRanksOf, begun_at, begun_id, ended_id, jdk_waits, span, spans, started_id, woken_id};
+ghost use Rattle.resil_stats.specs.Stats.{IsJdkLoadAfter};
 
-use crate::bars::{Start, finish_in, start_at};
-use crate::stats::legal_part;
-use resil_rule::{Event, Reply, Verdict};
+use crate::stats::Load;
+use resil_jdk::{JdkEvent, JdkReply};
+use resil_rule::Id;
 use std::alloc::{AllocError, Global};
+use std::collections::HashMap;
 
 /// Three of some spans of time, in microseconds, by the nearest rank; none where there is no span.
 #[derive(Clone, Copy, PartialEq, Eq, Debug)]
@@ -28,13 +32,133 @@ pub struct Ranks {
     pub most: Option<u64>,
 }
 
-/// How long jobs waited and ran.
+/// How long jobs waited and ran, and how long idle workers took to come.
 #[derive(Clone, Copy, PartialEq, Eq, Debug)]
-pub struct Spans {
+pub struct JdkSpans {
     /// From a job's submission to its start, of all jobs that started.
     pub waits: Ranks,
     /// From a job's start to its finish, of all jobs that are finished.
     pub runs: Ranks,
+    /// From a submission that was queued while more workers were idle than jobs waited to its job's take.
+    pub wakes: Ranks,
+}
+
+/// What the spans are of which some are measured.
+#[derive(Clone, Copy)]
+pub(crate) enum Measure {
+    /// From a job's submission to its start.
+    Wait,
+    /// From a job's start to its finish.
+    Run,
+    /// From a submission that is queued while more workers are idle than jobs wait to its job's take.
+    Wake,
+}
+
+// The job that an event accepts.
+fn accepted_id(event: JdkEvent) -> Option<Id>
+    ensures { result ≡ accepted_id event }
+{
+    match event {
+        JdkEvent::Submit { id, reply } => match reply {
+            JdkReply::Core
+            | JdkReply::First
+            | JdkReply::Queued
+            | JdkReply::Handed
+            | JdkReply::Extra => Some(id),
+            JdkReply::Full | JdkReply::Closed => None,
+        },
+        _ => None,
+    }
+}
+
+// The job that a worker begins to run at an event.
+fn started_id(event: JdkEvent) -> Option<Id>
+    ensures { result ≡ started_id event }
+{
+    match event {
+        JdkEvent::Submit { id, reply } => match reply {
+            JdkReply::Core | JdkReply::Handed | JdkReply::Extra => Some(id),
+            JdkReply::First | JdkReply::Queued | JdkReply::Full | JdkReply::Closed => None,
+        },
+        JdkEvent::Take(id) => Some(id),
+        _ => None,
+    }
+}
+
+// The job of a submission that is queued while more workers are idle than jobs wait.
+fn woken_id(load: Load, event: JdkEvent) -> Option<Id>
+    ensures { (before : List JdkEvent) → IsJdkLoadAfter before load → result ≡ woken_id before event }
+{
+    match event {
+        JdkEvent::Submit {
+            id,
+            reply: JdkReply::Queued,
+        } => (load.waiting < load.idle()).then_some(id),
+        _ => None,
+    }
+}
+
+// The job whose span begins at the event of an index, by the load before it. The first events restate a state.
+fn begun_id(
+    measure: Measure,
+    restated: usize,
+    index: usize,
+    load: Load,
+    event: JdkEvent,
+) -> Option<Id>
+    ensures { (before : List JdkEvent) → index ≡ length before → IsJdkLoadAfter before load → result ≡ begun_id measure restated before event }
+{
+    match measure {
+        Measure::Run => started_id(event),
+        Measure::Wait => {
+            if index < restated {
+                None
+            } else {
+                accepted_id(event)
+            }
+        }
+        Measure::Wake => {
+            if index < restated {
+                None
+            } else {
+                woken_id(load, event)
+            }
+        }
+    }
+}
+
+// The job whose span ends at an event.
+fn ended_id(measure: Measure, event: JdkEvent) -> Option<Id>
+    ensures { result ≡ ended_id measure event }
+{
+    match measure {
+        Measure::Wait => started_id(event),
+        Measure::Run => match event {
+            JdkEvent::Finish(id) => Some(id),
+            _ => None,
+        },
+        Measure::Wake => match event {
+            JdkEvent::Take(id) => Some(id),
+            _ => None,
+        },
+    }
+}
+
+// Notes where the span of a job begins, if one does. Errors: `AllocError` when out of memory.
+fn note(
+    begun: &mut HashMap<(u16, u64), usize>,
+    id: Option<Id>,
+    index: usize,
+) -> Result<(), AllocError>
+    ensures { OnOk result ((all : List (Id × ℕ)) → AreBegun all begun.old → AreBegun (all ++ cons_option (option_map (λ id. (id, index)) id) []) begun.new) }
+{
+    match id {
+        Some(id) => {
+            begun.insert((id.caller, id.number), index)?;
+            Ok(())
+        }
+        None => Ok(()),
+    }
 }
 
 /// The time at an index, 0 where there is none.
@@ -44,92 +168,57 @@ pub(crate) fn time_at(times: &[u64], index: usize) -> u64
     times.get(index).copied().unwrap_or(0)
 }
 
-// The number at an index, 0 where there is none.
-fn place_in(places: &[usize], index: usize) -> usize
-    ensures { result ≡ slice_index places.now index }
-{
-    places.get(index).copied().unwrap_or(0)
-}
-
-// How much later the time at one index is than that at another one.
-fn span(times: &[u64], from: usize, to: usize) -> u64
-    ensures { result ≡ slice_index times.now to - slice_index times.now from }
-{
-    time_at(times, to).saturating_sub(time_at(times, from))
-}
-
-// The index of an event that puts a job into the queue.
-fn queued_at(index: usize, event: Event) -> Option<usize>
-    ensures { result ≡ queued_at (index + 1, event) }
-{
-    match event {
-        Event::Submit {
-            reply: Reply::Queued,
-            ..
-        } => Some(index),
-        _ => None,
-    }
-}
-
-// The indices of the queued submissions, in order. Errors: `AllocError` when out of memory.
-#[tactic(auto, using(crate::proofs::PlaceLaws::made_none, crate::proofs::PlaceLaws::made_one))]
-fn queue_of(alloc: Global, events: &[Event]) -> Result<Vec<usize>, AllocError>
-    ensures { IfOk result (λ queue. queue.items ≡ filter_map queued_at (placed events.now)) }
-{
-    let mut queue = Vec::new(alloc);
-    for (index, event) in events.iter().enumerate() {
-        let Some(place) = queued_at(index, *event) else {
-            continue;
-        };
-        queue.push(place)?;
-    }
-    Ok(queue)
-}
-
-// How long each job waited that started, in the order of their starts, by this queue. Errors: `AllocError` when out of memory.
-fn waits_of(
-    alloc: Global,
-    events: &[Event],
+// The span of a job that ends at an index, if one ends there and it began.
+fn ended_span(
+    begun: &HashMap<(u16, u64), usize>,
+    id: Option<Id>,
     times: &[u64],
-    queue: &[usize],
-) -> Result<Vec<u64>, AllocError>
-    requires legal { (limits : Sizes) × IsLegal limits events.now }
-    requires queue { queue.now ≡ filter_map queued_at (placed events.now) }
-    ensures { IfOk result (λ spans. spans.items ≡ waits events.now times.now) }
+    index: usize,
+) -> Option<u64>
+    ensures { (all : List (Id × ℕ)) → AreBegun all begun.now → result ≡ option_and_then (λ id. option_map (λ from. span times.now from index) (begun_at all id)) id }
 {
-    let mut waits = Vec::new(alloc);
-    let mut taken = 0;
-    for (index, event) in events.iter().enumerate() {
-        let Some((_, start)) = start_at(*event) else {
-            continue;
-        };
-        let Start::Queued = start else {
-            waits.push(0)?;
-            continue;
-        };
-        let submitted = place_in(queue, taken);
-        waits.push(span(times, submitted, index))?;
-        taken += 1;
-    }
-    Ok(waits)
+    let Some(id) = id else {
+        return None;
+    };
+    let Some(from) = begun.get(&(id.caller, id.number)).copied() else {
+        return None;
+    };
+    Some(time_at(times, index).saturating_sub(time_at(times, from)))
 }
 
-// How long each job ran that is finished, in the order of their starts. Errors: `AllocError` when out of memory.
-fn runs_of(alloc: Global, events: &[Event], times: &[u64]) -> Result<Vec<u64>, AllocError>
-    requires { (limits : Sizes) × IsLegal limits events.now }
-    ensures { IfOk result (λ spans. spans.items ≡ runs events.now times.now) }
+// Adds a span to others, if it is one. Errors: `AllocError` when out of memory.
+fn push_some(spans: &mut Vec<u64>, span: Option<u64>) -> Result<(), AllocError>
+    ensures { OnOk result (spans.new.items ≡ spans.old.items ++ cons_option span []) }
 {
-    let mut runs = Vec::new(alloc);
+    let Some(span) = span else {
+        return Ok(());
+    };
+    spans.push(span)?;
+    Ok(())
+}
+
+// The spans of legal events, in the order in which they end. Errors: `AllocError` when out of memory.
+fn measured(
+    alloc: Global,
+    measure: Measure,
+    restated: usize,
+    events: &[JdkEvent],
+    times: &[u64],
+) -> Result<Vec<u64>, AllocError>
+    requires { (limits : Sizes) × IsLegal limits events.now }
+    ensures { IfOk result (λ lengths. lengths.items ≡ spans measure restated times.now events.now) }
+{
+    let mut load = Load::default();
+    let mut begun = HashMap::new(alloc);
+    let mut lengths = Vec::new(alloc);
     for (index, event) in events.iter().enumerate() {
-        let Some((id, _)) = start_at(*event) else {
-            continue;
-        };
-        let end = index + 1 + finish_in(&events[index + 1..], id);
-        if end < events.len() {
-            runs.push(span(times, index, end))?;
-        }
+        let id = begun_id(measure, restated, index, load, *event);
+        note(&mut begun, id, index)?;
+        let span = ended_span(&begun, ended_id(measure, *event), times, index);
+        push_some(&mut lengths, span)?;
+        load = load.after(*event);
     }
-    Ok(runs)
+    Ok(lengths)
 }
 
 // The number at a place, from 1, of some in ascending order.
@@ -153,26 +242,46 @@ pub(crate) fn ranks_of(spans: Vec<u64>) -> Ranks
     }
 }
 
-/// How long the jobs of a history waited and ran, up to its first illegal event, by this verdict and the times of its events.
+/// How long the jobs of legal events waited, by the times of the events. The first events, as many as `restated`, restate the state in
+/// which the record begins: what they submit has no wait.
 ///
 /// # Errors
 ///
 /// `AllocError` when out of memory.
-pub fn spans_of(
+pub fn waits_of_jdk(
     alloc: Global,
-    history: &[Event],
+    restated: usize,
+    events: &[JdkEvent],
     times: &[u64],
-    verdict: Verdict,
-) -> Result<Spans, AllocError>
-    requires { (limits : Sizes) × IsVerdict limits history.now verdict }
-    ensures { IfOk result (AreSpansOf (legal_part verdict history.now) times.now) }
+) -> Result<Ranks, AllocError>
+    requires { (limits : Sizes) × IsLegal limits events.now }
+    ensures { IfOk result (AreRanksOf (jdk_waits restated times.now events.now)) }
 {
-    let events = legal_part(history, verdict);
-    let queue = queue_of(alloc, events)?;
-    let waits = waits_of(alloc, events, times, &queue)?;
-    let runs = runs_of(alloc, events, times)?;
-    Ok(Spans {
-        waits: ranks_of(waits),
+    let waits = measured(alloc, Measure::Wait, restated, events, times)?;
+    Ok(ranks_of(waits))
+}
+
+/// How long the jobs of legal events waited and ran, and how long idle workers took to come, by the times of the events. The first
+/// events, as many as `restated`, restate the state in which the record begins: what they submit has no wait and no wake.
+///
+/// # Errors
+///
+/// `AllocError` when out of memory.
+pub fn spans_of_jdk(
+    alloc: Global,
+    restated: usize,
+    events: &[JdkEvent],
+    times: &[u64],
+) -> Result<JdkSpans, AllocError>
+    requires { (limits : Sizes) × IsLegal limits events.now }
+    ensures { IfOk result (AreJdkSpansOf restated events.now times.now) }
+{
+    let waits = waits_of_jdk(alloc, restated, events, times)?;
+    let runs = measured(alloc, Measure::Run, restated, events, times)?;
+    let wakes = measured(alloc, Measure::Wake, restated, events, times)?;
+    Ok(JdkSpans {
+        waits,
         runs: ranks_of(runs),
+        wakes: ranks_of(wakes),
     })
 }

@@ -1,33 +1,29 @@
-//! What a history comes to in numbers.
+//! What a history of any version comes to in numbers, by the whole rule of the JDK's `ThreadPoolExecutor`.
 //!
-//! The history is audited, and what comes before its first illegal event is gone over once. An event
-//! raises the counts that it belongs to, and costs the same however long the history is. How many
-//! jobs wait and run, and how many workers there are, follows from the counts of a legal history, so
-//! the greatest of them are kept event by event.
+//! The events are legal. They are gone over once for each kind of number, with the load of the pool where a number depends on it. The
+//! first events may restate the state in which a record begins: what they submit counts in no submission.
 
-ghost use Rattle.std.specs.Prelude.{◌≡◌, ◌<◌, ◌+◌, ◌++◌, ◌∷◌, [], ◌^◌, ℕ, List, length, filter, filter_map, max, IfOk, OnOk};
+ghost use Rattle.std.specs.Prelude.{◌≡◌, ◌<◌, ◌+◌, ◌-◌, ◌++◌, ◌∷◌, [], ◌^◌, ℕ, List, length, max, nat_lt, take, drop, IfOk, OnOk};
 ghost use Rattle.std.specs.Ordering.{nat_cmp};
 ghost use Rattle.std.specs.BTreeMap.{IsOrdered};
-ghost use Rattle.std.specs.BTreeMap as tree;
-ghost use Rattle.resil_rule.specs.Admission.{IsLegal};
-ghost use Rattle.resil_rule.specs.History.{finished, is_idle_end, new_core, queued, running, taken, waiting, workers};
 ghost use Rattle.resil_rule.specs.Limits.{Sizes};
-ghost use Rattle.resil_rule.specs.Verdict.{IsVerdict};
-ghost use Rattle.resil_rule.specs.declared.event.Event.{Event};
-ghost use Rattle.resil_stats.specs.Stats.{AreCallersOf, AreCountsOf, AreLegalCounts, AreMost, HasRoomFor, IsLoadAfter, IsMost, MayGrow, caller_stats, is_closed_reply, is_core_reply, is_extra_reply, is_full_reply, is_submit, legal_part, never_started, with_reply};
+ghost use Rattle.resil_jdk.specs.Admission.{IsLegal};
+ghost use Rattle.resil_jdk.specs.declared.event.JdkEvent.{JdkEvent};
+ghost use Rattle.resil_stats.specs.Stats.{AreAnswersOf, AreJdkCallersOf, AreJdkCountsOf, AreJdkMost, AreJdkStatsOf, HasRoomFor, IsJdkLoadAfter, IsMoved, MayBeAnswered, MayBeCounted, MayCome, MayMove, has_idle, idle, is_accepting, with_submission};
 
-use resil_rule::{Event, Limits, Reply, Verdict, audit};
+use resil_jdk::{JdkEvent, JdkReply};
+use resil_rule::Verdict;
 use std::alloc::{AllocError, Global};
 use std::collections::BTreeMap;
 
-/// How often each kind of event happened.
+/// What submissions were answered. Those that restate a state don't count.
 #[derive(Clone, Copy, Default)]
-pub struct Counts {
+pub struct JdkAnswers {
     /// The submissions, refused ones too.
     pub submissions: usize,
     /// The submissions that got a new worker below the core size.
     pub core: usize,
-    /// The submissions that were put into the queue.
+    /// The submissions that were put into the queue, while there was a worker.
     pub queued: usize,
     /// The submissions that got a new worker above the core size.
     pub extra: usize,
@@ -35,52 +31,86 @@ pub struct Counts {
     pub full: usize,
     /// The submissions that were refused since the pool was closed.
     pub closed: usize,
+    /// The submissions that were put into the queue with a new worker, since there was none.
+    pub first: usize,
+    /// The submissions that were handed to an idle worker.
+    pub handed: usize,
+    /// Those of `full` before which a worker was idle.
+    pub refused_idle: usize,
+    /// Those of `extra` before which a worker was idle.
+    pub extra_idle: usize,
+}
+
+impl JdkAnswers {
+    // Counts one more event, before which a worker was idle or none was.
+    #[tactic(auto, using(crate::proofs::CountLaws::filter_few, crate::proofs::CountLaws::filter_more, crate::proofs::CountLaws::idle_few, crate::proofs::CountLaws::idle_more))]
+    fn record(&mut self, event: JdkEvent, is_idle: bool)
+        requires { MayBeAnswered self.old }
+        ensures { (before events : List JdkEvent) → AreAnswersOf before events self.old → is_idle ≡ has_idle (before ++ events) → AreAnswersOf before (events ++ event ∷ []) self.new }
+    {
+        let JdkEvent::Submit { reply, .. } = event else {
+            return;
+        };
+        self.submissions += 1;
+        match reply {
+            JdkReply::Core => self.core += 1,
+            JdkReply::First => self.first += 1,
+            JdkReply::Queued => self.queued += 1,
+            JdkReply::Handed => self.handed += 1,
+            JdkReply::Extra => {
+                self.extra += 1;
+                self.extra_idle += usize::from(is_idle);
+            }
+            JdkReply::Full => {
+                self.full += 1;
+                self.refused_idle += usize::from(is_idle);
+            }
+            JdkReply::Closed => self.closed += 1,
+        }
+    }
+}
+
+/// How often each event happened that is no submission.
+#[derive(Clone, Copy, Default)]
+pub struct JdkCounts {
     /// The jobs that a worker took from the queue.
     pub taken: usize,
     /// The jobs that a worker finished.
     pub finished: usize,
-    /// The workers that ended for want of jobs.
+    /// The idle workers that ended while nothing waited.
     pub idle_ends: usize,
     /// The changes of the sizes.
     pub resizes: usize,
+    /// The workers that began without a job.
+    pub started: usize,
+    /// The workers that ended though jobs might wait.
+    pub culled: usize,
+    /// The jobs that left the queue without a worker.
+    pub removed: usize,
+    /// The stops of the pool.
+    pub stops: usize,
+    /// How often it was set whether core workers time out.
+    pub time_outs: usize,
 }
 
-impl Counts {
-    /// Counts one more event.
-    #[tactic(auto, using(crate::proofs::CountLaws::filter_few, crate::proofs::CountLaws::made_few, crate::proofs::CountLaws::filter_more, crate::proofs::CountLaws::made_more))]
-    pub fn record(&mut self, event: Event)
-        requires { MayGrow self.old }
-        ensures { (history : List Event) → AreCountsOf history self.old → AreCountsOf (history ++ event ∷ []) self.new }
+impl JdkCounts {
+    // Counts one more event.
+    #[tactic(auto, using(crate::proofs::CountLaws::filter_few, crate::proofs::CountLaws::filter_more, crate::proofs::CountLaws::made_few, crate::proofs::CountLaws::made_more))]
+    fn record(&mut self, event: JdkEvent)
+        requires { MayBeCounted self.old }
+        ensures { (history : List JdkEvent) → AreJdkCountsOf history self.old → AreJdkCountsOf (history ++ event ∷ []) self.new }
     {
         match event {
-            Event::Submit { reply, .. } => {
-                self.submissions += 1;
-                match reply {
-                    Reply::Core => self.core += 1,
-                    Reply::Queued => self.queued += 1,
-                    Reply::Extra => self.extra += 1,
-                    Reply::Full => self.full += 1,
-                    Reply::Closed => self.closed += 1,
-                }
-            }
-            Event::Take(_) => self.taken += 1,
-            Event::Finish(_) => self.finished += 1,
-            Event::IdleEnd => self.idle_ends += 1,
-            Event::Close => {}
-            Event::Resized { .. } => self.resizes += 1,
-        }
-    }
-
-    /// How many jobs wait and run after the events, and how many workers there are.
-    pub fn load(&self) -> Load
-        requires { AreLegalCounts self.now }
-        ensures { (limits : Sizes) (history : List Event) → IsLegal limits history → AreCountsOf history self.now → IsLoadAfter history result }
-    {
-        let started = self.core + self.extra;
-        Load {
-            waiting: self.queued - self.taken,
-            running: started + self.taken - self.finished,
-            workers: started - self.idle_ends,
+            JdkEvent::Submit { .. } | JdkEvent::Close => {}
+            JdkEvent::Take(_) => self.taken += 1,
+            JdkEvent::Finish(_) => self.finished += 1,
+            JdkEvent::IdleEnd => self.idle_ends += 1,
+            JdkEvent::Resized { .. } => self.resizes += 1,
+            JdkEvent::Start => self.started += 1,
+            JdkEvent::Cull => self.culled += 1,
+            JdkEvent::Remove(_) => self.removed += 1,
+            JdkEvent::Stop => self.stops += 1,
+            JdkEvent::TimeOut(_) => self.time_outs += 1,
         }
     }
 }
@@ -109,6 +139,55 @@ impl Load {
             workers: self.workers.max(other.workers),
         }
     }
+
+    // What an event makes of a load.
+    fn moved(self, event: JdkEvent) -> Load
+        requires { MayMove self event }
+        ensures { IsMoved self event result }
+    {
+        let mut load = self;
+        match event {
+            JdkEvent::Submit { reply, .. } => match reply {
+                JdkReply::Core | JdkReply::Extra => {
+                    load.running += 1;
+                    load.workers += 1;
+                }
+                JdkReply::First => {
+                    load.waiting += 1;
+                    load.workers += 1;
+                }
+                JdkReply::Queued => load.waiting += 1,
+                JdkReply::Handed => load.running += 1,
+                JdkReply::Full | JdkReply::Closed => {}
+            },
+            JdkEvent::Take(_) => {
+                load.waiting -= 1;
+                load.running += 1;
+            }
+            JdkEvent::Finish(_) => load.running -= 1,
+            JdkEvent::Remove(_) => load.waiting -= 1,
+            JdkEvent::Start => load.workers += 1,
+            JdkEvent::IdleEnd | JdkEvent::Cull => load.workers -= 1,
+            JdkEvent::Close | JdkEvent::Resized { .. } | JdkEvent::Stop | JdkEvent::TimeOut(_) => {}
+        }
+        load
+    }
+
+    /// The load after one more event of a legal history.
+    pub fn after(self, event: JdkEvent) -> Load
+        requires { MayCome self event }
+        ensures { (limits : Sizes) (history : List JdkEvent) → IsLegal limits (history ++ event ∷ []) → IsJdkLoadAfter history self → IsJdkLoadAfter (history ++ event ∷ []) result }
+    {
+        self.moved(event)
+    }
+
+    /// How many workers run no job.
+    pub(crate) fn idle(self) -> usize
+        ensures number { result ≡ self.workers - self.running }
+        ensures after { (history : List JdkEvent) → IsJdkLoadAfter history self → result ≡ idle history }
+    {
+        self.workers.saturating_sub(self.running)
+    }
 }
 
 /// What one caller submitted.
@@ -129,51 +208,37 @@ pub struct CallerStats {
 }
 
 impl CallerStats {
-    // The numbers with one more submission, by its reply.
-    fn with(self, reply: Reply) -> CallerStats
+    // The numbers with one more submission, which is accepted or refused.
+    fn with_submission(self, is_accepted: bool) -> CallerStats
         requires { HasRoomFor self }
-        ensures { result ≡ with_reply self reply }
+        ensures { result ≡ with_submission self is_accepted }
     {
         let mut more = self;
         more.submissions += 1;
-        match reply {
-            Reply::Core | Reply::Queued | Reply::Extra => more.accepted += 1,
-            Reply::Full | Reply::Closed => more.refused += 1,
+        if is_accepted {
+            more.accepted += 1;
+        } else {
+            more.refused += 1;
         }
         more
     }
 }
 
-// Counts one more event for its caller, where it is a submission. Errors, with nothing counted: `AllocError` where
-// memory runs out.
-fn record_caller(callers: &mut BTreeMap<u16, CallerStats>, event: Event) -> Result<(), AllocError>
-    requires room { (history : List Event) × AreCallersOf history callers.old × (length history + 1 < 2 ^ 64) }
-    requires ordered { IsOrdered nat_cmp callers.old }
-    ensures counted { OnOk result ((history : List Event) → AreCallersOf history callers.old → AreCallersOf (history ++ event ∷ []) callers.new) }
-    ensures ordered { IsOrdered nat_cmp callers.new }
-{
-    let Event::Submit { id, reply } = event else {
-        return Ok(());
-    };
-    let nothing = CallerStats::default();
-    let before = callers.get(&id.caller).copied().unwrap_or(nothing);
-    callers.insert(id.caller, before.with(reply))?;
-    Ok(())
-}
-
 /// The numbers of a history, up to its first illegal event.
 ///
 /// ```
-/// let stats = count(alloc, &limits, &history)?;
-/// println!(rt; "{} of {} refused", stats.counts.full, stats.counts.submissions)?;
+/// let stats = count_jdk(alloc, Verdict::Legal, 0, &history)?;
+/// println!(rt; "{} refused, {} while a worker was idle", stats.answers.full, stats.answers.refused_idle)?;
 /// ```
 #[derive(Drop)]
-pub struct Stats {
-    /// How often each kind of event happened.
-    pub counts: Counts,
+pub struct JdkStats {
+    /// What the submissions were answered.
+    pub answers: JdkAnswers,
+    /// How often each other event happened.
+    pub counts: JdkCounts,
     /// The greatest of each number over all moments, the one before the first event too.
     pub most: Load,
-    /// The jobs that were accepted, and that no worker started.
+    /// The jobs that were accepted, and that no worker ran.
     pub never_started: usize,
     /// What each caller submitted, for those that did, by their number.
     pub callers: BTreeMap<u16, CallerStats>,
@@ -181,82 +246,120 @@ pub struct Stats {
     pub verdict: Verdict,
 }
 
-/// The events of a history that are counted, by its verdict.
-pub(crate) fn legal_part(history: &[Event], verdict: Verdict) -> &[Event]
-    requires { (limits : Sizes) × IsVerdict limits history.now verdict }
-    ensures events { result.now ≡ legal_part verdict history.now }
-    ensures legal { (limits : Sizes) → IsVerdict limits history.now verdict → IsLegal limits result.now }
+// How often each event happened that is no submission.
+fn counts_of(events: &[JdkEvent]) -> JdkCounts
+    ensures { AreJdkCountsOf events.now result }
 {
-    match verdict {
-        Verdict::Legal => history,
-        Verdict::FirstIllegal(position) => &history[..position - 1],
+    let mut counts = JdkCounts::default();
+    for event in events {
+        counts.record(*event);
     }
+    counts
 }
 
-/// The numbers of events that are legal already, as those before the first illegal one, and what the audit says of their history.
+// The greatest load over all moments, and the last one.
+#[derive(Clone, Copy)]
+struct Levels {
+    most: Load,
+    last: Load,
+}
+
+// The loads of legal events.
+fn levels_of(events: &[JdkEvent]) -> Levels
+    requires { (limits : Sizes) × IsLegal limits events.now }
+    ensures most { AreJdkMost events.now result.most }
+    ensures last { IsJdkLoadAfter events.now result.last }
+{
+    let mut most = Load::default();
+    let mut last = Load::default();
+    for event in events {
+        last = last.after(*event);
+        most = most.max(last);
+    }
+    Levels { most, last }
+}
+
+// What events were answered that follow others.
+fn answers_of(before: &[JdkEvent], events: &[JdkEvent]) -> JdkAnswers
+    requires legal { (limits : Sizes) × IsLegal limits (before.now ++ events.now) }
+    requires short { length before.now + length events.now < 2 ^ 64 }
+    ensures { AreAnswersOf before.now events.now result }
+{
+    let mut load = levels_of(before).last;
+    let mut answers = JdkAnswers::default();
+    for event in events {
+        answers.record(*event, load.idle() > 0);
+        load = load.after(*event);
+    }
+    answers
+}
+
+// Whether a job is accepted by a reply.
+fn is_accepting(reply: JdkReply) -> bool
+    ensures { result ≡ is_accepting reply }
+{
+    !matches!(reply, JdkReply::Full | JdkReply::Closed)
+}
+
+// Counts one more event for its caller, where it is a submission. Errors, with nothing counted: `AllocError` when out of memory.
+fn record_caller(
+    callers: &mut BTreeMap<u16, CallerStats>,
+    event: JdkEvent,
+) -> Result<(), AllocError>
+    requires room { (history : List JdkEvent) × AreJdkCallersOf history callers.old × (length history + 1 < 2 ^ 64) }
+    requires ordered { IsOrdered nat_cmp callers.old }
+    ensures counted { OnOk result ((history : List JdkEvent) → AreJdkCallersOf history callers.old → AreJdkCallersOf (history ++ event ∷ []) callers.new) }
+    ensures ordered { IsOrdered nat_cmp callers.new }
+{
+    let JdkEvent::Submit { id, reply } = event else {
+        return Ok(());
+    };
+    let nothing = CallerStats::default();
+    let before = callers.get(&id.caller).copied().unwrap_or(nothing);
+    callers.insert(id.caller, before.with_submission(is_accepting(reply)))?;
+    Ok(())
+}
+
+// What each caller submitted. Errors: `AllocError` when out of memory.
+fn callers_of(alloc: Global, events: &[JdkEvent]) -> Result<BTreeMap<u16, CallerStats>, AllocError>
+    ensures callers { IfOk result (AreJdkCallersOf events.now) }
+    ensures ordered { IfOk result (IsOrdered nat_cmp) }
+{
+    let mut callers = BTreeMap::new(alloc);
+    for event in events {
+        record_caller(&mut callers, *event)?;
+    }
+    Ok(callers)
+}
+
+/// The numbers of events that are legal by the whole rule, as those before the first illegal one of a history with this verdict. The
+/// first events, as many as `restated`, restate the state in which the record begins.
 ///
 /// # Errors
 ///
 /// `AllocError` when out of memory.
-pub fn count_legal(alloc: Global, verdict: Verdict, events: &[Event]) -> Result<Stats, AllocError>
+pub fn count_jdk(
+    alloc: Global,
+    verdict: Verdict,
+    restated: usize,
+    events: &[JdkEvent],
+) -> Result<JdkStats, AllocError>
     requires { (limits : Sizes) × IsLegal limits events.now }
-    ensures counts { IfOk result (λ stats. AreCountsOf events.now stats.counts) }
-    ensures most { IfOk result (λ stats. AreMost events.now stats.most) }
-    ensures never_started { IfOk result (λ stats. stats.never_started ≡ length (never_started events.now)) }
-    ensures callers { IfOk result (λ stats. AreCallersOf events.now stats.callers) }
-    ensures ordered { IfOk result (λ stats. IsOrdered nat_cmp stats.callers) }
+    ensures numbers { IfOk result (AreJdkStatsOf restated events.now) }
     ensures verdict { IfOk result (λ stats. stats.verdict ≡ verdict) }
 {
-    let mut counts = Counts::default();
-    let mut most = Load::default();
-    let mut callers = BTreeMap::new(alloc);
-    for event in events {
-        counts.record(*event);
-        most = most.max(counts.load());
-        record_caller(&mut callers, *event)?;
-    }
-    Ok(Stats {
+    let first = restated.min(events.len());
+    let (before, counted) = (&events[..first], &events[first..]);
+    let callers = callers_of(alloc, counted)?;
+    let answers = answers_of(before, counted);
+    let counts = counts_of(events);
+    let Levels { most, last } = levels_of(events);
+    Ok(JdkStats {
+        answers,
         counts,
         most,
-        never_started: counts.queued - counts.taken,
+        never_started: last.waiting + counts.removed,
         callers,
         verdict,
     })
-}
-
-/// The numbers of a history under these limits, up to its first illegal event.
-///
-/// # Errors
-///
-/// `AllocError` when out of memory.
-///
-/// ```
-/// let limits = Limits::new(1, 1, 1)?;
-/// let stats = count(alloc, &limits, &[Event::Close, Event::Close])?;
-/// assert_eq!(rt; stats.verdict, Verdict::FirstIllegal(2));
-/// ```
-pub fn count(alloc: Global, limits: &Limits, history: &[Event]) -> Result<Stats, AllocError>
-    ensures verdict { IfOk result (λ stats. IsVerdict limits.now history.now stats.verdict) }
-    ensures submissions { IfOk result (λ stats. stats.counts.submissions ≡ length (filter is_submit (legal_part stats.verdict history.now))) }
-    ensures core { IfOk result (λ stats. stats.counts.core ≡ length (filter is_core_reply (legal_part stats.verdict history.now))) }
-    ensures queued { IfOk result (λ stats. stats.counts.queued ≡ length (queued (legal_part stats.verdict history.now))) }
-    ensures extra { IfOk result (λ stats. stats.counts.extra ≡ length (filter is_extra_reply (legal_part stats.verdict history.now))) }
-    ensures full { IfOk result (λ stats. stats.counts.full ≡ length (filter is_full_reply (legal_part stats.verdict history.now))) }
-    ensures closed { IfOk result (λ stats. stats.counts.closed ≡ length (filter is_closed_reply (legal_part stats.verdict history.now))) }
-    ensures taken { IfOk result (λ stats. stats.counts.taken ≡ length (taken (legal_part stats.verdict history.now))) }
-    ensures finished { IfOk result (λ stats. stats.counts.finished ≡ length (finished (legal_part stats.verdict history.now))) }
-    ensures idle_ends { IfOk result (λ stats. stats.counts.idle_ends ≡ length (filter is_idle_end (legal_part stats.verdict history.now))) }
-    ensures resizes { IfOk result (λ stats. stats.counts.resizes ≡ length (filter_map new_core (legal_part stats.verdict history.now))) }
-    ensures most_waiting { IfOk result (λ stats. IsMost (λ events. length (waiting events)) (legal_part stats.verdict history.now) stats.most.waiting) }
-    ensures most_running { IfOk result (λ stats. IsMost (λ events. length (running events)) (legal_part stats.verdict history.now) stats.most.running) }
-    ensures most_workers { IfOk result (λ stats. IsMost workers (legal_part stats.verdict history.now) stats.most.workers) }
-    ensures never_started { IfOk result (λ stats. stats.never_started ≡ length (never_started (legal_part stats.verdict history.now))) }
-    ensures callers { IfOk result (λ stats. (caller : ℕ) → tree.get nat_cmp stats.callers caller ≡ caller_stats (legal_part stats.verdict history.now) caller) }
-    ensures ascending { IfOk result (λ stats. IsOrdered nat_cmp stats.callers) }
-{
-    // The only error of an audit is that memory runs out.
-    let Ok(verdict) = audit(alloc, limits, history) else {
-        return Err(AllocError);
-    };
-    count_legal(alloc, verdict, legal_part(history, verdict))
 }

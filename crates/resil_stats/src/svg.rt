@@ -32,7 +32,7 @@ use elements::push_elements;
 use frame::{ending_text, ground_text, opening_text, push_name, push_style, write_frame};
 use jobs::{write_labels, write_rows, write_running};
 use over::write_over;
-use page::Page;
+use page::{Clock, Page};
 use sheet::{Sheet, points_of};
 use std::alloc::{AllocError, Global};
 use std::fmt::Display;
@@ -67,6 +67,13 @@ impl Draft {
         }
     }
 
+    /// Adds the time of day of an element's title, where it is known.
+    pub(crate) fn put_clock(&mut self, clock: Option<Clock>) {
+        if let Some(clock) = clock {
+            put!(self; ", {clock} UTC");
+        }
+    }
+
     /// What was made to be written, or that memory ran out for it.
     pub(crate) fn made(&mut self, made: Result<String, AllocError>) -> Option<String> {
         if made.is_err() {
@@ -92,11 +99,11 @@ fn push_part(text: &mut String, part: Result<String, AllocError>) -> Result<(), 
 // What is written before the bars, or the columns, and so lies below them. Errors: `AllocError` when out of memory.
 fn front_text(sheet: &Sheet, picture: &Picture) -> Result<String, AllocError> {
     let mut draft = Draft::new(sheet.alloc);
-    write_frame(&mut draft, &sheet.page, picture);
-    if picture.columns.is_empty() {
-        write_rows(&mut draft, &sheet.page);
-    } else {
+    write_frame(&mut draft, sheet, picture);
+    if picture.drawn.is_gathered() {
         write_running(&mut draft, sheet, picture);
+    } else {
+        write_rows(&mut draft, &sheet.page);
     }
     write_bands(&mut draft, sheet, picture);
     write_over(&mut draft, &sheet.page, picture);
@@ -119,7 +126,7 @@ fn push_each(text: &mut String, sheet: &Sheet, picture: &Picture) -> Result<(), 
     ensures { OnOk result (IsAddition (IsEachDrawn picture.now) (string_bytes text.old) (string_bytes text.new)) }
 {
     push_part(text, front_text(sheet, picture))?;
-    push_elements(text, sheet, &picture.bars)?;
+    push_elements(text, sheet, &picture.drawn.bars)?;
     push_part(text, labels_text(sheet, picture))?;
     push_elements(text, sheet, &picture.marks)?;
     push_part(text, ending_text(sheet, picture))?;
@@ -131,7 +138,7 @@ fn push_gathered(text: &mut String, sheet: &Sheet, picture: &Picture) -> Result<
     ensures { OnOk result (IsAddition (IsGatheredDrawn picture.now) (string_bytes text.old) (string_bytes text.new)) }
 {
     push_part(text, front_text(sheet, picture))?;
-    push_elements(text, sheet, &picture.columns)?;
+    push_elements(text, sheet, &picture.drawn.columns)?;
     push_part(text, ending_text(sheet, picture))?;
     Ok(())
 }
@@ -140,11 +147,22 @@ fn push_gathered(text: &mut String, sheet: &Sheet, picture: &Picture) -> Result<
 fn push_rest(text: &mut String, sheet: &Sheet, picture: &Picture) -> Result<(), AllocError>
     ensures { OnOk result (IsAddition (IsRestDrawn picture.now) (string_bytes text.old) (string_bytes text.new)) }
 {
-    if picture.columns.is_empty() {
+    if picture.drawn.columns.is_empty() {
         push_each(text, sheet, picture)
     } else {
         push_gathered(text, sheet, picture)
     }
+}
+
+/// What a picture says that isn't in its history.
+#[derive(Clone, Copy)]
+pub struct Caption<'a> {
+    /// A name, empty where there is none.
+    pub name: &'a str,
+    /// When the first event was, if that is known: in microseconds since midnight, UTC.
+    pub began: Option<u64>,
+    /// The first illegal event, if there is one, and what the rule says there.
+    pub illegal: &'a str,
 }
 
 /// The text of a picture, laid out by the times of its events where they have some, with the results of its jobs. It begins with
@@ -156,25 +174,26 @@ fn push_rest(text: &mut String, sheet: &Sheet, picture: &Picture) -> Result<(), 
 /// `AllocError` when out of memory.
 pub fn svg_text(
     alloc: Global,
-    name: &str,
+    caption: Caption,
     picture: &Picture,
     times: Option<&[u64]>,
     outcomes: &Outcomes,
 ) -> Result<Vec<u8>, AllocError>
-    ensures { IfOk result (λ text. IsSvgOf name.now picture.now text.items) }
+    ensures { IfOk result (λ text. IsSvgOf caption.entry.name.now picture.now text.items) }
 {
-    let page = Page::of(picture, times);
+    let page = Page::of(picture, times, caption.began);
     let points = points_of(alloc, &page, picture)?;
     let sheet = Sheet {
         alloc,
         page,
         points: &points,
         outcomes,
+        caption,
     };
     let mut text = opening_text(alloc, picture.levels.len())?;
-    push_part(&mut text, ground_text(&sheet, picture, name))?;
+    push_part(&mut text, ground_text(&sheet, picture))?;
     push_style(&mut text)?;
-    push_name(&mut text, name)?;
+    push_name(&mut text, caption.name)?;
     match push_rest(&mut text, &sheet, picture) {
         Ok(()) => Ok(text.into_bytes()),
         Err(error) => Err(error),

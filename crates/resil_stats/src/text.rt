@@ -8,9 +8,8 @@ ghost use Rattle.std.specs.Prelude.{◌≡◌, IfOk, OnOk, string_bytes, true};
 ghost use Rattle.resil_input.specs.CsvTable.{record_text, table_text};
 ghost use Rattle.resil_stats.specs.Text.{IsExtended, caller_records, callers_records, span_fields, spans_records, stats_records, stats_text, total_fields, total_records, verdict_fields, whole_records};
 
-use crate::stats::CallerStats;
-use crate::whole::JdkStats;
-use crate::whole_spans::JdkSpans;
+use crate::spans::JdkSpans;
+use crate::stats::{CallerStats, JdkStats};
 use resil_rule::Verdict;
 use std::alloc::{AllocError, Global};
 use std::collections::BTreeMap;

@@ -1,16 +1,19 @@
-//! The two ends of what one thread hands over to another, once.
+//! The two ends of what one thread passes to another, once.
 
 ghost use Rattle.std.specs.Prelude.{◌≡◌, true, false, IfOk, IfErr};
 ghost use Rattle.std.specs.Arc.{arc_value};
+ghost use Rattle.std.specs.Duration.{as_nanos};
+ghost use Rattle.resil_clock.specs.Waits.{IsOutOfTime};
 
 use crate::mailbox::Mailbox;
 use counted_slot::Fits;
+use resil_clock::Reads;
 use std::alloc::{AllocError, Global};
 use std::marker::Model;
 use std::sync::{Arc, Wait};
-use std::time::{Clock, Duration};
+use std::time::Duration;
 
-/// What is sent by another thread, and comes once. It may be dropped at any time. Contracts see its
+/// The receiving end of a value that another thread sends once. It may be dropped at any time. Contracts see its
 /// tag: what an answer has to fit.
 ///
 /// ```
@@ -31,8 +34,8 @@ impl<X: Fits> Model for Receiver<X> {
     ghost view = { λ receiver. arc_value receiver.mailbox };
 }
 
-// What is sent with to a `Receiver`. It can't be dropped, and it is let go only once something was sent, or with the
-// `Receiver` itself. So whoever has it sends something, or nobody waits.
+// The sending end for a `Receiver`. It can't be dropped, and it is given up only once something was sent, or with
+// the `Receiver` itself. So its owner sends something, or nobody waits.
 pub(crate) struct Sender<X: Fits> {
     mailbox: Arc<Mailbox<X>>,
     is_sent: bool,
@@ -47,7 +50,7 @@ impl<X: Fits> Model for Sender<X> {
     ghost view = { λ sender. record { tag = arc_value sender.mailbox; is_sent = sender.is_sent } };
 }
 
-// The two ends for what fits this tag, in one allocation.
+// Makes the two ends for what fits this tag, in one allocation.
 pub(crate) fn two_ends<X: Fits + Drop>(
     alloc: Global,
     tag: &X::Tag,
@@ -64,7 +67,7 @@ pub(crate) fn two_ends<X: Fits + Drop>(
 }
 
 impl<X: Fits + Drop> Sender<X> {
-    // Sends it, and wakes whoever waits for it.
+    // Sends the value, and wakes a thread that waits for it.
     pub(crate) fn send(self, sent: X) -> Sender<X>
         requires fits { X.fits self.tag sent }
         requires once { self.is_sent ≡ false }
@@ -82,7 +85,7 @@ impl<X: Fits + Drop> Sender<X> {
         }
     }
 
-    // Lets it go, once something was sent.
+    // Gives this end up, once something was sent.
     pub(crate) fn close(self)
         requires sent { self.is_sent ≡ true }
     {
@@ -92,7 +95,7 @@ impl<X: Fits + Drop> Sender<X> {
         } = self;
     }
 
-    // Lets it go without sending, with what its sending would be waited for with: nobody waits any longer.
+    // Gives this end up without sending, together with the receiving end: nobody waits any longer.
     pub(crate) fn leave(self, receiver: Receiver<X>)
         requires ends { receiver ≡ self.tag }
     {
@@ -105,18 +108,18 @@ impl<X: Fits + Drop> Sender<X> {
 }
 
 impl<X: Fits + Drop> Receiver<X> {
-    /// Waits until it comes. What comes was sent by the other end: nothing here can make one.
+    /// Waits until the value comes. It was sent by the other end: nothing here can make one.
     pub fn wait<R: Wait>(self, rt: &R) -> X
         ensures { X.fits self result }
     {
         self.mailbox.take_once_sent(rt)
     }
 
-    /// Waits for so long at most.
+    /// Waits for at most `duration`.
     ///
     /// # Errors
-    /// Itself, where nothing came in that time, or the clock couldn't be read and nothing is there. It
-    /// can be waited for again.
+    /// The receiver itself, if nothing came in that time, or if the clock couldn't be read and nothing
+    /// is there. You can wait for it again.
     ///
     /// ```
     /// let (half_to, half) = one_shot::<Half>(alloc, &30)?;
@@ -125,17 +128,18 @@ impl<X: Fits + Drop> Receiver<X> {
     ///     show(half);
     /// }
     /// ```
-    pub fn wait_for<R: Wait + Clock>(self, rt: &R, duration: Duration) -> Result<X, Receiver<X>>
+    pub fn wait_for<R: Wait + Reads>(self, rt: &R, duration: Duration) -> Result<X, Receiver<X>>
         ensures fits { IfOk result (X.fits self) }
         ensures back { IfErr result (λ receiver. receiver ≡ self) }
+        ensures out_of_time { IfErr result (λ _. IsOutOfTime (R.HasSaid rt.now) (as_nanos duration)) }
     {
         self.mailbox.take_within(rt, duration).ok_or(self)
     }
 
-    /// What was sent, if it is there. It never waits.
+    /// Returns the value that was sent, if it is there. It never waits.
     ///
     /// # Errors
-    /// Itself, where nothing has come yet.
+    /// The receiver itself, if nothing has come yet.
     pub fn try_take(self) -> Result<X, Receiver<X>>
         ensures fits { IfOk result (X.fits self) }
         ensures back { IfErr result (λ receiver. receiver ≡ self) }

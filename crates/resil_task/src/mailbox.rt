@@ -1,35 +1,38 @@
-//! The mailbox: where what was sent lies until it is taken, and what its receiver sleeps on.
+//! The mailbox: it keeps what was sent until it is taken, and its receiver sleeps on it.
 //!
-//! The word beside the value is plain, and no clause speaks of it: contracts hold whether or not it wakes anybody. A
-//! receiver says that it will sleep before it looks at the word for the last time, and the sender writes the word
-//! behind the value. So one of them sees the other, and no wake-up is lost. This isn't proved. If it were wrong, time
-//! would be lost and nothing else: a sleep ends after 50 ms at most.
+//! The word next to the value is plain, and no clause mentions it: contracts hold whether or not it wakes anybody. A
+//! receiver marks that it will sleep before it reads the word for the last time, and the sender writes the word after
+//! the value. So one of them sees the other, and no wake-up is lost. This isn't proved. If it were wrong, it would only
+//! cost time: a sleep ends after at most 50 ms.
 //!
-//! Only a receiver that sleeps, or is about to, costs the sender a call of the system.
+//! Only a receiver that sleeps, or is about to, costs the sender a system call.
 
-ghost use Rattle.std.specs.Prelude.{◌≡◌, IfSome};
+ghost use Rattle.std.specs.Prelude.{◌≡◌, IfSome, IfNone};
+ghost use Rattle.std.specs.Duration.{as_nanos};
+ghost use Rattle.resil_clock.specs.Waits.{IsOutOfTime};
 
 use counted_slot::{Counted, FREE, Fits, PRESENT, TAKEN};
+use resil_clock::{Reads, TimeLeft};
 use std::marker::Model;
 use std::sync::Wait;
 use std::sync::atomic::AtomicU64;
 use std::sync::atomic::Ordering::SeqCst;
-use std::time::{Clock, Duration, Instant};
+use std::time::Duration;
 
-// How often a receiver looks at the word before it sleeps.
+// How often a receiver reads the word before it sleeps.
 const LOOKS: u32 = 200;
 
 // The longest sleep, in milliseconds.
 const LONGEST_SLEEP: u64 = 50;
 
-// Nothing is sent, and nobody sleeps.
+// Nothing was sent, and nobody sleeps.
 const AWAKE: u64 = 0;
-// Nothing is sent, and the receiver sleeps or is about to.
+// Nothing was sent, and the receiver sleeps or is about to.
 const ASLEEP: u64 = 1;
 // Something was sent.
 const SENT: u64 = 2;
 
-/// What lies between one sender and one receiver. Contracts see the tag that its value fits.
+/// A mailbox between one sender and one receiver. Contracts see the tag that its value fits.
 #[derive(Drop)]
 pub(crate) struct Mailbox<X: Fits> {
     value: Counted<Option<X>>,
@@ -98,22 +101,26 @@ impl<X: Fits + Drop> Mailbox<X> {
         unreachable!()
     }
 
-    /// The same for so long at most. It gives nothing where nothing was sent by then, or where the clock can't be read.
-    pub(crate) fn take_within<R: Wait + Clock>(&self, rt: &R, duration: Duration) -> Option<X>
-        ensures { IfSome result (X.fits self.now) }
+    /// Waits for at most `duration`. It returns nothing if nothing was sent by then, or if the clock can't be read.
+    pub(crate) fn take_within<R: Wait + Reads>(&self, rt: &R, duration: Duration) -> Option<X>
+        ensures fits { IfSome result (X.fits self.now) }
+        ensures out_of_time { IfNone result (IsOutOfTime (R.HasSaid rt.now) (as_nanos duration)) }
     {
-        let started = Instant::now(rt).ok();
+        if let Some(sent) = self.take() {
+            return Some(sent);
+        }
+        let mut time = TimeLeft::start(rt, duration)?;
         for _ in rt.forever() {
             if let Some(sent) = self.take() {
                 return Some(sent);
             }
-            let left = time_left(rt, started, duration)?;
+            let left = time.left(rt)?;
             self.sleep(rt, left);
         }
         unreachable!()
     }
 
-    // Waits until something was sent: for so long at most, and for 50 ms.
+    // Waits until something was sent, for at most `longest` and at most 50 ms.
     fn sleep<R: Wait>(&self, rt: &R, longest: Duration) {
         for _ in 0..LOOKS {
             if self.word.load(SeqCst) == SENT {
@@ -125,10 +132,4 @@ impl<X: Fits + Drop> Mailbox<X> {
         let longest = longest.min(Duration::from_millis(LONGEST_SLEEP));
         self.word.park_timeout(rt, ASLEEP as u32, longest);
     }
-}
-
-// What is left of a duration that began then. There is none once it has passed, or where the clock can't be read.
-fn time_left<R: Clock>(rt: &R, started: Option<Instant>, duration: Duration) -> Option<Duration> {
-    let passed = started?.elapsed(rt).ok()?;
-    duration.checked_sub(passed).filter(|left| !left.is_zero())
 }

@@ -1,16 +1,19 @@
-//! What the answer of a work is waited for with.
+//! The future of a job's answer.
 
 ghost use Rattle.std.specs.Prelude.{◌≡◌, IfOk, IfErr, MatchResult};
+ghost use Rattle.std.specs.Duration.{as_nanos};
+ghost use Rattle.resil_clock.specs.Waits.{IsOutOfTime};
 
 use crate::ends::Receiver;
 use crate::task::Answered;
 use crate::work::Answers;
+use resil_clock::Reads;
 use std::marker::Model;
 use std::sync::Wait;
-use std::time::{Clock, Duration};
+use std::time::Duration;
 
-/// What the answer of a work is waited for with, once. It may be dropped at any time: the work is run
-/// all the same. Contracts see the work.
+/// A blocking future of the answer of a job, which comes once. It may be dropped at any time: the job
+/// runs all the same. Contracts see the job.
 ///
 /// ```
 /// match pending.wait(&rt) {
@@ -30,14 +33,14 @@ impl<W: Answers> Model for Pending<W> {
 }
 
 impl<W: Answers> Pending<W> {
-    // What is sent by a task, for whoever waits for its answer.
+    // Makes the future of what a task sends.
     pub(crate) fn new(receiver: Receiver<Answered<W>>) -> Pending<W>
         ensures { result ≡ receiver }
     {
         Pending { receiver }
     }
 
-    // What the task sends to.
+    // Returns the receiver that the task sends to.
     pub(crate) fn into_receiver(self) -> Receiver<Answered<W>>
         ensures { result ≡ self }
     {
@@ -48,7 +51,7 @@ impl<W: Answers> Pending<W> {
     /// Waits for the answer (Resilience4j user guide, ThreadPoolBulkhead: `CompletionStage`).
     ///
     /// # Errors
-    /// The work, where it was let go without a run.
+    /// The job, if it was dropped without a run.
     ///
     /// ```
     /// let price = pending.wait(&rt).ok();
@@ -59,11 +62,11 @@ impl<W: Answers> Pending<W> {
         self.receiver.wait(rt).0
     }
 
-    /// Waits for so long at most.
+    /// Waits for at most `duration`.
     ///
     /// # Errors
-    /// Itself, where nothing came in that time, or the clock couldn't be read and nothing is there. It
-    /// can be waited for again.
+    /// The future itself, if nothing came in that time, or if the clock couldn't be read and nothing is
+    /// there. You can wait for it again.
     ///
     /// ```
     /// match pending.wait_for(&rt, Duration::from_millis(200)) {
@@ -71,13 +74,14 @@ impl<W: Answers> Pending<W> {
     ///     Err(pending) => later.push(pending)?,
     /// }
     /// ```
-    pub fn wait_for<R: Wait + Clock>(
+    pub fn wait_for<R: Wait + Reads>(
         self,
         rt: &R,
         duration: Duration,
     ) -> Result<Result<W::Output, W>, Pending<W>>
         ensures fits { IfOk result (λ came. MatchResult came (λ answer. W.IsAnswer self answer) (λ back. back ≡ self)) }
         ensures back { IfErr result (λ pending. pending ≡ self) }
+        ensures out_of_time { IfErr result (λ _. IsOutOfTime (R.HasSaid rt.now) (as_nanos duration)) }
     {
         match self.receiver.wait_for(rt, duration) {
             Ok(answered) => Ok(answered.0),
@@ -85,10 +89,10 @@ impl<W: Answers> Pending<W> {
         }
     }
 
-    /// What came, if it is there. It never waits.
+    /// Returns what came, if it is there. It never waits.
     ///
     /// # Errors
-    /// Itself, where nothing has come yet.
+    /// The future itself, if nothing has come yet.
     ///
     /// ```
     /// match pending.try_take() {

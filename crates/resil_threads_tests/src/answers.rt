@@ -28,7 +28,7 @@ impl Work for Halve {
     }
 }
 
-/// The half of 14, to be found and to be waited for.
+/// A task for the half of 14, and the future of its answer.
 fn half_of_14(rt: &impl Abort, alloc: Global) -> (Task<Halve>, Pending<Halve>)
     ensures { result.1 ≡ result.0 }
 {
@@ -56,7 +56,7 @@ fn waited<R: Wait>(rt: &R, pending: Pending<Halve>, waits: bool) -> Option<Resul
     None
 }
 
-/// Runs a task while its answer is waited for, or isn't.
+/// Runs a task while its answer is waited for, or not.
 fn run_beside<R: Threads + Wait + Sync>(
     rt: &R,
     task: Task<Halve>,

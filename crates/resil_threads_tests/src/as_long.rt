@@ -1,5 +1,5 @@
-//! Waits and idle workers that last as long as they were asked to: each of these tests fails where one ends at once, and where it
-//! lasts ten times as long, or for ever.
+//! Waits and idle workers that last as long as they should: each of these tests fails if one ends at once, and if it lasts ten times
+//! as long, or forever.
 
 use crate::in_time::{Meeting, submitted};
 use crate::shared::{assert_that, opened, passed};
@@ -14,13 +14,13 @@ use std::sync::{Arc, Wait};
 use std::thread;
 use std::time::{Clock, Duration, Instant};
 
-// What is waited for takes five seconds, or until it is told to end.
+// What is waited for takes five seconds, or until it should end.
 const LONGEST: u64 = 100;
 
-// How often a wait is measured: threads of others may hold up all but one.
+// How often a wait is measured: other threads may hold up all but one.
 const TRIALS: u32 = 4;
 
-/// Whether a wait that began then has ended by six times its time. Asserts that it has lasted that long.
+/// Whether a wait that began at `start` has ended by six times its time. Asserts that it has lasted that long.
 fn has_ended_in_time<R: Abort + Clock>(rt: &R, start: Instant) -> bool {
     let took = start.elapsed(rt).expect(rt, "a clock");
     assert_that(
@@ -47,19 +47,19 @@ fn wait_in_vain<R: Abort + Clock + Wait>(rt: &R, pending: Pending<Meeting>) -> P
     pending
 }
 
-/// Waits for a pool whose work doesn't end, as often as there are trials, and asserts that one of the waits ended in time.
+/// Waits for a pool with a job that doesn't end, as often as there are trials, and asserts that one of the waits ended in time.
 fn join_in_vain<R: Abort + Clock + Wait>(rt: &R, pool: &WorkPool<Meeting>) {
     let mut in_time = false;
     for _ in 0..TRIALS {
         let start = Instant::now(rt).expect(rt, "a clock");
         let joined = pool.join_for(rt, Duration::from_millis(LONGEST));
-        assert_that(rt, !joined, "a work that isn't finished");
+        assert_that(rt, !*joined, "a work that isn't finished");
         in_time |= has_ended_in_time(rt, start);
     }
     assert_that(rt, in_time, "a join that ends");
 }
 
-/// Waits for an answer and for the pool in vain, and then tells the work to end.
+/// Waits for an answer and for the pool in vain, and then lets the job end.
 fn wait_for_both<R: Abort + Clock + Wait>(
     rt: &R,
     alloc: Global,
@@ -87,7 +87,7 @@ fn waits_end_by_their_time(rt: HostRuntime) -> Result<(), AdmitError> {
     Ok(())
 }
 
-/// Waits until the pool has one worker, for ten thousand looks at most.
+/// Waits until the pool has one worker, for at most ten thousand polls.
 fn wait_for_one_worker<R: Clock + Wait>(rt: &R, pool: &WorkPool<Meeting>) {
     for _ in 0..10_000 {
         if pool.numbers(rt).workers < 2 {
@@ -97,8 +97,8 @@ fn wait_for_one_worker<R: Clock + Wait>(rt: &R, pool: &WorkPool<Meeting>) {
     }
 }
 
-/// Three works, for a core worker, the queue and an extra worker, meet and end. The extra worker then looks twelve times in vain, and
-/// sleeps between its looks for 1, 2, 4 .. 64 ms and 64 ms each time from then on, 383 ms in all. The core worker stays.
+/// Three jobs, for a core worker, the queue and an extra worker, meet and end. The extra worker then polls twelve times in vain,
+/// sleeping between its polls for 1, 2, 4 .. 64 ms and 64 ms each time from then on, 383 ms in all. The core worker stays.
 fn let_one_end<R: Abort + Clock + Wait>(
     rt: &R,
     alloc: Global,

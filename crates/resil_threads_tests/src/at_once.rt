@@ -1,4 +1,4 @@
-//! How many works run at once: never more than the greatest size, however many workers are hired.
+//! How many jobs run at once: never more than the maximum size, however many workers are hired.
 
 ghost use Rattle.resil_executor.specs.Seats.{IsOf};
 
@@ -33,7 +33,7 @@ impl Run<()> for Inside<'_> {
     }
 }
 
-/// Submits 200 works to a pool with room for them.
+/// Submits 200 jobs to a pool with room for them.
 fn submit_all<'a, R: Abort + Wait>(
     rt: &R,
     pool: &Executor<Inside<'a>>,

@@ -1,4 +1,4 @@
-//! Runs of rows: what is refused, what is written with hold and without, and that threads share the pool at once.
+//! Runs of rows: what is refused, what is written with hold and without, and that threads share the pool at the same time.
 
 use crate::render::{are_results, is_history};
 use crate::shared::{
@@ -13,7 +13,7 @@ use std::sync::{Mutex, Wait};
 use std::thread::{self, Threads};
 use std::time::{Clock, Duration};
 
-/// So many rows of each of these callers without layers, with the values 1, 2, and so on.
+/// This many rows of each of these callers without layers, with the values 1, 2, and so on.
 fn rows(rt: &impl Abort, alloc: Global, callers: &[u16], each: usize) -> Vec<JobRow> {
     let mut rows = Vec::new(alloc);
     let mut value: i64 = 0;
@@ -26,7 +26,7 @@ fn rows(rt: &impl Abort, alloc: Global, callers: &[u16], each: usize) -> Vec<Job
     rows
 }
 
-/// What rows without bulkheads come to.
+/// The report of rows without bulkheads.
 fn reported<R: Abort + Threads + Wait + Sync>(
     rt: &R,
     alloc: Global,
@@ -94,10 +94,10 @@ fn finished<R: Abort + Threads + Wait + Sync>(
     reported(rt, alloc, *config, rows, false).results.len()
 }
 
-/// How many runs there are at most, until one shows that workers run beside callers.
+/// The maximum number of runs until one shows that workers run while callers submit.
 const MAX_RUNS: u32 = 100;
 
-// Two jobs are accepted where the worker starts after the caller has submitted all, and more where it runs meanwhile.
+// Two jobs are accepted if the worker starts after the caller has submitted all, and more if it runs meanwhile.
 #[test]
 fn workers_beside_callers(rt: HostRuntime) {
     let config = config(&rt, (1, 1, 1), 1);
@@ -127,10 +127,10 @@ fn nested_same(rt: HostRuntime) {
     are_results(&rt, rt.alloc(), &report, wanted);
 }
 
-/// How often a job that is held looks whether the other is through, a millisecond apart.
+/// How often a job that is held polls whether the other is done, a millisecond apart.
 const MAX_TURNS: u32 = 30_000;
 
-/// Holds the first job of caller 1 until another is through, for at most this many looks.
+/// Holds the first job of caller 1 until another is done, for at most this many polls.
 #[derive(Drop)]
 struct Meeting<'a, R: Wait + Clock> {
     rt: &'a R,
@@ -160,7 +160,7 @@ impl<'a, R: Wait + Clock> Hook for Meeting<'a, R> {
     }
 }
 
-/// Asserts that the first job of caller 1 ends behind another, which is the second row. It is held until then, and the rows
+/// Asserts that the first job of caller 1 ends after another, which is the second row. It is held until then, and the rows
 /// are submitted without hold, each by its caller.
 fn assert_meeting<R: Abort + Threads + Wait + Clock + Sync>(
     rt: &R,
@@ -194,10 +194,10 @@ fn two_at_once(rt: HostRuntime) {
     }
 }
 
-/// How many pools are opened one after the other to see that an idle worker never closes one.
+/// How many pools are opened one after the other to check that an idle worker never closes one.
 const POOLS: u32 = 200;
 
-// A worker that asks to end after each empty look closes nothing: all rows are accepted, and have results.
+// A worker that asks to end after each empty poll closes nothing: all rows are accepted, and have results.
 #[test]
 fn idle_workers_close_nothing(rt: HostRuntime) {
     let config = RunConfig {

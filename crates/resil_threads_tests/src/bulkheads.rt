@@ -1,6 +1,6 @@
-//! Bulkheads by name: worked examples, and 64 threads that ask for one name at once.
+//! Bulkheads by name: worked examples, and 64 threads that look up one name at once.
 //!
-//! Two bulkheads are known to be one by their permits: what is taken of one isn't free in the other.
+//! Their permits show that two bulkheads are one: what is taken of one isn't free in the other.
 
 use resil_bulkhead::Bulkhead;
 use resil_bulkheads::BulkheadRegistry;
@@ -10,7 +10,7 @@ use std::sync::{Mutex, Wait};
 use std::thread;
 use std::thread::Threads;
 
-// A registry by whose `default` a bulkhead permits 64 calls, and by `small` 2.
+// A registry whose `default` permits 64 calls, and whose `small` permits 2.
 fn registry(rt: &impl Abort, alloc: Global) -> BulkheadRegistry {
     let mut registry = BulkheadRegistry::new(alloc, 64).expect(rt, "a registry");
     registry
@@ -29,7 +29,7 @@ fn take_one(rt: &impl Wait, bulkhead: &Bulkhead) -> bool {
     bulkhead.enter(rt, &mut bulkhead.new_pass())
 }
 
-// Asks for a bulkhead, and takes a permit of it for good.
+// Looks up a bulkhead, and takes a permit of it for good.
 fn take_one_of(
     rt: &impl Wait,
     alloc: Global,
@@ -43,7 +43,7 @@ fn take_one_of(
     }
 }
 
-// The answers of 64 threads that ask for one name at once.
+// The results of 64 threads that look up one name at once.
 fn crowd(
     rt: &(impl Threads + Wait + Sync),
     alloc: Global,
@@ -57,7 +57,7 @@ fn crowd(
     )
 }
 
-// Asserts of a name that its bulkhead has this many free permits of this many.
+// Asserts that the bulkhead of a name has this many free permits of this many.
 fn assert_found(rt: &impl Abort, registry: &BulkheadRegistry, name: &str, counts: (u32, u32)) {
     let bulkhead = registry.find(name).expect(rt, "a bulkhead");
     assert!(rt; bulkhead.name() == name);

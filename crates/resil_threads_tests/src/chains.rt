@@ -50,7 +50,7 @@ impl Work for HalfOf {
     }
 }
 
-/// Has the pool halve a number, and waits so long at most.
+/// Has the pool halve a number, and waits at most `longest`.
 fn half_of<R: Clock + Wait>(
     rt: &R,
     alloc: Global,
@@ -61,12 +61,12 @@ fn half_of<R: Clock + Wait>(
     pool.submit_within(rt, alloc, HalfOf(number), longest)?
 }
 
-/// The half of 14, waited for 5 ms long.
+/// The half of 14, waited for at most 5 ms.
 fn half<R: Clock + Wait>(rt: &R, alloc: Global, pool: &WorkPool<HalfOf>) -> Result<u32, HalfError> {
     half_of(rt, alloc, pool, 14, Duration::from_millis(5))
 }
 
-// No thread works for the pool: a work for the one worker and one for the one place in the queue are accepted, and no more.
+// No thread works for the pool: a job for the one worker and one for the one place in the queue are accepted, and no more.
 #[test]
 fn no_answer_is_told_with_its_cause(rt: HostRuntime) -> Result<(), AdmitError> {
     let alloc = rt.alloc();
@@ -85,7 +85,7 @@ fn no_answer_is_told_with_its_cause(rt: HostRuntime) -> Result<(), AdmitError> {
     Ok(())
 }
 
-/// Asks for a half up to three times, of 13 first and of 14 then.
+/// Asks for a half up to three times, of 13 first and then of 14.
 fn half_at_last<R: Clock + Wait>(
     rt: &R,
     alloc: Global,

@@ -1,4 +1,4 @@
-//! How pools come to their end: works that are called off, waits for what was accepted, and pools that were made smaller.
+//! How pools end: jobs that are cancelled, waits for what was accepted, and pools that were made smaller.
 
 ghost use Rattle.resil_executor.specs.Seats.{IsOf};
 
@@ -13,7 +13,7 @@ use std::process::Abort;
 use std::sync::Wait;
 use std::time::{Clock, Duration};
 
-/// Answers its number.
+/// Returns its number.
 #[derive(Drop)]
 struct Echo(u32);
 
@@ -27,7 +27,7 @@ impl Work for Echo {
     }
 }
 
-/// A work that can be called off, submitted.
+/// A job that can be cancelled, submitted.
 fn submitted<R: Abort + Wait>(
     rt: &R,
     alloc: Global,
@@ -42,7 +42,7 @@ fn submitted<R: Abort + Wait>(
     pending
 }
 
-/// Runs one work, calls off what is left, and ends the pool.
+/// Runs one job, cancels what is left, and ends the pool.
 fn call_off_behind_one<R: Abort + Wait>(
     rt: &R,
     pool: &WorkPool<Stoppable<Echo>>,
@@ -92,7 +92,7 @@ impl Run<()> for Nothing {
     fn run(self, _context: &mut ()) {}
 }
 
-/// A pool of two workers and a queue, with three works.
+/// A pool of two workers and a queue, with three jobs.
 fn with_three<R: Abort + Wait>(rt: &R, pool: &Executor<Nothing>) {
     for _ in 0..3 {
         let submitted = pool.submit_job(rt, &mut pool.visitor(), Nothing);
@@ -100,7 +100,7 @@ fn with_three<R: Abort + Wait>(rt: &R, pool: &Executor<Nothing>) {
     }
 }
 
-/// Whether a look finds nothing.
+/// Whether a poll finds nothing.
 fn finds_nothing<R: Wait>(
     rt: &R,
     pool: &Executor<Nothing>,
@@ -112,7 +112,7 @@ fn finds_nothing<R: Wait>(
     matches!(pool.look(rt, worker, false), Look::Nothing)
 }
 
-/// Sets the sizes to 1 while both workers run: the first one that is done holds back, and goes on where the sizes are 2 again.
+/// Sets the sizes to 1 while both workers run: the first one that is done finds no job until the sizes are 2 again.
 fn shrink_and_grow<R: Abort + Wait>(
     rt: &R,
     pool: &Executor<Nothing>,
@@ -150,7 +150,7 @@ fn a_smaller_pool_holds_back(rt: HostRuntime) -> Result<(), AdmitError> {
 
 /// Whether all is finished within a millisecond.
 fn is_finished<R: Clock + Wait>(rt: &R, pool: &Executor<Nothing>) -> bool {
-    pool.join_for(rt, Duration::from_millis(1))
+    pool.join_for(rt, Duration::from_millis(1)).into_value()
 }
 
 /// Whether it is closed.

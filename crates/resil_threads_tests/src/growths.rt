@@ -1,9 +1,8 @@
-//! Calls of the pool that take memory or start threads, where these run out.
+//! Calls of the pool that allocate or start threads, when out of memory or threads.
 //!
-//! `tools/refuse_in_tests` runs each of these tests with one growth refused, for every growth, and
-//! with all from one growth on, and so with starts of threads. A call that is refused has changed
-//! nothing that is seen, and gives back what it was handed. Made once more, it answers what it answers
-//! with ample memory: that too is what these tests see where nothing is refused.
+//! `tools/refuse_in_tests` runs each of these tests with one growth refused, for every growth, and with all refused from one
+//! growth on, and likewise with starts of threads. A call that is refused has changed nothing visible, and returns what it
+//! got. Called once more, it returns what it returns with ample memory: these tests check that too when nothing is refused.
 
 use crate::parts::Parts;
 use crate::shared::{
@@ -35,8 +34,8 @@ fn refused_growth_of_an_opened_pool(rt: HostRuntime) -> Result<(), Fail> {
     Ok(())
 }
 
-/// Submits a job of a copy of this plan, once more where memory ran out. The refused job came back, and the caller has no
-/// receipt of it.
+/// Submits a job of a copy of this plan, once more if it was out of memory. The refused job came back, and the caller has
+/// no receipt of it.
 fn submitted_at_last<R: Abort + Wait>(
     rt: &R,
     alloc: Global,
@@ -59,7 +58,7 @@ fn submitted_at_last<R: Abort + Wait>(
     }
 }
 
-/// The ticket of a job whose one call has this value.
+/// The ticket of a job with one call, which has this value.
 fn ticket<R: Abort + Wait>(
     rt: &R,
     alloc: Global,
@@ -71,7 +70,7 @@ fn ticket<R: Abort + Wait>(
     submitted_at_last(rt, alloc, parts, caller, &same)
 }
 
-/// Asserts that this is the ticket of a job whose one call has this value.
+/// Asserts that this is the ticket of a job with one call, which has this value.
 fn gets<R: Abort + Wait>(
     rt: &R,
     alloc: Global,
@@ -106,7 +105,7 @@ fn submit_three<R: Abort + Wait>(
     Ok(())
 }
 
-/// Asserts that results have these values, each by one call, which asked for these permits.
+/// Asserts that results have these values, each by one call, which requested these permits.
 fn are_rows(rt: &impl Abort, results: &[Row], values: &[i64], asked: &[Asked]) {
     assert_that(rt, results.len() == values.len(), "a result of each");
     for (result, value) in results.iter().zip(values) {
@@ -125,7 +124,7 @@ fn submission(id: Id, reply: Reply) -> Event {
     Event::Submit { id, reply }
 }
 
-/// Asserts what comes of the three submissions, without taking memory.
+/// Asserts the report of the three submissions, without allocating.
 fn is_of_three(rt: &impl Abort, report: &Report) {
     let [first, second, third] = [(1, 1), (2, 1), (2, 2)].map(|(caller, number)| Id {
         caller,
@@ -145,7 +144,7 @@ fn is_of_three(rt: &impl Abort, report: &Report) {
     are_rows(rt, report.results.as_slice(), &[1, 2], &[]);
 }
 
-/// Makes the three submissions, and asserts what comes of them. What is refused is handed on once nothing is owned.
+/// Makes the three submissions, and asserts their report. What is refused is passed on once nothing is owned.
 fn three_are_drained<R: Abort + Wait>(
     rt: &R,
     alloc: Global,
@@ -160,8 +159,8 @@ fn three_are_drained<R: Abort + Wait>(
     submitted
 }
 
-// The submission of each of the three is refused at each of its growths. After the last one the drain takes no memory:
-// where all of it is refused from there on, the last line of the test is the first that meets it.
+// The submission of each of the three is refused at each of its growths. After the last one the drain doesn't allocate:
+// if all memory is refused from there on, the last line of the test is the first that notices.
 #[test]
 fn refused_growth_none_after_acceptance(rt: HostRuntime) -> Result<(), Fail> {
     let alloc = rt.alloc();
@@ -170,7 +169,7 @@ fn refused_growth_none_after_acceptance(rt: HostRuntime) -> Result<(), Fail> {
     Ok(())
 }
 
-/// Resizes a pool four times to 2 and 2, each once more where memory ran out.
+/// Resizes a pool four times to 2 and 2, each once more if it was out of memory.
 fn resize_four_times<R: Abort + Wait>(rt: &R, parts: &mut Parts) -> Result<(), ResizeError> {
     for _ in 0..4 {
         if parts.resize(rt, 2, 2).is_err() {
@@ -186,7 +185,7 @@ fn are_four_resizes(history: &[Event]) -> bool {
     history == [resize, resize, resize, resize, Event::Close].as_slice()
 }
 
-// Where memory ran out for one resize, the pool is as it was, and the next one is written. The drain takes no memory.
+// If one resize was out of memory, the pool is as it was, and the next one is written. The drain doesn't allocate.
 #[test]
 fn refused_growth_of_a_resize(rt: HostRuntime) -> Result<(), Fail> {
     let mut parts = Parts::open(&rt, rt.alloc(), (1, 2, 1), 1)?;
@@ -212,7 +211,7 @@ fn are_sevens<R: Abort + Threads + Wait + Sync>(
     Ok(())
 }
 
-// The rows are held, and they aren't.
+// The rows are held, and then they aren't.
 #[test]
 fn refused_growth_of_a_run(rt: HostRuntime) -> Result<(), Fail> {
     are_sevens(&rt, rt.alloc(), true)?;
@@ -241,8 +240,8 @@ fn count_results<R: Abort + Threads + Wait + Sync>(
     Ok(report.results.len())
 }
 
-// Where the thread of a worker is refused, the worker works on the calling thread, and the first one may work beside it.
-// Both would look for ever if the pool weren't closed by then.
+// If the thread of a worker is refused, the worker works on the calling thread, and the first one may work at the same
+// time. Both would poll forever if the pool weren't closed by then.
 #[test]
 fn refused_growth_of_a_run_on_two_workers(rt: HostRuntime) -> Result<(), Fail> {
     let counted = match count_results(&rt, rt.alloc()) {

@@ -1,5 +1,4 @@
-//! Workers that work beside one another, and that are woken: each of these tests passes only where nobody waits for the end of a
-//! sleep.
+//! Workers that work at the same time, and that are woken: each of these tests passes only if nobody waits for the end of a sleep.
 
 use crate::parts::Parts;
 use crate::quiet::{Ended, work};
@@ -16,7 +15,7 @@ use std::sync::{Arc, Mutex, Wait};
 use std::thread;
 use std::time::{Clock, Duration, Instant};
 
-/// Rests for so many milliseconds.
+/// Rests for this many milliseconds.
 #[derive(Drop)]
 struct Rest(u64);
 
@@ -30,7 +29,7 @@ impl<R: Clock> WorkAt<&R> for Rest {
     }
 }
 
-/// Ends once two of its kind have come, or after five seconds. It answers whether they have.
+/// Ends once two of its kind have come, or after five seconds. It returns whether they have.
 #[derive(Drop)]
 pub(crate) struct Meeting(Arc<AtomicU32>);
 
@@ -64,7 +63,7 @@ pub(crate) fn submitted<R: Abort + Wait>(
     pending
 }
 
-// Two works are accepted before the workers begin: each of these takes one, and leaves the other one to its neighbour.
+// Two jobs are accepted before the workers begin: each worker takes one, and leaves the other one to the other worker.
 #[test]
 fn works_that_wait_for_each_other_meet(rt: HostRuntime) -> Result<(), AdmitError> {
     let alloc = rt.alloc();
@@ -87,14 +86,14 @@ fn a_join_lasts_as_long_as_the_work(rt: HostRuntime) -> Result<(), AdmitError> {
     let workers = passed(&rt, Workers::alike(rt.alloc(), &rt, 1, 20));
     let ended = work_while_with(&rt, &pool, closer, workers, || {
         drop(pool.submit(&rt, rt.alloc(), Rest(20)));
-        pool.join_for(&rt, Duration::from_secs(10))
+        pool.join_for(&rt, Duration::from_secs(10)).into_value()
     });
     assert_that(&rt, matches!(ended.answer, Ok(true)), "a work that ended");
     Ok(())
 }
 
-/// Asserts that so many trips succeed, each after so many milliseconds of rest, and that a third of them at least take less than so
-/// many: threads of others may hold up the rest.
+/// Asserts that this many trips succeed, each after this many milliseconds of rest, and that at least a third of them take less than
+/// this many: other threads may hold up the rest.
 fn are_in_time<R: Abort + Clock, F: Fn() -> bool>(rt: &R, times: (u32, u64, u64), trip: F)
     requires { F.IsAlwaysCallable trip }
 {
@@ -110,7 +109,7 @@ fn are_in_time<R: Abort + Clock, F: Fn() -> bool>(rt: &R, times: (u32, u64, u64)
     assert_that(rt, in_time >= trips / 3, "sleepers that are woken");
 }
 
-// After a rest of 33 ms a worker sleeps from about 31 to 63 ms, and would wake 30 ms late. Who waits for an answer wakes after 50 ms.
+// After a rest of 33 ms a worker sleeps from about 31 to 63 ms, and would wake 30 ms late. A wait for an answer wakes after 50 ms.
 const TRIPS: (u32, u64, u64) = (60, 33, 10);
 
 #[test]
@@ -157,7 +156,7 @@ fn replies_come_in_time(rt: HostRuntime) -> Result<(), AdmitError> {
     Ok(())
 }
 
-// The submitting thread looks each millisecond whether its job has ended.
+// The submitting thread polls each millisecond whether its job has ended.
 #[test]
 fn jobs_begin_in_time(rt: HostRuntime) {
     let alloc = rt.alloc();
@@ -193,7 +192,7 @@ fn pools_end_in_time(rt: HostRuntime) {
     );
 }
 
-// The same of a pool that is closed behind its rows, here none, while its worker sleeps from about 63 to 127 ms.
+// The same for a pool that is closed after its rows, here none, while its worker sleeps from about 63 to 127 ms.
 #[test]
 fn held_pools_end_in_time(rt: HostRuntime) {
     let alloc = rt.alloc();

@@ -1,5 +1,4 @@
-//! Tests of what threads share: bulkheads by name, the pool for rows, by what `resil_workers` exports, and the pool for works of
-//! one's own.
+//! Tests of what threads share: bulkheads by name, the pool for rows, with the exports of `resil_workers`, and the pool for your own jobs.
 #![tactic(auto)]
 
 #[cfg(test)]
@@ -20,6 +19,8 @@ mod ends;
 mod growths;
 #[cfg(test)]
 mod in_time;
+#[cfg(test)]
+mod many;
 #[cfg(test)]
 mod neighbours;
 #[cfg(test)]

@@ -18,13 +18,13 @@ wait = 50
 name = 'stock'
 ";
 
-const UNKNOWN: &str = "a key of the head is not known";
+const UNKNOWN: &str = "the head has an unknown key";
 
-const RANGE: &str = "a value of the head is not of its kind or not in its range";
+const RANGE: &str = "a value of the head has the wrong type or is out of range";
 
-const NAME: &str = "a name is 1 to 64 bytes of ASCII letters, digits, `-`, `_` and `.`";
+const NAME: &str = "a name must be 1 to 64 bytes of ASCII letters, digits, `-`, `_` and `.`";
 
-// Texts that are refused, whose lines bars part, each with the place of the fault and why.
+// Texts that are refused, with bars between their lines, each with the place of the fault and why.
 const REFUSED: [(&str, &str, &str); 14] = [
     ("a = 1|b = = 2", "line 2", "the head is not TOML"),
     ("[[bulkheads]]", "the text", UNKNOWN),
@@ -48,7 +48,7 @@ const REFUSED: [(&str, &str, &str); 14] = [
     (
         "[[bulkhead]]|name = 'a'|[[bulkhead]]|name = 'a'",
         "bulkhead 2",
-        "bulkhead 1 has that name already",
+        "bulkhead 1 already has that name",
     ),
     ("[[bulkhead]]|name = 'a b'", "bulkhead 1", NAME),
     (
@@ -58,7 +58,7 @@ const REFUSED: [(&str, &str, &str); 14] = [
     ),
 ];
 
-// Asserts of a name how many calls its bulkhead permits at once, and how many milliseconds a call waits for a permit.
+// Asserts how many concurrent calls the bulkhead of a name permits, and how many milliseconds a call waits for a permit.
 fn assert_found(rt: &impl Abort, neighbours: &Neighbours, name: &str, max: u32, wait: u64) {
     let (bulkhead, longest) = neighbours.find(name).expect(rt, "a bulkhead");
     assert!(rt;
@@ -68,7 +68,7 @@ fn assert_found(rt: &impl Abort, neighbours: &Neighbours, name: &str, max: u32, 
     assert!(rt; longest == Duration::from_millis(wait), "at {name:?}");
 }
 
-// The place of the fault in a text that is refused, and why it is.
+// The place of the fault in a text that is refused, and why it is refused.
 fn refusal(rt: &impl Abort, alloc: Global, text: &str) -> String {
     let text = text
         .replace(alloc, "|", "\n")

@@ -1,4 +1,4 @@
-//! A pool with all its parts: whoever has it may make each call, without a contract of its own.
+//! A pool with all its parts: its owner may make each call, without a contract of its own.
 
 ghost use Rattle.std.specs.Prelude.{◌≡◌, All};
 ghost use Rattle.std.specs.Arc.{arc_value};
@@ -55,7 +55,7 @@ impl Parts {
         })
     }
 
-    /// Submits a job by a caller, 0 for the first. One that is refused comes back.
+    /// Submits a job by a caller, 0 for the first. A refused job comes back.
     pub fn submit<R: Abort + Wait>(
         &mut self,
         rt: &R,
@@ -75,7 +75,7 @@ impl Parts {
         }
     }
 
-    /// Submits a job under these bulkheads, whose one call has this value.
+    /// Submits a job under these bulkheads, with one call, which has this value.
     pub fn submit_value<R: Abort + Wait>(
         &mut self,
         rt: &R,
@@ -104,7 +104,7 @@ impl Parts {
         self.pool.close(rt, &mut self.closer);
     }
 
-    /// Closes the pool as one whose rows, here none, were submitted while it was held: whether nothing was submitted.
+    /// Closes the pool as one with rows, here none, that were submitted while it was held. Returns whether nothing was submitted.
     pub fn close_held<R: Wait>(&mut self, rt: &R) -> bool {
         close_held(rt, &self.pool, &mut self.closer, &[])
     }
@@ -129,7 +129,7 @@ impl Parts {
         passed(rt, self.ends.push(end));
     }
 
-    /// What the pool gives, drained by this permitter: workers that didn't leave never worked. Takes no memory.
+    /// The report of the pool, drained by this permitter: workers that didn't leave never worked. It doesn't allocate.
     pub fn drained_by<R: Abort + Wait, P: Permitter>(self, rt: &R, permitter: &mut P) -> Report {
         let Parts {
             pool,

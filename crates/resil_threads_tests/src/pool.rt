@@ -1,4 +1,4 @@
-//! A pool whose parts stand on one thread: what it replies, writes, drains and tells the hook.
+//! A pool with all its parts on one thread: what it replies, writes, drains and reports to the hook.
 
 use crate::parts::Parts;
 use crate::render::{are_results, is_history};
@@ -34,7 +34,7 @@ impl Hook for Order {
     }
 }
 
-/// Writes 2 where a job runs: where it asks for a permit. It answers by a list.
+/// Writes 2 when a job runs: when it requests a permit. It answers from a list.
 #[derive(Drop)]
 struct Asking<'a> {
     order: &'a Order,
@@ -65,7 +65,7 @@ impl<'a> Permitter for Asking<'a> {
     ghost append_between = { λ a b c. append_between a.listed b.listed c.listed };
 }
 
-/// The only worker of a pool works, with a permitter that gives these answers. The calls of the hook and the permitter.
+/// The only worker of a pool works, with a permitter that gives these answers. Returns the calls of the hook and the permitter.
 fn order_of_work<R: Abort + Wait>(
     rt: &R,
     alloc: Global,
@@ -137,7 +137,7 @@ fn hook_round_the_run(rt: HostRuntime) {
     );
 }
 
-// What is left is run with the permitter that the drain is given.
+// What is left is run with the permitter that the drain gets.
 #[test]
 fn granted_in_drain(rt: HostRuntime) {
     let alloc = rt.alloc();

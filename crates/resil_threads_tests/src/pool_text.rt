@@ -25,7 +25,7 @@ resil_pool_refused_total{name=\"orders\"} 7
 resil_pool_finished_total{name=\"orders\"} 15
 ";
 
-// A backslash, a quote and a newline in a name have a backslash before them.
+// A backslash, a quote and a newline in a name are escaped by a backslash.
 const QUOTED: &str = "resil_pool_finished_total{name=\"a \\\"b\\\"\\\\\\n\"} 15\n";
 
 /// The text of a pool of this name.

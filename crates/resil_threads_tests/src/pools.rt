@@ -1,7 +1,7 @@
-//! Hostile use of pools of typed works. Those that keep their whole history are judged at their end: it is legal.
+//! Hostile use of pools of typed jobs. Those that keep their whole history are judged at their end: it is legal.
 //!
-//! What may run out of memory or threads is tried once more where it does, and answers then what it answers with ample
-//! memory: `tools/refuse_in_tests` refuses each growth and each start of a thread in turn.
+//! What may be out of memory or threads is tried once more then, and returns what it returns with ample memory:
+//! `tools/refuse_in_tests` refuses each growth and each start of a thread in turn.
 
 ghost use Rattle.std.specs.Prelude.{◌≡◌};
 ghost use Rattle.resil_executor.specs.Seats.{IsOf};
@@ -40,7 +40,7 @@ type Doubles<H> = WorkPool<Double, H>;
 
 type DoublesCloser<H> = ExecutorCloser<Task<Double>, H>;
 
-/// Submits a work, and gives what it is waited for with.
+/// Submits a job, and returns the future of its answer.
 fn submitted<H: Record, R: Wait>(
     rt: &R,
     alloc: Global,
@@ -49,11 +49,11 @@ fn submitted<H: Record, R: Wait>(
 ) -> Result<Pending<Double>, (Refused, Double)> {
     match pool.submit(rt, alloc, work) {
         Ok((_id, pending)) => Ok(pending),
-        Err(back) => Err(back),
+        Err((refused, work)) => Err((refused.into_value(), work)),
     }
 }
 
-/// Submits a work, once more where memory ran out. The refused work came back, and nothing was written.
+/// Submits a job, once more if it was out of memory. The refused job came back, and nothing was written.
 fn submitted_at_last<H: Record, R: Abort + Wait>(
     rt: &R,
     alloc: Global,
@@ -80,7 +80,7 @@ fn submitted_at_last<H: Record, R: Abort + Wait>(
     }
 }
 
-/// Whether this number is answered by its double.
+/// Whether the answer for this number is its double.
 fn is_double(answered: Result<u64, Double>, number: u32) -> bool {
     match answered {
         Ok(answer) => answer == 2 * u64::from(number),
@@ -88,8 +88,8 @@ fn is_double(answered: Result<u64, Double>, number: u32) -> bool {
     }
 }
 
-/// What callers ask of a pool: how many there are, each on a thread of its own, and in how many parts of how many works each
-/// asks. The works of a part are submitted before the first answer is waited for.
+/// The load on a pool: how many callers there are, each on a thread of its own, and in how many parts of how many jobs each
+/// submits. The jobs of a part are submitted before the first answer is waited for.
 #[derive(Clone, Copy)]
 struct Load {
     callers: usize,
@@ -97,7 +97,7 @@ struct Load {
     at_once: u32,
 }
 
-/// Submits works with this many numbers from this one on.
+/// Submits jobs with this many numbers from this one on.
 fn submit_part<H: Record, R: Abort + Wait>(
     rt: &R,
     alloc: Global,
@@ -111,7 +111,7 @@ fn submit_part<H: Record, R: Abort + Wait>(
     Ok(())
 }
 
-/// Submits works with this many numbers from this one on. Asserts that each that was accepted is answered by its double.
+/// Submits jobs with this many numbers from this one on. Asserts that the answer of each accepted one is its double.
 fn ask_part<H: Record, R: Abort + Wait>(
     rt: &R,
     alloc: Global,
@@ -129,7 +129,7 @@ fn ask_part<H: Record, R: Abort + Wait>(
     submitted
 }
 
-/// Asks what a caller asks. Whether all of it was accepted.
+/// Submits the load of a caller. Returns whether all of it was accepted.
 fn ask<H: Record, R: Abort + Wait>(
     rt: &R,
     alloc: Global,
@@ -148,7 +148,7 @@ fn ask<H: Record, R: Abort + Wait>(
     true
 }
 
-/// Asks what all callers ask. Whether all of it was accepted.
+/// Submits the load of all callers. Returns whether all of it was accepted.
 fn ask_all<H: Record + Send, R: Abort + Threads + Wait + Sync>(
     rt: &R,
     alloc: Global,
@@ -166,7 +166,7 @@ fn ask_all<H: Record + Send, R: Abort + Threads + Wait + Sync>(
     }
 }
 
-/// Does so while the pool's threads work, where one could be started. Asserts that all that was accepted is finished then.
+/// Does so while the pool's threads work, if one could be started. Asserts that everything accepted is finished then.
 fn serve<H: Record + Send, R: Abort + Threads + Wait + Sync>(
     rt: &R,
     alloc: Global,
@@ -192,7 +192,7 @@ fn serve<H: Record + Send, R: Abort + Threads + Wait + Sync>(
     if is_refused {
         return Err(AdmitError::Memory);
     }
-    Ok(after)
+    Ok(after.into_value())
 }
 
 /// The same with a pool of these sizes that keeps all events. Asserts that its history is legal.
@@ -237,7 +237,7 @@ fn refused_growth_of_a_submission(rt: HostRuntime) -> Result<(), Fail> {
     Ok(())
 }
 
-// 200,000 works of 64 callers through a pool of two workers that keeps no record.
+// 200,000 jobs of 64 callers through a pool of two workers that keeps no record.
 #[test]
 fn two_hundred_thousand_works_are_answered_by_their_own_answers(
     rt: HostRuntime,
@@ -257,7 +257,7 @@ fn two_hundred_thousand_works_are_answered_by_their_own_answers(
     Ok(())
 }
 
-/// Submits four works. The first isn't waited for; the others are waited for by whoever gets what comes back.
+/// Submits four jobs. The first isn't waited for; the caller waits for the others by what comes back.
 fn four_submitted<R: Abort + Wait>(
     rt: &R,
     alloc: Global,
@@ -281,7 +281,7 @@ fn sum_of(pending: Vec<Pending<Double>>) -> u64 {
     sum
 }
 
-/// The sum of the answers to four works that are submitted while the pool's threads work. It is taken after the end.
+/// The sum of the answers to four jobs that are submitted while the pool's threads work. It is taken after the end.
 fn sum_of_four<R: Abort + Threads + Wait + Sync>(
     rt: &R,
     alloc: Global,
@@ -297,14 +297,14 @@ fn sum_of_four<R: Abort + Threads + Wait + Sync>(
     }
 }
 
-/// Asserts that a work isn't accepted after the closing, and comes back.
+/// Asserts that a job isn't accepted after the closing, and comes back.
 fn is_late<R: Abort + Wait>(rt: &R, alloc: Global, pool: &Doubles<AllEvents>) {
     let late = submitted(rt, alloc, pool, Double(9));
     let is_back = matches!(late, Err((Refused::Closed, Double(9))));
     assert_that(rt, is_back, "no work after the closing");
 }
 
-// A pool closes behind four works, and finishes them.
+// A pool closes after four jobs, and finishes them.
 #[test]
 fn closing_lets_no_accepted_work_go(rt: HostRuntime) -> Result<(), AdmitError> {
     let alloc = rt.alloc();
@@ -322,7 +322,7 @@ fn closing_lets_no_accepted_work_go(rt: HostRuntime) -> Result<(), AdmitError> {
     is_legal(&rt, alloc, &pool)
 }
 
-/// Submits three works to a pool that keeps the last events, which nobody waits for, and ends it.
+/// Submits three jobs, without waiting for them, to a pool that keeps the last events, and ends it.
 fn leave_three<R: Wait>(
     rt: &R,
     alloc: Global,
@@ -369,8 +369,8 @@ fn is_after_three<R: Abort + Wait>(
     Ok(())
 }
 
-// Three submissions, of which the first starts the one worker, and the closing come first. Then the first job is ended, and
-// each that waits is taken and ended.
+// Three submissions and the closing come first. The first submission starts the one worker. Then the first job is ended, and
+// each waiting job is taken and ended.
 #[test]
 fn last_events_are_the_end_of_the_history(rt: HostRuntime) -> Result<(), Fail> {
     let alloc = rt.alloc();
@@ -379,7 +379,7 @@ fn last_events_are_the_end_of_the_history(rt: HostRuntime) -> Result<(), Fail> {
     is_after_three(&rt, alloc, &pool)
 }
 
-/// Submits works before and after the sizes are set to 1, and closes. Whether all was accepted.
+/// Submits jobs before and after the sizes are set to 1, and closes. Returns whether all were accepted.
 fn resize_between<R: Abort + Wait>(
     rt: &R,
     alloc: Global,

@@ -1,4 +1,4 @@
-//! A pool at rest: its workers that sleep are woken, and nothing is lost where they sleep and wake again and again.
+//! A pool at rest: its sleeping workers are woken, and nothing is lost if they sleep and wake again and again.
 
 use crate::parts::Parts;
 use crate::render::is_history;
@@ -16,7 +16,7 @@ use std::thread;
 use std::thread::Threads;
 use std::time::{Clock, Duration};
 
-/// How often the calling thread looks whether all jobs have ended, a millisecond apart.
+/// How often the calling thread polls whether all jobs have ended, a millisecond apart.
 const LOOKS: u32 = 10_000;
 
 /// Counts the jobs that have ended.
@@ -32,7 +32,7 @@ impl Hook for Ended {
 }
 
 impl Ended {
-    /// Whether this many have ended by the last look.
+    /// Whether this many have ended by the last poll.
     pub fn are<R: Clock>(&self, rt: &R, jobs: u64) -> bool {
         for _ in 0..LOOKS {
             if self.0.load(SeqCst) >= jobs {
@@ -68,7 +68,7 @@ fn submit_all<R: Abort + Clock + Wait>(
     }
 }
 
-/// Does the rounds, waits for the jobs to end, and closes the pool. Asserts that all have ended by the last look.
+/// Does the rounds, waits for the jobs to end, and closes the pool. Asserts that all have ended by the last poll.
 fn do_rounds<R: Abort + Clock + Wait>(
     rt: &R,
     alloc: Global,
@@ -90,7 +90,7 @@ pub fn work<R: Abort + Wait, H: Hook>(rt: &R, alloc: Global, parts: &Mutex<Parts
     passed(rt, parts.lock(rt).ends.push(end));
 }
 
-/// How many results there are of rounds with this many workers, each on a thread of its own beside that of the rounds.
+/// How many results there are of rounds with this many workers, each on a thread of its own besides that of the rounds.
 fn result_count<R: Abort + Clock + Threads + Wait + Sync>(
     rt: &R,
     alloc: Global,
@@ -170,7 +170,7 @@ impl<'a, R: Abort + Wait> Hook for Following<'a, R> {
     }
 }
 
-// What a hook submits after a job stands after the job's finish.
+// What a hook submits after a job comes after the job's finish.
 #[test]
 fn job_submitted_by_a_hook(rt: HostRuntime) {
     let alloc = rt.alloc();

@@ -1,4 +1,4 @@
-//! What a pool gives, as texts that a test can name.
+//! What a pool reports, as strings that a test can name.
 
 use crate::shared::passed;
 use resil_admission::{Event, Id, Row};
@@ -6,12 +6,12 @@ use resil_workers::Report;
 use std::alloc::{AllocError, Global};
 use std::process::Abort;
 
-/// Asserts that a text is the one that is wanted.
+/// Asserts that a string is the one that is wanted.
 fn is(rt: &impl Abort, text: &str, wanted: &str) {
     assert_eq!(rt; text, wanted);
 }
 
-/// Adds a comma, where something stands before it.
+/// Adds a comma, if there is something before it.
 fn push_comma(told: &mut String) -> Result<(), AllocError> {
     if told.is_empty() {
         return Ok(());
@@ -45,7 +45,7 @@ pub fn is_history(rt: &impl Abort, alloc: Global, report: &Report, wanted: &str)
     is(rt, told.as_str(), wanted);
 }
 
-/// Adds a result, such as `1-1 Value(7) by 1 []`: job 1-1 has the value 7 by one call, and asked for no permit.
+/// Adds a result, such as `1-1 Value(7) by 1 []`: job 1-1 has the value 7 by one call, and requested no permit.
 fn push_result(told: &mut String, row: &Row) -> Result<(), AllocError> {
     push_comma(told)?;
     let Row { id, run } = row;

@@ -1,25 +1,24 @@
-//! What the tests have in common: jobs, permitters, runs of rows, and pools for works of one's own.
+//! What the tests have in common: jobs, permitters, runs of rows, and pools for your own jobs.
 //!
-//! Most of what tests do may end the process, by `passed` or `expect`, where it doesn't succeed: who owns something has
-//! one way out then, and not one more for each call. What is asked for memory in tests of refused growths answers the
-//! refusal.
+//! Most of what tests do may end the process, by `passed` or `expect`, if it doesn't succeed: then a function that owns
+//! something has one way out, and not one more for each call. In tests of refused growths, what allocates returns the refusal.
 
 ghost use Rattle.std.specs.Prelude.{◌≡◌, [], Ok, IfOk};
 ghost use Rattle.resil_executor.specs.Seats.{IsOf};
 
-use resil_admission::{AdmitError, Limits, Verdict, audit};
+use resil_admission::{AdmitError, Limits, Verdict};
 use resil_bulkhead::{Bulkhead, Pass};
 use resil_decor::{Chain, DecorError, Job, Layer, Listed, Passes, Plan};
 use resil_executor::{Executor, ExecutorCloser};
 use resil_retry::{Outcome, RetryError, Script};
-use resil_rule::{AllEvents, Record};
+use resil_rule::{AllEvents, Record, Sizes, audit_by};
 use resil_workers::{Hook, JobRow, NoHook, Report, RunConfig, RunError, run_jobs};
 use std::alloc::{AllocError, Global};
 use std::process::Abort;
 use std::sync::Wait;
 use std::thread::Threads;
 
-/// The value of a call that is to succeed.
+/// The value of a call that has to succeed.
 pub fn passed<T, E>(rt: &impl Abort, given: Result<T, E>) -> T
     ensures { given ≡ Ok result }
 {
@@ -29,13 +28,13 @@ pub fn passed<T, E>(rt: &impl Abort, given: Result<T, E>) -> T
     }
 }
 
-/// Asserts that something holds, which is told where it doesn't. A call adds less to the proof of a test than an
-/// assertion in it.
+/// Asserts that something holds, and reports it if it doesn't. A call of this adds less to the proof of a test than an
+/// assertion in the test.
 pub fn assert_that(rt: &impl Abort, is: bool, wanted: &str) {
     assert!(rt; is, "wanted: {wanted}");
 }
 
-/// The answer of a call that gives back beside an error what it was handed. That is dropped.
+/// The result of a call that returns what it got together with an error. What came back is dropped.
 pub fn answer<T, E: Drop, B: Drop>(given: Result<T, (E, B)>) -> Result<T, E> {
     match given {
         Ok(value) => Ok(value),
@@ -57,7 +56,7 @@ fn layers(alloc: Global, bulkheads: &[u16]) -> Result<Vec<Layer>, AllocError> {
     Ok(layers)
 }
 
-/// A plan under these layers, whose one call has this value.
+/// A plan under these layers, with one call, which has this value.
 fn plan_of(alloc: Global, layers: Vec<Layer>, value: i64) -> Result<Plan, DecorError> {
     let chain = answer(Chain::new(layers))?;
     match script(alloc, value) {
@@ -66,7 +65,7 @@ fn plan_of(alloc: Global, layers: Vec<Layer>, value: i64) -> Result<Plan, DecorE
     }
 }
 
-/// A plan under these bulkheads, whose one call has this value.
+/// A plan under these bulkheads, with one call, which has this value.
 pub fn plan(alloc: Global, bulkheads: &[u16], value: i64) -> Result<Plan, DecorError> {
     plan_of(alloc, layers(alloc, bulkheads)?, value)
 }
@@ -87,7 +86,7 @@ pub fn limits(rt: &impl Abort, (core, max, queue): (u32, u32, u32)) -> Limits {
     Limits::new(core, max, queue).expect(rt, "sizes in their ranges")
 }
 
-/// What is asked of a pool of these sizes with this many callers.
+/// The settings of a run on a pool of these sizes with this many callers.
 pub fn config(rt: &impl Abort, sizes: (u32, u32, u32), callers: u16) -> RunConfig {
     RunConfig {
         limits: limits(rt, sizes),
@@ -96,7 +95,7 @@ pub fn config(rt: &impl Abort, sizes: (u32, u32, u32), callers: u16) -> RunConfi
     }
 }
 
-/// Adds a row of this caller under these bulkheads, whose one call has this value.
+/// Adds a row of this caller under these bulkheads, with one call, which has this value.
 pub fn push_row(
     alloc: Global,
     rows: &mut Vec<JobRow>,
@@ -111,7 +110,7 @@ pub fn push_row(
     }
 }
 
-/// Rows with what is asked of their pool.
+/// Rows with the settings of their pool.
 #[derive(Drop)]
 pub struct Batch {
     /// The pool's sizes and its callers.
@@ -144,7 +143,7 @@ pub fn run<R: Threads + Wait + Sync>(
     run_rows(rt, alloc, &mut nobody, &NoHook, batch)
 }
 
-/// A row of each of this many callers, under these bulkheads, whose one call has the value 7.
+/// A row of each of this many callers, under these bulkheads, with one call, which has the value 7.
 pub fn rows_of_seven(
     alloc: Global,
     callers: u16,
@@ -157,7 +156,7 @@ pub fn rows_of_seven(
     Ok(rows)
 }
 
-/// What such rows come to on one worker.
+/// The result of such rows on one worker.
 fn run_sevens<R: Abort + Threads + Wait + Sync>(
     rt: &R,
     alloc: Global,
@@ -179,7 +178,7 @@ fn is_free(rt: &impl Abort, bulkhead: &Bulkhead, pass: &mut Pass)
     assert_that(rt, bulkhead.available(pass) == 1, "a free permit");
 }
 
-/// The report of such rows where bulkhead 0 has one permit, made once more where memory ran out or no thread could be
+/// The report of such rows if bulkhead 0 has one permit, made once more if it was out of memory or no thread could be
 /// started. The permit is free after each run.
 pub fn report_under_bulkhead<R: Abort + Threads + Wait + Sync>(
     rt: &R,
@@ -219,10 +218,10 @@ pub fn opened<W: Drop, H: Record>(
     ensures mine { IfOk result (λ r. IsOf r.0 r.1.seat) }
 {
     let (core, max, queue) = sizes;
-    Executor::open(alloc, Limits::new(core, max, queue)?, blank)
+    Executor::open(alloc, Sizes::new(core, max, queue)?, blank)
 }
 
-/// Asserts that the history of a pool up to here is legal.
+/// Asserts that the history of a pool so far is legal.
 pub fn is_legal<W: Drop, R: Abort + Wait>(
     rt: &R,
     alloc: Global,
@@ -232,7 +231,7 @@ pub fn is_legal<W: Drop, R: Abort + Wait>(
     let Ok(history) = pool.history(rt, alloc, &mut visitor) else {
         return Err(AdmitError::Memory);
     };
-    match audit(alloc, &pool.limits(), &history) {
+    match audit_by(alloc, &pool.limits(), &history) {
         Ok(verdict) => {
             assert_that(rt, verdict == Verdict::Legal, "a legal history");
             Ok(())

@@ -1,4 +1,4 @@
-//! Works that need something of their worker: those that submit to their own pool, and those that are lent a counter.
+//! Jobs that need something of their worker: those that submit to their own pool, and those that are lent a counter.
 
 ghost use Rattle.resil_executor.specs.Seats.{IsOf};
 
@@ -18,7 +18,7 @@ use std::thread::Threads;
 #[derive(Drop)]
 struct Again(u32);
 
-/// Where works find their own pool.
+/// Where jobs find their own pool.
 #[derive(Drop)]
 struct Own<'a, R> {
     rt: &'a R,
@@ -36,7 +36,7 @@ impl<'a, R: Wait> Run<Own<'a, R>> for Again {
     }
 }
 
-/// Runs a job, and says whether there was one.
+/// Runs a job, and returns whether there was one.
 fn run_one<R: Wait>(
     rt: &R,
     pool: &Executor<Again, AllEvents>,
@@ -80,7 +80,7 @@ fn works_submit_to_their_own_pool(rt: HostRuntime) -> Result<(), AdmitError> {
     is_legal(&rt, alloc, &pool)
 }
 
-/// Counts in its worker's context, and answers how many came before.
+/// Counts in its worker's context, and returns how many came before.
 #[derive(Drop)]
 struct Count;
 
@@ -94,7 +94,7 @@ impl WorkAt<&AtomicU32> for Count {
     }
 }
 
-/// Submits works that count, while two threads lend them the same counter. Whether all were answered.
+/// Submits jobs that count, while two threads lend them the same counter. Returns whether all were answered.
 fn count_beside<R: Threads + Wait + Sync>(
     rt: &R,
     alloc: Global,
@@ -122,7 +122,7 @@ fn count_beside<R: Threads + Wait + Sync>(
     Ok(answer.unwrap_or(false))
 }
 
-/// Whether a work that counts is accepted and answered.
+/// Whether a job that counts is accepted and answered.
 fn is_counted<R: Wait>(rt: &R, alloc: Global, pool: &WorkPool<Count>) -> bool {
     match pool.submit(rt, alloc, Count) {
         Ok((_id, before)) => before.wait(rt).is_ok(),
@@ -130,7 +130,7 @@ fn is_counted<R: Wait>(rt: &R, alloc: Global, pool: &WorkPool<Count>) -> bool {
     }
 }
 
-/// Submits this many works that count, one after the other. Whether all were answered.
+/// Submits this many jobs that count, one after the other. Returns whether all were answered.
 fn ask_counts<R: Wait>(rt: &R, alloc: Global, pool: &WorkPool<Count>, count: u32) -> bool {
     let mut all = true;
     for _ in 0..count {

@@ -7,6 +7,7 @@ use Rattle.std.proofs.lemmas.Bool.Decides.{nat_tests}
 use Rattle.std.specs.Str.{chars}
 use Rattle.toml.specs.Data.{Members, no_members, member, get_member}
 use Rattle.resil_heads.specs.Document.{document_of, has_all, has_only, is_known}
+use Rattle.resil_heads.specs.Drawing.{no_drawing}
 use Rattle.resil_heads.specs.PoolHead.{PoolHeadView, pool_head_of, pool_keys}
 use Rattle.resil_heads.specs.Sizes.{build_jdk_limits, build_limits, is_within, parse_jdk_limits, parse_sizes, required_sizes}
 use Rattle.resil_heads.specs.declared.error.HeadError.{HeadError}
@@ -98,7 +99,7 @@ head-agrees head limits e = by-document (document_of head) refl
         let built : build_limits sizes ≡ Ok limits = rw (document, only, all, read) at e in
         let jdk = sizes-agree sizes limits built in (
           (
-            record { limits = limits; name = []; recorded = record { idle_for = None; made = 0; owner = []; began = None } },
+            record { limits = limits; name = []; recorded = record { idle_for = None; made = 0; owner = []; began = None }; drawing = no_drawing },
             rw (document, only-more table only, all, no-name table only, read, jdk) refl,
             refl,
           ),

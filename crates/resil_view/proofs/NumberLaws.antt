@@ -1,5 +1,5 @@
 -- What is counted of a history is legal by the whole rule, whichever rule judged it; and why an input has no numbers.
-use Rattle.std.proofs.Common.{ℕ, ◌≡◌, ◌≤◌, ◌<◌, ◌-◌, ◌⊎◌, inl, inr, ◌∷◌, [], ◌++◌, ◌∙◌, suc, List, Option, length, take, refl, sym, ap, subst, arith}
+use Rattle.std.proofs.Common.{ℕ, ◌≡◌, ◌≤◌, ◌-◌, ◌⊎◌, inl, inr, ◌∷◌, [], ◌++◌, ◌∙◌, suc, List, Option, length, take, refl, sym, ap, subst, arith}
 use Rattle.std.proofs.lemmas.Bool.Decides.{leb_tells}
 use Rattle.std.proofs.lemmas.List.{take-append-le, take-map, take_all}
 use Rattle.resil_rule.specs.Admission as rule

@@ -1,34 +1,45 @@
 -- What is read of an input, which text a view of it has, and why it has none.
-use Rattle.std.specs.Prelude.{ℕ, List, Option}
+use Rattle.std.specs.Prelude.{ℕ, true, false, List, Option}
 use Rattle.resil_rule.specs.Limits.{Sizes}
-use Rattle.resil_rule.specs.declared.event.Event.{Event}
-use Rattle.resil_heads.specs.History.{history_head_of}
-use Rattle.resil_heads.specs.PoolHead.{pool_keys}
+use Rattle.resil_rule.specs.declared.verdict.Verdict.{Verdict}
+use Rattle.resil_heads.specs.PoolHead.{PoolHeadView, pool_head_of}
+use Rattle.resil_heads.specs.declared.drawing.Drawing.{Drawing}
+use Rattle.resil_heads.specs.declared.pool_head.Uses.{Uses}
 use Rattle.resil_heads.specs.declared.refusal.Refusal.{Refusal}
-use Rattle.resil_replay.specs.Timed.{IsHistoryBody, IsHistoryBodyError}
 use Rattle.resil_stats.specs.Svg.{IsHistorySvg}
-use Rattle.resil_view.specs.Judge.{IsJudgeRefusal, IsJudgeText}
-use Rattle.resil_view.specs.Numbers.{IsStatsRefusal, IsStatsText}
-use Rattle.resil_view.specs.Read.{IsReadFrom, AreRead, AreInOrder, IsReadRefusal}
+use Rattle.resil_stats.specs.declared.window.Extent.{Extent}
+use Rattle.resil_view.specs.Judge.{AnyEvents, IsAnyBody, IsJudgeRefusal, IsJudgeText, IsJudgment, IsPoolRefusal}
+use Rattle.resil_view.specs.Numbers.{IsStatsRefusal, IsStatsText, jdk_events}
+use Rattle.resil_view.specs.Read.{IsReadFrom, AreRead, AreInOrder}
 use Rattle.resil_view.specs.declared.command.View.{View}
 use Rattle.resil_view.specs.declared.command.View.TheVariants as view
 
--- The input has this history, which is drawn: under a head with these limits and this name, with these times where it has some; the results behind it
--- can be read, and the times ascend.
-abbrev pub IsShownFrom : List ℕ → Sizes → List ℕ → List Event → Option (List ℕ) → Type 0
-IsShownFrom input limits name history times = (results : Option (List ℕ))
-    × IsReadFrom (history_head_of pool_keys) IsHistoryBody input (limits, name) history times results × AreRead results × AreInOrder times
+-- what is used of a head of a history that is drawn: when the first event was, and what is to be drawn
+abbrev pub drawn_uses : Uses
+drawn_uses = record { idle_for = false; made = false; owner = false; began = true; drawing = true }
+
+-- how far a picture reaches, by what a head says of it
+abbrev pub extent_of : Drawing → Extent
+extent_of drawing = record { from = drawing.from; to = drawing.to; waiting = drawing.most_waiting; workers = drawing.most_workers }
+
+-- the text of the picture, with a name, of a history in a pool of these sizes as far as an extent asks for, by the verdict of `judge`
+abbrev pub IsPictureText : Extent → List ℕ → Sizes → AnyEvents → Option (List ℕ) → List ℕ → Type 0
+IsPictureText extent name limits events times text = (verdict : Verdict) × IsJudgment limits events verdict × IsHistorySvg extent name limits verdict (jdk_events events) times text
+
+-- the text is that of the picture of the history of the input: the results behind it can be read, and the times ascend
+abbrev pub IsTimelineText : List ℕ → List ℕ → Type 0
+IsTimelineText input text = (said : PoolHeadView) × (events : AnyEvents) × (times : Option (List ℕ)) × (results : Option (List ℕ))
+    × IsReadFrom (pool_head_of drawn_uses) IsAnyBody input said events times results × AreRead results × AreInOrder times × IsPictureText (extent_of said.drawing) said.name said.limits events times text
 
 -- the text of a view of the history that is read of the input: its verdict, its numbers, or its picture with its name
 abbrev pub IsViewText : View → List ℕ → List ℕ → Type 0
-IsViewText view.Judge input text = IsJudgeText input text
-IsViewText view.Stats input text = IsStatsText input text
-IsViewText view.Timeline input text = (limits : Sizes) × (name : List ℕ) × (history : List Event) × (times : Option (List ℕ))
-    × IsShownFrom input limits name history times × IsHistorySvg name limits history times text
+IsViewText view.Judge = IsJudgeText
+IsViewText view.Stats = IsStatsText
+IsViewText view.Timeline = IsTimelineText
 
 -- a refusal of a history that is drawn
 abbrev pub IsShownRefusal : List ℕ → Refusal → Type 0
-IsShownRefusal input why = IsReadRefusal (history_head_of pool_keys) IsHistoryBody IsHistoryBodyError input why
+IsShownRefusal = IsPoolRefusal drawn_uses
 
 -- a refusal of a view
 abbrev pub IsViewRefusal : View → List ℕ → Refusal → Type 0

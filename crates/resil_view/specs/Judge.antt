@@ -16,8 +16,8 @@ use Rattle.resil_input.specs.Framing.{parts_of}
 use Rattle.resil_input.specs.declared.csv_rows.BodyError.{BodyError}
 use Rattle.resil_input.specs.declared.csv_rows.BodyError.TheVariants as body_error
 use Rattle.resil_record.specs.Body.{IsRecordBody, IsRecordBodyError}
-use Rattle.resil_record.specs.Event.{events_in, times_in}
-use Rattle.resil_record.specs.declared.event.TimedJdkEvent.{TimedJdkEvent}
+use Rattle.resil_jdk.specs.Timed.{events_in, times_in}
+use Rattle.resil_jdk.specs.declared.timed.TimedJdkEvent.{TimedJdkEvent}
 use Rattle.resil_replay.specs.Audit.{IsAuditText, verdict_text}
 use Rattle.resil_replay.specs.Timed.{IsHistoryBody, IsHistoryBodyError}
 use Rattle.resil_stats.specs.Results.{results_of}
@@ -27,7 +27,7 @@ use Rattle.resil_view.specs.declared.judge.Events.TheVariants as read
 
 -- what a head says; of what recorders write there nothing is used
 abbrev pub judged_head_of : List ℕ → Result PoolHeadView HeadError
-judged_head_of bytes = pool_head_of (record { idle_for = false; made = false; owner = false; began = false }) bytes
+judged_head_of bytes = pool_head_of (record { idle_for = false; made = false; owner = false; began = false; drawing = false }) bytes
 
 -- the events of a history: those of versions 1 to 3, or those of version 4
 abbrev pub AnyEvents : Type 0

@@ -1,6 +1,6 @@
 -- `stats`: what is read of an input, and the text of the numbers of the history in it.
 use Rattle.std.proofs.Common.{inl, inr}
-use Rattle.std.specs.Prelude.{ℕ, ◌≡◌, ◌≤◌, ◌<◌, ◌⊎◌, Bool, true, false, List, Option, Some, None, IsSomeAnd, Result, length}
+use Rattle.std.specs.Prelude.{ℕ, ◌≡◌, ◌≤◌, ◌<◌, ◌⊎◌, Bool, true, false, List, Option, Some, None, IsSomeAnd, length}
 use Rattle.resil_rule.specs.Limits.{Sizes}
 use Rattle.resil_rule.specs.declared.verdict.Verdict.{Verdict}
 use Rattle.resil_jdk.specs.FromRule.{jdk_history}
@@ -10,18 +10,17 @@ use Rattle.resil_heads.specs.declared.error.HeadError.TheVariants as error
 use Rattle.resil_heads.specs.declared.pool_head.Uses.{Uses}
 use Rattle.resil_heads.specs.declared.refusal.Refusal.{Refusal}
 use Rattle.resil_heads.specs.declared.refusal.Refusal.TheVariants as refusal
-use Rattle.resil_stats.specs.Stats.{legal_part}
+use Rattle.resil_stats.specs.Stats.{AreJdkStatsOf, legal_part}
 use Rattle.resil_stats.specs.Text.{stats_text}
-use Rattle.resil_stats.specs.Whole.{AreJdkStatsOf}
-use Rattle.resil_stats.specs.WholeSpans.{AreJdkSpansOf}
-use Rattle.resil_stats.specs.declared.whole.JdkStats.{JdkStats}
-use Rattle.resil_stats.specs.declared.whole_spans.JdkSpans.{JdkSpans}
+use Rattle.resil_stats.specs.Spans.{AreJdkSpansOf}
+use Rattle.resil_stats.specs.declared.stats.JdkStats.{JdkStats}
+use Rattle.resil_stats.specs.declared.spans.JdkSpans.{JdkSpans}
 use Rattle.resil_view.specs.Judge.{AnyEvents, IsAnyBody, IsJudgment, IsPoolRefusal}
 use Rattle.resil_view.specs.Read.{AreInOrder, AreRead, IsReadFrom}
 
 -- what is used of what a recorder writes in a head: how many events restate a state
 abbrev pub counted_uses : Uses
-counted_uses = record { idle_for = false; made = true; owner = false; began = false }
+counted_uses = record { idle_for = false; made = true; owner = false; began = false; drawing = false }
 
 -- the events of a history in the words of the whole rule, and whether they are of version 4
 abbrev pub jdk_events : AnyEvents → List JdkEvent

@@ -17,7 +17,7 @@ use resil_heads::pool_head::Uses;
 use resil_heads::{CommandError, HeadError, Refusal};
 use resil_jdk::{JdkEvent, JdkLimits, jdk_history};
 use resil_rule::Verdict;
-use resil_stats::{JdkSpans, count_jdk, spans_of_jdk, stats_text};
+use resil_stats::{JdkSpans, count_jdk, legal_part, spans_of_jdk, stats_text};
 use std::alloc::{AllocError, Global};
 
 /// What is used of what a recorder writes in a head: how many events restate a state.
@@ -26,20 +26,8 @@ pub(crate) const USES: Uses = Uses {
     made: true,
     owner: false,
     began: false,
+    drawing: false,
 };
-
-// The events that are counted, by the verdict on their history.
-fn legal_part(history: &[JdkEvent], verdict: Verdict) -> &[JdkEvent]
-    ensures { result.now ≡ legal_part verdict history.now }
-{
-    match verdict {
-        Verdict::Legal => history,
-        Verdict::FirstIllegal(position) => {
-            let count = position.saturating_sub(1).min(history.len());
-            &history[..count]
-        }
-    }
-}
 
 // The spans of legal events, where their history has times. Errors: `AllocError` when out of memory.
 fn known_spans(

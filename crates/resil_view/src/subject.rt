@@ -1,45 +1,23 @@
 //! What a view of a history says of its inputs to whoever explains what is wrong with one.
 
 use crate::command::View;
+use crate::drawn::DRAWN_USES;
 use crate::judge::{AnyHistory, Events, own_limits, read_any};
 use crate::numbers::USES;
-use csv::ByteRecord;
-use resil_heads::forms::{Body, Form, Key};
-use resil_heads::history::read_head;
-use resil_heads::layers::{LAYER, PERMITS};
+use resil_heads::forms::{Body, Key};
 use resil_heads::pool_head::{POOL_KEYS, Uses, read_pool_head};
-use resil_heads::sizes::{CORE, MAX, QUEUE};
 use resil_heads::subject::Subject;
 use resil_heads::{FaultyKey, HeadError, HeadFault};
-use resil_input::csv_rows::has_fields;
 use resil_jdk::{JdkEvent, JdkLimits, jdk_history};
 use resil_record::body;
 use resil_replay::timed::{self, read_history};
 use resil_rule::{Event, Limits};
 use std::alloc::Global;
 
-// The keys of `POOL_KEYS` with the sizes of a history that is drawn. The values of all but these and the name aren't looked at.
-const DRAWN_KEYS: &[Key] = &[
-    CORE,
-    MAX,
-    QUEUE,
-    Key::Optional("keep_alive", Form::Count(0, 4_294_967_295)),
-    PERMITS,
-    LAYER,
-    Key::Optional("name", Form::ShortText(64)),
-    Key::Optional("idle_for", Form::Integer(0, 31_536_000_000_000)),
-    Key::Optional("made", Form::Made),
-    Key::Optional("record", Form::ShortText(64)),
-    Key::Optional("began", Form::Moment),
-];
-
-// What the bodies of a history may have besides those of `audit`, if it is drawn.
-const SHOWN_BODIES: &[(&str, Body)] = &[("with times", timed::BODY)];
-
-// The same, if it is judged or counted.
-const JUDGED_BODIES: &[(&str, Body)] = &[
+// What the bodies of a history may have besides those of `audit`.
+const BODIES: &[(&str, Body)] = &[
     ("with times", timed::BODY),
-    ("of any pool of the JDK", body::BODY),
+    ("for any JDK pool", body::BODY),
 ];
 
 // Why `stats` refuses a head: if that can be read, what it says of `made` doesn't fit the history.
@@ -52,17 +30,14 @@ fn fault_of_numbers(alloc: Global, head: &[u8]) -> HeadFault {
 
 impl Subject for View {
     fn keys(self) -> &'static [Key] {
-        match self {
-            View::Judge | View::Stats => POOL_KEYS,
-            View::Timeline => DRAWN_KEYS,
-        }
+        POOL_KEYS
     }
 
     fn fault_in(self, alloc: Global, head: &[u8]) -> Option<HeadFault> {
         match self {
             View::Judge => read_pool_head(alloc, Uses::NONE, head).err(),
             View::Stats => Some(fault_of_numbers(alloc, head)),
-            View::Timeline => read_head(alloc, POOL_KEYS, head).err(),
+            View::Timeline => read_pool_head(alloc, DRAWN_USES, head).err(),
         }
     }
 
@@ -71,25 +46,17 @@ impl Subject for View {
     }
 
     fn other_bodies(self) -> &'static [(&'static str, Body)] {
-        match self {
-            View::Judge | View::Stats => JUDGED_BODIES,
-            View::Timeline => SHOWN_BODIES,
-        }
+        BODIES
     }
 
     fn said_of(self, name: &str) -> Option<&'static str> {
         (name == "BadRow").then_some(
-            "a record behind the history is no result: it has a caller, a number, an outcome, calls, waits and answers",
+            "a record after the history must be a result: a caller, a number, an outcome, calls, waits and answers",
         )
     }
 
     fn pool(self, alloc: Global, head: &[u8], part: &[u8]) -> Option<(Limits, Vec<Event>)> {
-        let limits = match self {
-            View::Judge | View::Stats => {
-                own_limits(&read_pool_head(alloc, Uses::NONE, head).ok()?.limits)?
-            }
-            View::Timeline => read_head(alloc, POOL_KEYS, head).ok()?.limits,
-        };
+        let limits = own_limits(&read_pool_head(alloc, Uses::NONE, head).ok()?.limits)?;
         Some((limits, read_history(alloc, part).ok()?.events))
     }
 
@@ -99,10 +66,7 @@ impl Subject for View {
         head: &[u8],
         part: &[u8],
     ) -> Option<(JdkLimits, Vec<JdkEvent>)> {
-        let limits = match self {
-            View::Judge | View::Stats => read_pool_head(alloc, Uses::NONE, head).ok()?.limits,
-            View::Timeline => return None,
-        };
+        let limits = read_pool_head(alloc, Uses::NONE, head).ok()?.limits;
         let AnyHistory { events, times: _ } = read_any(alloc, part).ok()?;
         match events {
             Events::Own(events) => {
@@ -113,30 +77,6 @@ impl Subject for View {
                 Some((limits, jdk_history(alloc, &events).ok()?))
             }
             Events::Whole(events) => Some((limits, events)),
-        }
-    }
-
-    // Names `judge` and `stats` if they take what `timeline` refuses.
-    fn other_command(
-        self,
-        alloc: Global,
-        name: &str,
-        head: &[u8],
-        record: Option<&ByteRecord>,
-    ) -> Option<&'static str> {
-        if self != View::Timeline {
-            return None;
-        }
-        let is_whole = record.is_some_and(|record| has_fields(record, body::BODY.header));
-        let is_wide = matches!(name, "CoreOutOfRange" | "MaxOutOfRange" | "QueueOutOfRange");
-        if name == "BadHeader" && is_whole {
-            Some(
-                "this is a history of any pool of the JDK, which the commands `judge` and `stats` take",
-            )
-        } else if is_wide && read_pool_head(alloc, Uses::NONE, head).is_ok() {
-            Some("the commands `judge` and `stats` take this head")
-        } else {
-            None
         }
     }
 }

@@ -1,10 +1,11 @@
 -- The first of what is due.
-use Rattle.std.proofs.Common.{inl, inr, ◌⊎◌, ◌≡◌, ◌≤◌, ◌<◌, ◌∷◌, [], ◌++◌, ◌∙◌, ℕ, zero, suc, Bool, true, false, All, List, Option, Some, None, map, nat_lt, option_map, slice_get, take, refl, sym, ap, subst, arith}
-use Rattle.std.specs.List.{remove}
+use Rattle.std.proofs.Common.{inl, inr, ◌⊎◌, ◌≡◌, ◌≤◌, ◌<◌, ◌+◌, ◌∷◌, [], ◌++◌, ◌∙◌, ℕ, true, false, All, List, Option, Some, None, get_or, length, map, nat_lt, option_map, take, refl, sym, ap, subst, arith}
+use Rattle.std.specs.List.{cons_option, filter_map}
 use Rattle.std.specs.Option.{IfSome}
+use Rattle.std.proofs.lemmas.List.{take_more}
 use Rattle.std.proofs.lemmas.Grind.{common_steps}
-use Rattle.std.proofs.lemmas.List.Elements.{All-cons, All-head, All-nil, All-tail, All-weaker}
-use Rattle.resil_virtual.specs.Due.{EndsFrom, earliest, ends_at, ends_of, sooner, still_ends, without_first}
+use Rattle.std.proofs.lemmas.List.Elements.{All-cons, All-head, All-nil, All-tail, All-weaker, filter_map-append}
+use Rattle.resil_virtual.specs.Due.{earliest, sooner}
 
 -- a number is below another one, or it isn't
 pub lt-cases : (n m : ℕ) → ((nat_lt n m ≡ true) × (n < m)) ⊎ ((nat_lt n m ≡ false) × (m ≤ n))
@@ -78,7 +79,7 @@ module _ {X : Type 0} (at : X → ℕ) where
   some-of P None all = tt
   some-of P (Some t) all = all t refl
 
-  among : (P : X → Type 0) (xs : List X) → All P xs → (t : X) → earliest at xs ≡ Some t → P t
+  pub among : (P : X → Type 0) (xs : List X) → All P xs → (t : X) → earliest at xs ≡ Some t → P t
   among P [] all t is = absurd (cc is)
   among P (x ∷ xs) all t is = among-tail P x xs (earliest at xs) (All-head P x xs all) (some-of P (earliest at xs) (among P xs (All-tail P x xs all))) t is
 
@@ -104,57 +105,19 @@ module _ {X Y : Type 0} (f : X → Y) (at : X → ℕ) (to : Y → ℕ) (same : 
   earliest-map [] = refl
   earliest-map (x ∷ xs) = ap (sooner to (Some (f x))) (earliest-map xs) ∙ sym (sooner-map (Some x) (earliest at xs))
 
--- ---- Idle workers.
+-- the first of some times, and the next one
+pub times-more : (Y : Type 0) (time : Y → Option ℕ) (ys : List Y) (i : ℕ) (d : Y) → i < length ys → (first next : Option ℕ) → first ≡ earliest (λ at. at) (filter_map time (take i ys)) → next ≡ sooner (λ at. at) first (time (get_or ys i d))
+    → next ≡ earliest (λ at. at) (filter_map time (take (i + 1) ys))
+times-more Y time ys i d within first next was is =
+    is ∙ ap (λ (a : Option ℕ). sooner (λ at. at) a (time (get_or ys i d))) was
+    ∙ sym (ap (λ (zs : List Y). earliest (λ at. at) (filter_map time zs)) (take_more ys i d within) ∙ ap (earliest (λ at. at)) (filter_map-append time (take i ys) (get_or ys i d ∷ []))
+    ∙ earliest-append (λ at. at) (filter_map time (take i ys)) (filter_map time (get_or ys i d ∷ [])) ∙ ap (sooner (λ at. at) (earliest (λ at. at) (filter_map time (take i ys)))) (one (time (get_or ys i d))))
+  where
+    one : (o : Option ℕ) → earliest (λ at. at) (cons_option o []) ≡ o
+    one None = refl
+    one (Some at) = refl
 
--- ends and those who have them
-pub ends-all : (n : ℕ) (idle : List (Option ℕ)) → All (λ end. n ≤ end) (ends_of idle) → EndsFrom n idle
-ends-all n [] all = All-nil (λ worker. IfSome worker (λ end. n ≤ end))
-ends-all n (None ∷ idle) all = All-cons (λ worker. IfSome worker (λ end. n ≤ end)) None idle tt (ends-all n idle all)
-ends-all n (Some end ∷ idle) all =
-    All-cons (λ worker. IfSome worker (λ end. n ≤ end)) (Some end) idle (All-head (λ end. n ≤ end) end (ends_of idle) all) (ends-all n idle (All-tail (λ end. n ≤ end) end (ends_of idle) all))
-
-pub ends-each : (n : ℕ) (idle : List (Option ℕ)) → EndsFrom n idle → All (λ end. n ≤ end) (ends_of idle)
-ends-each n [] all = All-nil (λ end. n ≤ end)
-ends-each n (None ∷ idle) all = ends-each n idle (All-tail (λ worker. IfSome worker (λ end. n ≤ end)) None idle all)
-ends-each n (Some end ∷ idle) all =
-    All-cons (λ end. n ≤ end) end (ends_of idle) (All-head (λ worker. IfSome worker (λ end. n ≤ end)) (Some end) idle all) (ends-each n idle (All-tail (λ worker. IfSome worker (λ end. n ≤ end)) (Some end) idle all))
-
--- an end before all of some is none of them
-other-end : (n m : ℕ) → n < m → (worker : Option ℕ) → IfSome worker (λ end. m ≤ end) → ends_at n worker ≡ false
-other-end n m less None is = refl
-other-end n m less (Some end) is = grind (arith, common_steps, is, less)
-
-pub none-at : (n m : ℕ) → n < m → (idle : List (Option ℕ)) → EndsFrom m idle → All (λ worker. ends_at n worker ≡ false) idle
-none-at n m less idle all = All-weaker (λ worker. IfSome worker (λ end. m ≤ end)) (λ worker. ends_at n worker ≡ false) (other-end n m less) idle all
-
-pub none-of : (n : ℕ) (idle : List (Option ℕ)) → ends_of idle ≡ [] → All (λ worker. ends_at n worker ≡ false) idle
-none-of n [] none = All-nil (λ worker. ends_at n worker ≡ false)
-none-of n (None ∷ idle) none = All-cons (λ worker. ends_at n worker ≡ false) None idle refl (none-of n idle none)
-none-of n (Some end ∷ idle) none = absurd (cc none)
-
--- those whose time is over stay
-same-end : (at : ℕ) (worker : Option ℕ) → IfSome worker (λ end. at ≤ end) → still_ends at worker ≡ worker
-same-end at None is = refl
-same-end at (Some end) is = elim (lt-cases end at) [ inl over ↦ absurd (omega (arith, over.1, is)) | inr ahead ↦ rw ahead.0 refl ]
-
-pub all-still : (at : ℕ) (idle : List (Option ℕ)) → EndsFrom at idle → map (still_ends at) idle ≡ idle
-all-still at [] all = refl
-all-still at (worker ∷ idle) all =
-    let first = same-end at worker (All-head (λ worker. IfSome worker (λ end. at ≤ end)) worker idle all) in
-    let rest = all-still at idle (All-tail (λ worker. IfSome worker (λ end. at ≤ end)) worker idle all) in
-    ap (λ (w : Option ℕ). w ∷ map (still_ends at) idle) first ∙ ap (λ (ws : List (Option ℕ)). worker ∷ ws) rest
-
-one-still : (at : ℕ) (worker : Option ℕ) → IfSome (still_ends at worker) (λ end. at ≤ end)
-one-still at None = tt
-one-still at (Some end) = elim (lt-cases end at) [ inl over ↦ rw over.0 tt | inr ahead ↦ rw ahead.0 ahead.1 ]
-
-pub still-from : (at : ℕ) (idle : List (Option ℕ)) → EndsFrom at (map (still_ends at) idle)
-still-from at [] = All-nil (λ worker. IfSome worker (λ end. at ≤ end))
-still-from at (worker ∷ idle) = All-cons (λ worker. IfSome worker (λ end. at ≤ end)) (still_ends at worker) (map (still_ends at) idle) (one-still at worker) (still-from at idle)
-
--- the first of those that pass is gone
-pub without-is : {X : Type 0} (p : X → Bool) (xs : List X) (i : ℕ) (x : X) → slice_get xs i ≡ Some x → p x ≡ true → All (λ y. p y ≡ false) (take i xs) → without_first p xs ≡ remove xs i
-without-is p [] i x is passes before = absurd (cc is)
-without-is p (y ∷ xs) zero x is passes before = let same : y ≡ x = cc is in rw (same, passes) refl
-without-is {X} p (y ∷ xs) (suc i) x is passes before =
-    rw (All-head (λ y. p y ≡ false) y (take i xs) before) (ap (λ (ys : List X). y ∷ ys) (without-is p xs i x is passes (All-tail (λ y. p y ≡ false) y (take i xs) before)))
+-- the first so far and the next one
+pub first-more : (X : Type 0) (at : X → ℕ) (xs : List X) (i : ℕ) (d : X) → i < length xs → (first : Option X) (best : X) → first ≡ earliest at (take i xs) → Some best ≡ sooner at first (Some (get_or xs i d)) → Some best ≡ earliest at (take (i + 1) xs)
+first-more X at xs i d within first best was is =
+    is ∙ ap (λ (a : Option X). sooner at a (Some (get_or xs i d))) was ∙ sym (ap (earliest at) (take_more xs i d within) ∙ earliest-append at (take i xs) (get_or xs i d ∷ []))

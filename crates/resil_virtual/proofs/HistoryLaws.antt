@@ -1,26 +1,34 @@
 -- A history that goes on by an event with its time.
-use Rattle.std.proofs.Common.{◌≡◌, ◌≤◌, ◌<◌, ◌+◌, ◌==◌, ◌&&◌, ◌∷◌, [], ◌++◌, ◌∙◌, ℕ, zero, suc, Bool, true, false, not, cond, All, List, Option, Some, None, filter, length, map, slice_get, slice_index, take, refl, sym, ap, subst, arith, append_assoc, append-nil}
-use Rattle.std.specs.List.{filter_map, remove}
+use Rattle.std.proofs.Common.{◌≡◌, ◌≤◌, ◌<◌, ◌+◌, ◌==◌, ◌&&◌, ◌∷◌, [], ◌++◌, ◌∙◌, ℕ, zero, suc, Bool, true, false, not, cond, List, Option, Some, None, filter, length, map, slice_get, slice_index, take, refl, sym, ap, subst, arith, append_assoc, append-nil}
+use Rattle.std.specs.List.{cons_option, filter_map}
 use Rattle.std.specs.Option.{option_map_or}
 use Rattle.std.proofs.lemmas.Bool.{cases_Bool}
 use Rattle.std.proofs.lemmas.List.{map-append}
-use Rattle.std.proofs.lemmas.List.Elements.{All-head, All-tail, All-weaker, filter-append, filter_map-append}
-use Rattle.resil_rule.specs.Limits.{Sizes}
-use Rattle.resil_rule.specs.History.{finished, finished_id, is_among, is_same_id, last_size, submissions, times}
+use Rattle.std.proofs.lemmas.List.Elements.{filter-append, filter_map-append}
+use Rattle.resil_rule.specs.History.{is_among, is_same_id, last_size}
 use Rattle.resil_rule.specs.declared.event.Id.{Id}
-use Rattle.resil_rule.specs.declared.event.Event.{Event}
-use Rattle.resil_rule.specs.declared.event.Event.TheVariants.{Submit, Take, Finish, IdleEnd, Close, Resized}
-use Rattle.resil_rule.proofs.IdLaws.{same_id-self}
+use Rattle.resil_jdk.specs.History.{finished, finished_id, submissions}
+use Rattle.resil_jdk.specs.declared.event.JdkEvent.{JdkEvent}
+use Rattle.resil_jdk.specs.declared.event.JdkEvent.TheVariants.{Submit}
 use Rattle.resil_rule.proofs.TimesLaws.{among-last}
-use Rattle.resil_rule.proofs.UnpickedLaws.{filtered-more, filtered-same}
 use Rattle.resil_virtual.specs.Load.{of_caller}
-use Rattle.resil_rule.specs.Timed.{AreAscending, events_in, times_in}
-use Rattle.resil_rule.specs.declared.timed.Timed.{Timed}
+use Rattle.resil_rule.specs.Timed.{AreAscending}
+use Rattle.resil_jdk.specs.Timed.{events_in, times_in}
+use Rattle.resil_jdk.specs.declared.timed.TimedJdkEvent.{TimedJdkEvent}
 use Rattle.resil_virtual.specs.declared.arrival.Arrival.{Arrival}
 use Rattle.resil_virtual.specs.declared.due.Running.{Running}
 use Rattle.resil_virtual.specs.Due.{begun_id, finish_from, finish_of, finishes, idle_after, idle_from, idle_next, is_to_come, last_at, next_due, submissions_at, submissions_of, submitted_at}
-use Rattle.resil_virtual.specs.Simulated.{GoesOn, OneHistory}
+use Rattle.resil_virtual.specs.Simulated.{GoesOn, OneHistory, opening}
+use Rattle.resil_virtual.specs.declared.idle.Idle.{Idle}
+use Rattle.resil_virtual.specs.declared.virtual_pool.VirtualPool.{VirtualPool}
 use Rattle.resil_virtual.specs.Pool.{AreDue, finish_at}
+
+-- a list that is filtered out of events, with one more event
+pub filtered-same : {A : Type 0} (f : JdkEvent → Option A) (h : List JdkEvent) (e : JdkEvent) → f e ≡ None → filter_map f (h ++ e ∷ []) ≡ filter_map f h
+filtered-same f h e none = filter_map-append f h (e ∷ []) ∙ ap (λ o. filter_map f h ++ cons_option o []) none ∙ append-nil _
+
+pub filtered-more : {A : Type 0} (f : JdkEvent → Option A) (h : List JdkEvent) (e : JdkEvent) (id : A) → f e ≡ Some id → filter_map f (h ++ e ∷ []) ≡ filter_map f h ++ id ∷ []
+filtered-more f h e id some = filter_map-append f h (e ∷ []) ∙ ap (λ o. filter_map f h ++ cons_option o []) some
 
 -- ---- The last event.
 
@@ -28,7 +36,7 @@ last-pushed : (other : ℕ) (times : List ℕ) (at : ℕ) → last_size other (t
 last-pushed other [] at = refl
 last-pushed other (t ∷ times) at = last-pushed t times at
 
-module _ (h : List Timed) (t : Timed) where
+module _ (h : List TimedJdkEvent) (t : TimedJdkEvent) where
   times-are : times_in (h ++ t ∷ []) ≡ times_in h ++ t.at ∷ []
   times-are = map-append (λ timed. timed.at) h (t ∷ [])
 
@@ -67,7 +75,7 @@ ascending-last other (t ∷ u ∷ times) at le all =
     let two : t ≤ u = all 0 (omega arith) in
     ascending-more t u (times ++ at ∷ []) two (ascending-last t (u ∷ times) at le (ascending-rest t (u ∷ times) all))
 
-pub ascending-pushed : (h : List Timed) (t : Timed) → last_at h ≤ t.at → AreAscending (times_in h) → AreAscending (times_in (h ++ t ∷ []))
+pub ascending-pushed : (h : List TimedJdkEvent) (t : TimedJdkEvent) → last_at h ≤ t.at → AreAscending (times_in h) → AreAscending (times_in (h ++ t ∷ []))
 ascending-pushed h t le all = subst AreAscending (sym (times-are h t)) (ascending-last 0 (times_in h) t.at le all)
 
 -- ---- The jobs that run.
@@ -77,10 +85,10 @@ filter-both p q r is [] = refl
 filter-both p q r is (x ∷ xs) = let rest = filter-both p q r is xs in let here = is x in grind (arith, rest, here, cases_Bool (p x), cases_Bool (q x), cases_Bool (r x))
 
 -- whether it isn't the finish of a job
-abbrev pub is_of_other : Id → Timed → Bool
+abbrev pub is_of_other : Id → TimedJdkEvent → Bool
 is_of_other id finish = not (option_map_or (λ x. is_same_id id x) (finished_id finish.event) false)
 
-module _ (arrivals : List Arrival) (h : List Timed) (t : Timed) where
+module _ (arrivals : List Arrival) (h : List TimedJdkEvent) (t : TimedJdkEvent) where
   abbrev done : List Id
   done = finished (events_in h)
 
@@ -95,20 +103,20 @@ module _ (arrivals : List Arrival) (h : List Timed) (t : Timed) where
       let one : filter_map (finish_of arrivals) (t ∷ []) ≡ finish_from arrivals t.at id ∷ [] = rw is refl in
       let passes : filter (is_to_come done) (finish_from arrivals t.at id ∷ []) ≡ finish_from arrivals t.at id ∷ [] = rw fresh refl in
       ap (λ (ids : List Id). filter (is_to_come ids) (filter_map (finish_of arrivals) (h ++ t ∷ []))) (same-done none)
-      ∙ ap (filter (is_to_come done)) (filter_map-append (finish_of arrivals) h (t ∷ []) ∙ ap (λ (more : List Timed). filter_map (finish_of arrivals) h ++ more) one)
+      ∙ ap (filter (is_to_come done)) (filter_map-append (finish_of arrivals) h (t ∷ []) ∙ ap (λ (more : List TimedJdkEvent). filter_map (finish_of arrivals) h ++ more) one)
       ∙ filter-append (is_to_come done) (filter_map (finish_of arrivals) h) (finish_from arrivals t.at id ∷ [])
-      ∙ ap (λ (more : List Timed). finishes arrivals h ++ more) passes
+      ∙ ap (λ (more : List TimedJdkEvent). finishes arrivals h ++ more) passes
 
   begins-none : begun_id t.event ≡ None → filter_map (finish_of arrivals) (h ++ t ∷ []) ≡ filter_map (finish_of arrivals) h
   begins-none none =
       let no : filter_map (finish_of arrivals) (t ∷ []) ≡ [] = rw none refl in
-      filter_map-append (finish_of arrivals) h (t ∷ []) ∙ ap (λ (more : List Timed). filter_map (finish_of arrivals) h ++ more) no ∙ append-nil _
+      filter_map-append (finish_of arrivals) h (t ∷ []) ∙ ap (λ (more : List TimedJdkEvent). filter_map (finish_of arrivals) h ++ more) no ∙ append-nil _
 
   pub finishes-same : begun_id t.event ≡ None → finished_id t.event ≡ None → finishes arrivals (h ++ t ∷ []) ≡ finishes arrivals h
   finishes-same none same =
       ap (λ (ids : List Id). filter (is_to_come ids) (filter_map (finish_of arrivals) (h ++ t ∷ []))) (same-done same) ∙ ap (filter (is_to_come done)) (begins-none none)
 
-  still : (id : Id) (f : Timed) → is_to_come (done ++ id ∷ []) f ≡ (is_to_come done f && is_of_other id f)
+  still : (id : Id) (f : TimedJdkEvent) → is_to_come (done ++ id ∷ []) f ≡ (is_to_come done f && is_of_other id f)
   still id f = go (finished_id f.event) refl
     where
       go : (o : Option Id) → finished_id f.event ≡ o → is_to_come (done ++ id ∷ []) f ≡ (is_to_come done f && is_of_other id f)
@@ -122,67 +130,47 @@ module _ (arrivals : List Arrival) (h : List Timed) (t : Timed) where
       ∙ filter-both (is_to_come (done ++ id ∷ [])) (is_to_come done) (is_of_other id) (still id) (filter_map (finish_of arrivals) h)
 
 -- the jobs without the one that is finished
-filter-all : {X : Type 0} (p : X → Bool) (xs : List X) → All (λ x. p x ≡ true) xs → filter p xs ≡ xs
-filter-all p [] all = refl
-filter-all {X} p (x ∷ xs) all = rw (All-head (λ x. p x ≡ true) x xs all) (ap (λ (ys : List X). x ∷ ys) (filter-all p xs (All-tail (λ x. p x ≡ true) x xs all)))
-
--- one that is alone in a list
-filter-alone : {X : Type 0} (p : X → Bool) (xs : List X) (i : ℕ) (x : X) → slice_get xs i ≡ Some x → p x ≡ false → All (λ y. p y ≡ true) (remove xs i) → filter p xs ≡ remove xs i
-filter-alone p [] i x is fails all = absurd (cc is)
-filter-alone p (y ∷ xs) zero x is fails all = let same : y ≡ x = cc is in rw (same, fails) (filter-all p xs all)
-filter-alone {X} p (y ∷ xs) (suc i) x is fails all =
-    rw (All-head (λ y. p y ≡ true) y (remove xs i) all) (ap (λ (ys : List X). y ∷ ys) (filter-alone p xs i x is fails (All-tail (λ y. p y ≡ true) y (remove xs i) all)))
-
 filter-mapped : {X Y : Type 0} (f : X → Y) (p : Y → Bool) (xs : List X) → filter p (map f xs) ≡ map f (filter (λ x. p (f x)) xs)
 filter-mapped f p [] = refl
 filter-mapped f p (x ∷ xs) = let rest = filter-mapped f p xs in grind (arith, rest, cases_Bool (p (f x)))
 
-pub others-are : (running : List Running) (place : ℕ) (job : Running) → slice_get running place ≡ Some job → All (λ other. is_same_id job.slot.id other.slot.id ≡ false) (remove running place)
-    → filter (is_of_other job.slot.id) (map finish_at running) ≡ map finish_at (remove running place)
-others-are running place job there apart =
-    filter-mapped finish_at (is_of_other job.slot.id) running
-    ∙ ap (map finish_at) (filter-alone (λ other. is_of_other job.slot.id (finish_at other)) running place job there (rw (same_id-self job.slot.id) refl)
-    (All-weaker (λ other. is_same_id job.slot.id other.slot.id ≡ false) (λ other. is_of_other job.slot.id (finish_at other) ≡ true) (λ other is. rw is refl) (remove running place) apart))
+pub others-are : (id : Id) (jobs : List Running) → filter (is_of_other id) (map finish_at jobs) ≡ map finish_at (filter (λ job. not (is_same_id id job.id)) jobs)
+others-are id jobs = filter-mapped finish_at (is_of_other id) jobs
 
 -- ---- What was due.
 
-module _ (limits : Sizes) (idle_for : ℕ) where
-  from-pushed : (before : List Timed) (idle : List (Option ℕ)) (h : List Timed) (t : Timed) → idle_from limits idle_for before idle (h ++ t ∷ []) ≡ idle_next limits idle_for (before ++ h) (idle_from limits idle_for before idle h) t
-  from-pushed before idle [] t = ap (λ (b : List Timed). idle_next limits idle_for b idle t) (sym (append-nil before))
-  from-pushed before idle (e ∷ h) t = from-pushed (before ++ e ∷ []) (idle_next limits idle_for before idle e) h t
-      ∙ ap (λ (b : List Timed). idle_next limits idle_for b (idle_from limits idle_for (before ++ e ∷ []) (idle_next limits idle_for before idle e) h) t) (append_assoc before (e ∷ []) h)
+module _ (pool : VirtualPool) where
+  from-pushed : (before : List TimedJdkEvent) (idle : List Idle) (h : List TimedJdkEvent) (t : TimedJdkEvent) → idle_from pool before idle (h ++ t ∷ []) ≡ idle_next pool (before ++ h) (idle_from pool before idle h) t
+  from-pushed before idle [] t = ap (λ (b : List TimedJdkEvent). idle_next pool b idle t) (sym (append-nil before))
+  from-pushed before idle (e ∷ h) t = from-pushed (before ++ e ∷ []) (idle_next pool before idle e) h t
+      ∙ ap (λ (b : List TimedJdkEvent). idle_next pool b (idle_from pool (before ++ e ∷ []) (idle_next pool before idle e) h) t) (append_assoc before (e ∷ []) h)
 
-  pub idle-pushed : (h : List Timed) (t : Timed) → idle_after limits idle_for (h ++ t ∷ []) ≡ idle_next limits idle_for h (idle_after limits idle_for h) t
+  pub idle-pushed : (h : List TimedJdkEvent) (t : TimedJdkEvent) → idle_after pool (h ++ t ∷ []) ≡ idle_next pool h (idle_after pool h) t
   idle-pushed h t = from-pushed [] [] h t
 
   module _ (arrivals : List Arrival) where
-    due-pushed : (before h : List Timed) (t : Timed) → AreDue limits idle_for arrivals before h → next_due limits idle_for arrivals (before ++ h) ≡ Some t → AreDue limits idle_for arrivals before (h ++ t ∷ [])
-    due-pushed before [] t are is = (subst (λ (b : List Timed). next_due limits idle_for arrivals b ≡ Some t) (append-nil before) is, tt)
+    pub due-pushed : (before h : List TimedJdkEvent) (t : TimedJdkEvent) → AreDue pool arrivals before h → next_due pool arrivals (before ++ h) ≡ Some t → AreDue pool arrivals before (h ++ t ∷ [])
+    due-pushed before [] t are is = (subst (λ (b : List TimedJdkEvent). next_due pool arrivals b ≡ Some t) (append-nil before) is, tt)
     due-pushed before (e ∷ h) t are is =
-        (are.0, due-pushed (before ++ e ∷ []) h t are.1 (subst (λ (b : List Timed). next_due limits idle_for arrivals b ≡ Some t) (sym (append_assoc before (e ∷ []) h)) is))
+        (are.0, due-pushed (before ++ e ∷ []) h t are.1 (subst (λ (b : List TimedJdkEvent). next_due pool arrivals b ≡ Some t) (sym (append_assoc before (e ∷ []) h)) is))
 
-    pub next-pushed : (h : List Timed) (t : Timed) → AreDue limits idle_for arrivals [] h → next_due limits idle_for arrivals h ≡ Some t → AreDue limits idle_for arrivals [] (h ++ t ∷ [])
-    next-pushed h t are is = due-pushed [] h t are is
-
-    all-done : (before h : List Timed) → AreDue limits idle_for arrivals before h → next_due limits idle_for arrivals (before ++ h) ≡ None → GoesOn limits idle_for arrivals before h
-    all-done before [] are is = subst (λ (b : List Timed). next_due limits idle_for arrivals b ≡ None) (append-nil before) is
+    pub all-done : (before h : List TimedJdkEvent) → AreDue pool arrivals before h → next_due pool arrivals (before ++ h) ≡ None → GoesOn pool arrivals before h
+    all-done before [] are is = subst (λ (b : List TimedJdkEvent). next_due pool arrivals b ≡ None) (append-nil before) is
     all-done before (e ∷ h) are is =
-        (are.0, all-done (before ++ e ∷ []) h are.1 (subst (λ (b : List Timed). next_due limits idle_for arrivals b ≡ None) (sym (append_assoc before (e ∷ []) h)) is))
+        (are.0, all-done (before ++ e ∷ []) h are.1 (subst (λ (b : List TimedJdkEvent). next_due pool arrivals b ≡ None) (sym (append_assoc before (e ∷ []) h)) is))
 
-    pub goes-on : (h : List Timed) → AreDue limits idle_for arrivals [] h → next_due limits idle_for arrivals h ≡ None → GoesOn limits idle_for arrivals [] h
-    goes-on h are is = all-done [] h are is
-
-    same-events : (before h k : List Timed) → GoesOn limits idle_for arrivals before h → GoesOn limits idle_for arrivals before k → h ≡ k
+    same-events : (before h k : List TimedJdkEvent) → GoesOn pool arrivals before h → GoesOn pool arrivals before k → h ≡ k
     same-events before [] [] ends stops = refl
     same-events before [] (u ∷ k) ends goes = absurd (cc (ends, goes.0))
     same-events before (t ∷ h) [] goes ends = absurd (cc (ends, goes.0))
     same-events before (t ∷ h) (u ∷ k) goes too =
         let same : t ≡ u = cc (goes.0, too.0) in
-        let rest = same-events (before ++ t ∷ []) h k goes.1 (subst (λ (x : Timed). GoesOn limits idle_for arrivals (before ++ x ∷ []) k) (sym same) too.1) in
+        let rest = same-events (before ++ t ∷ []) h k goes.1 (subst (λ (x : TimedJdkEvent). GoesOn pool arrivals (before ++ x ∷ []) k) (sym same) too.1) in
         cc (same, rest)
 
 pub one-history : OneHistory
-one-history limits idle_for arrivals h k is too = same-events limits idle_for arrivals [] h k is.goes_on too.goes_on
+one-history pool arrivals h k is too =
+    is.opens ∙ ap (λ (rest : List TimedJdkEvent). opening pool ++ rest) (same-events pool arrivals (opening pool) is.rest too.rest is.goes_on too.goes_on) ∙ sym too.opens
 
 -- ---- The submissions of a caller.
 
@@ -190,25 +178,21 @@ one-if : {X : Type 0} (b : Bool) (x : X) (xs : List X) → length (cond b (x ∷
 one-if true x xs = omega arith
 one-if false x xs = omega arith
 
-caller-pairs : (caller : ℕ) (h : List Timed) → length (submissions (events_in h) caller) ≡ length (filter (λ s. s.0.caller == caller) (submissions_at h))
+caller-pairs : (caller : ℕ) (h : List TimedJdkEvent) → length (submissions (events_in h) caller) ≡ length (filter (λ s. s.0.caller == caller) (submissions_at h))
 caller-pairs caller [] = refl
 caller-pairs caller (t ∷ h) = one caller t h (caller-pairs caller h) t.event refl
   where
-    one : (caller : ℕ) (t : Timed) (h : List Timed) → length (submissions (events_in h) caller) ≡ length (filter (λ s. s.0.caller == caller) (submissions_at h)) → (e : Event) → t.event ≡ e
+    one : (caller : ℕ) (t : TimedJdkEvent) (h : List TimedJdkEvent) → length (submissions (events_in h) caller) ≡ length (filter (λ s. s.0.caller == caller) (submissions_at h)) → (e : JdkEvent) → t.event ≡ e
         → length (submissions (events_in (t ∷ h)) caller) ≡ length (filter (λ s. s.0.caller == caller) (submissions_at (t ∷ h)))
     one caller t h rest (Submit id reply) is = rw is (one-if (id.caller == caller) _ _ ∙ ap (λ n. cond (id.caller == caller) 1 0 + n) rest ∙ sym (one-if (id.caller == caller) _ _))
-    one caller t h rest (Take id) is = rw is rest
-    one caller t h rest (Finish id) is = rw is rest
-    one caller t h rest IdleEnd is = rw is rest
-    one caller t h rest Close is = rw is rest
-    one caller t h rest (Resized core max) is = rw is rest
+    one caller t h rest e is = rw is rest
 
 caller-jobs : (caller : ℕ) (arrivals : List Arrival) → length (filter (λ s. s.0.caller == caller) (submissions_of arrivals)) ≡ length (of_caller caller arrivals)
 caller-jobs caller [] = refl
 caller-jobs caller (a ∷ arrivals) = one-if (a.id.caller == caller) _ _ ∙ ap (λ n. cond (a.id.caller == caller) 1 0 + n) (caller-jobs caller arrivals) ∙ sym (one-if (a.id.caller == caller) _ _)
 
 -- as many submissions of a caller as jobs of it were submitted
-pub caller-count : (caller : ℕ) (h : List Timed) (arrivals : List Arrival) → submissions_at h ≡ submissions_of arrivals → length (submissions (events_in h) caller) ≡ length (of_caller caller arrivals)
+pub caller-count : (caller : ℕ) (h : List TimedJdkEvent) (arrivals : List Arrival) → submissions_at h ≡ submissions_of arrivals → length (submissions (events_in h) caller) ≡ length (of_caller caller arrivals)
 caller-count caller h arrivals same = caller-pairs caller h ∙ ap (λ (ss : List (Id × ℕ)). length (filter (λ s. s.0.caller == caller) ss)) same ∙ caller-jobs caller arrivals
 
 -- the next job after the first ones

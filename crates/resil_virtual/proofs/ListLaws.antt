@@ -1,7 +1,6 @@
 -- Lists that lose an item, or whose items pass a test.
-use Rattle.std.proofs.Common.{◌≡◌, ◌≤◌, ◌∷◌, [], ◌++◌, ℕ, zero, suc, Bool, true, false, All, List, Some, drop, filter, find, length, map, slice_get, slice_set, take, refl, subst, arith}
-use Rattle.std.specs.List.{remove}
-use Rattle.std.proofs.lemmas.List.Elements.{All-append, All-cons, All-drop, All-get_or, All-head, All-nil, All-tail, All-take}
+use Rattle.std.proofs.Common.{◌≡◌, ◌≤◌, ◌∷◌, [], ◌++◌, ℕ, zero, suc, Bool, true, false, All, List, Some, filter, find, length, map, slice_get, take, refl, subst, arith}
+use Rattle.std.proofs.lemmas.List.Elements.{All-cons, All-get_or, All-head, All-nil, All-tail}
 use Rattle.std.proofs.lemmas.Option.{get_or_from_slice_get, slice_get_within}
 use Rattle.std.proofs.lemmas.Bool.{cases_Bool}
 
@@ -9,9 +8,6 @@ module _ {X : Type 0} where
   -- what is true of each item is true of the one at a place
   pub all-at : (P : X → Type 0) (xs : List X) (i : ℕ) (x : X) → slice_get xs i ≡ Some x → All P xs → P x
   all-at P xs i x is all = subst P (get_or_from_slice_get xs i x x is) (All-get_or P xs i x (slice_get_within xs i x is) all)
-
-  pub all-removed : (P : X → Type 0) (xs : List X) (i : ℕ) → All P xs → All P (remove xs i)
-  all-removed P xs i all = All-append P (take i xs) (drop (suc i) xs) (All-take P i xs all) (All-drop P (suc i) xs all)
 
   -- two truths of each item give a third one
   pub all-two : (P Q R : X → Type 0) → ((x : X) → P x → Q x → R x) → (xs : List X) → All P xs → All Q xs → All R xs
@@ -26,23 +22,10 @@ module _ {X : Type 0} where
   all-right P [] ys all = all
   all-right P (x ∷ xs) ys all = all-right P xs ys (All-tail P x (xs ++ ys) all)
 
-  -- how many items pass a test, once one of them is gone
-  pub count-removed : (p : X → Bool) (xs : List X) (i : ℕ) → length (filter p (remove xs i)) ≤ length (filter p xs)
-  count-removed p [] zero = omega arith
-  count-removed p [] (suc i) = omega arith
-  count-removed p (y ∷ xs) zero = grind (arith, cases_Bool (p y))
-  count-removed p (y ∷ xs) (suc i) = let rest = count-removed p xs i in grind (arith, rest, cases_Bool (p y))
-
+  -- how many items pass a test
   pub count-few : (p : X → Bool) (xs : List X) → length (filter p xs) ≤ length xs
   count-few p [] = omega arith
   count-few p (x ∷ xs) = let rest = count-few p xs in grind (arith, rest, cases_Bool (p x))
-
-  pub none-passes : (p : X → Bool) (xs : List X) → length (filter p xs) ≡ 0 → All (λ x. p x ≡ false) xs
-  none-passes p [] none = All-nil (λ x. p x ≡ false)
-  none-passes p (x ∷ xs) none =
-      let here : p x ≡ false = grind (arith, none, cases_Bool (p x)) in
-      let rest : length (filter p xs) ≡ 0 = grind (arith, none, cases_Bool (p x)) in
-      All-cons (λ x. p x ≡ false) x xs here (none-passes p xs rest)
 
   -- and how many of the first ones
   pub count-taken : (p : X → Bool) (xs : List X) (n m : ℕ) → n ≤ m → length (filter p (take n xs)) ≤ length (filter p (take m xs))
@@ -56,19 +39,6 @@ module _ {X : Type 0} where
   find-first p [] i x is passes before = absurd (cc is)
   find-first p (y ∷ xs) zero x is passes before = let same : y ≡ x = cc is in rw (same, passes) refl
   find-first p (y ∷ xs) (suc i) x is passes before = rw (All-head (λ y. p y ≡ false) y (take i xs) before) (find-first p xs i x is passes (All-tail (λ y. p y ≡ false) y (take i xs) before))
-
-  -- an item that is replaced, and another one
-  pub set-there : (xs : List X) (i : ℕ) (x y : X) → slice_get xs i ≡ Some x → slice_get (slice_set xs i y) i ≡ Some y
-  set-there [] i x y is = absurd (cc is)
-  set-there (z ∷ xs) zero x y is = refl
-  set-there (z ∷ xs) (suc i) x y is = set-there xs i x y is
-
-  pub set-other : (xs : List X) (i j : ℕ) (x y z : X) → slice_get xs i ≡ Some x → slice_get xs j ≡ Some z → (x ≡ z → ⊥) → slice_get (slice_set xs i y) j ≡ Some z
-  set-other [] i j x y z is other apart = absurd (cc is)
-  set-other (w ∷ xs) zero zero x y z is other apart = absurd (apart (cc (is, other)))
-  set-other (w ∷ xs) zero (suc j) x y z is other apart = other
-  set-other (w ∷ xs) (suc i) zero x y z is other apart = other
-  set-other (w ∷ xs) (suc i) (suc j) x y z is other apart = set-other xs i j x y z is other apart
 
 pub all-mapped : {X Y : Type 0} (f : X → Y) (P : Y → Type 0) (xs : List X) → All P (map f xs) → All (λ x. P (f x)) xs
 all-mapped f P [] all = All-nil (λ x. P (f x))

@@ -1,3 +1,4 @@
+pub mod AtOnce
 pub mod Due
 pub mod Examples
 pub mod Load

@@ -1,123 +1,166 @@
 -- What is true of a pool in virtual time between two steps.
-use Rattle.std.specs.Prelude.{ℕ, ◌≡◌, ◌≤◌, ◌<◌, ◌+◌, ◌-◌, ◌*◌, ◌⊎◌, ◌^◌, ◌++◌, ◌∷◌, [], Bool, true, false, List, Option, Some, All, IfSome, filter, is_some, length, map, nat_lt, not, slice_get, sum, take}
-use Rattle.resil_rule.specs.Limits.{AreLimits, Sizes}
+use Rattle.std.specs.Prelude.{ℕ, ◌≡◌, ◌≤◌, ◌<◌, ◌+◌, ◌-◌, ◌*◌, ◌==◌, ◌&&◌, ◌⊎◌, ◌^◌, ◌++◌, ◌∷◌, [], Bool, false, List, Option, Some, All, IfSome, filter, is_some, length, map, max, nat_lt, not, slice_get, sum, take, if◌then◌else◌}
+use Rattle.resil_rule.specs.Limits.{Sizes}
 use Rattle.resil_rule.specs.History.{times}
-use Rattle.resil_rule.specs.RuleView.{RuleView, busy}
-use Rattle.resil_rule.specs.RuleState.{IsStateOf}
-use Rattle.resil_rule.specs.Slots.{ids_out}
-use Rattle.resil_rule.specs.Timed.{AreAscending, events_in, times_in}
+use Rattle.resil_rule.specs.Timed.{AreAscending}
 use Rattle.resil_rule.specs.declared.event.Id.{Id}
-use Rattle.resil_rule.specs.declared.event.Event.TheVariants.{Finish}
-use Rattle.resil_rule.specs.declared.timed.Timed.{Timed}
-use Rattle.resil_virtual.specs.Load.{IsLoad, runs_of}
-use Rattle.resil_virtual.specs.Due.{EndsFirst, EndsFrom, end_at, finish_from, finishes, idle_after, last_at, next_due, submission, submissions_at, submissions_of, takes_of}
+use Rattle.resil_jdk.specs.Admission.{IsLegal}
+use Rattle.resil_jdk.specs.Limits.{AreJdkLimits}
+use Rattle.resil_jdk.specs.History.{core_size, is_closed, is_stopped, max_size, running, times_out, waiting, workers}
+use Rattle.resil_jdk.specs.declared.event.JdkReply.{JdkReply}
+use Rattle.resil_jdk.specs.declared.event.JdkReply.TheVariants.{Core, First, Queued, Handed, Extra, Full}
+use Rattle.resil_jdk.specs.declared.event.JdkEvent.{JdkEvent}
+use Rattle.resil_jdk.specs.declared.event.JdkEvent.TheVariants.{Finish}
+use Rattle.resil_jdk.specs.Timed.{events_in, times_in}
+use Rattle.resil_jdk.specs.declared.timed.TimedJdkEvent.{TimedJdkEvent}
+use Rattle.resil_virtual.specs.Load.{IsLoad, earliest_ends_of, latest, runs_of}
+use Rattle.resil_virtual.specs.Due.{earliest_end_of, ends_at, finishes, idle_after, just_finished, last_at, looks_at, looks_of, next_due, none_waits, submissions_at, submissions_of, takes_of}
+use Rattle.resil_virtual.specs.Simulated.{opening}
 use Rattle.resil_virtual.specs.declared.arrival.Arrival.{Arrival}
 use Rattle.resil_virtual.specs.declared.due.Running.{Running}
+use Rattle.resil_virtual.specs.declared.idle.Idle.{Idle}
 use Rattle.resil_virtual.specs.declared.pool.Pool.{Pool}
-use Rattle.resil_virtual.specs.declared.pool.Step.{Step}
-use Rattle.resil_virtual.specs.declared.pool.Step.TheVariants as step
+use Rattle.resil_virtual.specs.declared.virtual_pool.VirtualPool.{VirtualPool}
 
--- the ids of the jobs that run
-abbrev pub ids_in : List Running → List Id
-ids_in running = map (λ job. job.slot.id) running
+-- whether a worker looks, or may end, at a time
+abbrev pub is_free : Bool → ℕ → Idle → Bool
+is_free by_look at worker = if by_look then looks_at at worker else ends_at at worker
 
 -- the finish of a job that runs
-abbrev pub finish_at : Running → Timed
-finish_at job = record { event = Finish job.slot.id; at = job.due }
+abbrev pub finish_at : Running → TimedJdkEvent
+finish_at job = record { event = Finish job.id; at = job.due }
+
+-- the jobs that finishes are of
+abbrev pub job_of : JdkEvent → Id
+job_of (Finish id) = id
+job_of _ = record { caller = 0; number = 0 }
+
+-- the answer of an open pool to a submission
+abbrev pub reply_by : Sizes → ℕ → ℕ → ℕ → JdkReply
+reply_by limits workers waits runs =
+    if nat_lt workers limits.core then Core
+    else if nat_lt waits limits.queue then (if workers == 0 then First else Queued)
+    else if (limits.queue == 0) && nat_lt runs workers then Handed
+    else if nat_lt workers limits.max then Extra
+    else Full
+
+-- how many workers may stay
+abbrev pub kept : VirtualPool → ℕ
+kept pool = if pool.time_out then 0 else pool.limits.core
 
 -- how many workers never end as things are
-abbrev pub staying : List (Option ℕ) → ℕ
-staying idle = length (filter (λ worker. not (is_some worker)) idle)
+abbrev pub staying : List Idle → ℕ
+staying idle = length (filter (λ worker. not (is_some worker.end)) idle)
 
--- how long the jobs run that haven't begun
-abbrev pub to_run : RuleView ℕ → ℕ
-to_run v = sum (map (λ job. job.1) v.waiting) + sum (map (λ job. job.1) v.unpicked)
+-- how long the jobs run that wait
+abbrev pub to_run : List Arrival → List JdkEvent → ℕ
+to_run arrivals events = sum (map (takes_of arrivals) (waiting events))
 
--- how long the jobs run that were submitted
-abbrev pub submitted_run : List Arrival → ℕ → ℕ
-submitted_run arrivals next = sum (runs_of (take next arrivals))
+-- how long the jobs run that were submitted, with a time to wake for each
+abbrev pub submitted_run : VirtualPool → List Arrival → ℕ → ℕ
+submitted_run pool arrivals next = sum (runs_of (take next arrivals)) + pool.wakes * next
 
--- All ends within 64 bits: no job finishes after a bound, however the jobs come that haven't begun, and none begins after it.
-pub record IsInTime (idle_for : ℕ) (arrivals : List Arrival) (next : ℕ) (v : RuleView ℕ) (running : List Running) (history : List Timed) : Type 0 where
+-- the latest of the earliest ends of the jobs that were submitted
+abbrev pub submitted_end : List Arrival → ℕ → ℕ
+submitted_end arrivals next = latest (earliest_ends_of (take next arrivals))
+
+-- whether the worker that has just finished a job takes another one
+abbrev pub own : List JdkEvent → ℕ
+own events = if just_finished events then (if none_waits events then 0 else 1) else 0
+
+-- Each is of this time or later; and a look with what is to run is within a bound.
+pub record IsFrom (at run bound : ℕ) (worker : Idle) : Type 0 where
+  pub end : IfSome worker.end (λ end. at ≤ end)
+  pub look : IfSome worker.look (λ look. (at ≤ look) × (look + run ≤ bound))
+
+-- All ends within 64 bits: nothing that waits or runs goes on after a bound.
+pub record IsInTime (pool : VirtualPool) (arrivals : List Arrival) (next : ℕ) (history : List TimedJdkEvent) : Type 0 where
   pub bound : ℕ
-  pub fits : bound + idle_for < 2 ^ 64
-  pub before : IfSome (slice_get arrivals next) (λ a. bound ≤ a.at + submitted_run arrivals next)
-  pub spent : to_run v ≤ submitted_run arrivals next
-  pub jobs : All (λ job. job.due + to_run v ≤ bound) running
-  pub now : ((v.waiting ≡ []) × (v.unpicked ≡ [])) ⊎ (last_at history + to_run v ≤ bound)
+  pub fits : bound + pool.idle_for < 2 ^ 64
+  pub before : IfSome (slice_get arrivals next) (λ a. bound ≤ max a.at (submitted_end arrivals next) + submitted_run pool arrivals next)
+  pub spent : to_run arrivals (events_in history) ≤ sum (runs_of (take next arrivals))
+  pub ends : All (λ id. earliest_end_of arrivals id + to_run arrivals (events_in history) ≤ bound) (waiting (events_in history))
+  pub jobs : All (λ finish. (last_at history ≤ finish.at) × (finish.at + to_run arrivals (events_in history) ≤ bound)) (finishes arrivals history)
+  pub idle : All (IsFrom (last_at history) (to_run arrivals (events_in history)) bound) (idle_after pool history)
+  pub now : (waiting (events_in history) ≡ []) ⊎ (last_at history + to_run arrivals (events_in history) ≤ bound)
 
 -- Each event was due next.
-abbrev pub AreDue : Sizes → ℕ → List Arrival → List Timed → List Timed → Type 0
-AreDue limits idle_for arrivals before [] = Unit {0}
-AreDue limits idle_for arrivals before (timed ∷ history) = (next_due limits idle_for arrivals before ≡ Some timed) × AreDue limits idle_for arrivals (before ++ timed ∷ []) history
+abbrev pub AreDue : VirtualPool → List Arrival → List TimedJdkEvent → List TimedJdkEvent → Type 0
+AreDue pool arrivals before [] = Unit {0}
+AreDue pool arrivals before (timed ∷ history) = (next_due pool arrivals before ≡ Some timed) × AreDue pool arrivals (before ++ timed ∷ []) history
 
--- The load can be carried out, and the pool is open and has the core size that it was opened with.
-pub record AreGiven (idle_for : ℕ) (arrivals : List Arrival) (limits : Sizes) (core : ℕ) (closed : Bool) : Type 0 where
-  pub load : IsLoad idle_for arrivals
-  pub limits_are : AreLimits limits
-  pub core_is : core ≡ limits.core
-  pub unclosed : closed ≡ false
+-- The pool is open, as it was opened.
+pub record IsOpen (pool : VirtualPool) (events : List JdkEvent) : Type 0 where
+  pub unclosed : is_closed events ≡ false
+  pub unstopped : is_stopped events ≡ false
+  pub core : core_size pool.limits events ≡ pool.limits.core
+  pub max : max_size pool.limits events ≡ pool.limits.max
+  pub time_out : times_out events ≡ pool.time_out
+
+-- the jobs whose finishes are to come
+abbrev pub ids_to_come : List Arrival → List TimedJdkEvent → List Id
+ids_to_come arrivals history = map (λ finish. job_of finish.event) (finishes arrivals history)
+
+-- What is true of a history whose events were due.
+pub record AreSound (pool : VirtualPool) (arrivals : List Arrival) (next : ℕ) (history : List TimedJdkEvent) : Type 0 where
+  pub load : IsLoad pool.idle_for pool.wakes arrivals
+  pub sizes : AreJdkLimits pool.limits
+  pub rest : List TimedJdkEvent
+  pub opens : history ≡ opening pool ++ rest
+  pub events : AreDue pool arrivals (opening pool) rest
+  pub legal : IsLegal pool.limits (events_in history)
+  pub opened : IsOpen pool (events_in history)
+  pub submissions : submissions_at history ≡ submissions_of (take next arrivals)
+  pub ascending : AreAscending (times_in history)
+  pub arrival : IfSome (slice_get arrivals next) (λ a. last_at history ≤ a.at)
+  pub jobs : (id : Id) → times id (ids_to_come arrivals history) ≡ times id (running (events_in history))
+  pub crew : length (running (events_in history)) + length (idle_after pool history) + own (events_in history) ≡ workers (events_in history)
+  pub staying : staying (idle_after pool history) ≤ kept pool
+  -- somebody comes to a job that waits
+  pub staffed : (waiting (events_in history) ≡ []) ⊎ (1 ≤ length (running (events_in history)) + own (events_in history) + length (looks_of (idle_after pool history)))
+  pub in_time : IsInTime pool arrivals next history
+
+-- A job is the one of its id in a load: it takes as long, and ends no earlier.
+abbrev pub HasRun : List Arrival → Arrival → Type 0
+HasRun arrivals job = (takes_of arrivals job.id ≡ job.takes) × (earliest_end_of arrivals job.id ≡ job.earliest_end)
 
 -- What is true of the parts of a pool.
-pub record AreParts (idle_for : ℕ) (arrivals : List Arrival) (next : ℕ) (v : RuleView ℕ) (running : List Running) (idle : List (Option ℕ)) (history : List Timed) : Type 0 where
-  pub given : AreGiven idle_for arrivals v.limits v.core v.closed
-  pub state : IsStateOf (events_in history) v
-  pub staffed : (v.waiting ≡ []) ⊎ (1 ≤ v.workers)
-  pub places : All (λ job. slice_get v.out job.slot.place ≡ Some (Some job.slot.id)) running
-  pub out : (id : Id) → times id (ids_in running) ≡ times id (ids_out v.out)
-  -- a job that has a worker of its own, and that wasn't picked yet, began just now
-  pub jobs : finishes arrivals history ≡ map finish_at running ++ map (λ job. finish_from arrivals (last_at history) job.0) v.unpicked
-  pub starts : All (λ job. takes_of arrivals job.0 ≡ job.1) v.unpicked
-  pub runs : All (λ job. takes_of arrivals job.0 ≡ job.1) v.waiting
-  pub crew : busy v + length idle ≡ v.workers
-  pub idle_are : idle ≡ idle_after v.limits idle_for history
-  pub ends : EndsFrom (last_at history) idle
-  pub staying : staying idle ≤ v.limits.core
-  pub events : AreDue v.limits idle_for arrivals [] history
-  pub ascending : AreAscending (times_in history)
-  pub submissions : submissions_at history ≡ submissions_of (take next arrivals)
-  pub due : All (λ job. last_at history ≤ job.due) running
-  pub arrival : IfSome (slice_get arrivals next) (λ a. last_at history ≤ a.at)
-  pub in_time : IsInTime idle_for arrivals next v running history
+pub record AreParts (pool : VirtualPool) (arrivals : List Arrival) (next workers_now now : ℕ) (own_look : Bool) (queue : List Arrival) (jobs : List Running) (idle : List Idle) (history : List TimedJdkEvent) : Type 0 where
+  pub sound : AreSound pool arrivals next history
+  pub workers_are : workers_now ≡ workers (events_in history)
+  pub now_is : now ≡ last_at history
+  pub own_is : own_look ≡ just_finished (events_in history)
+  pub queue_is : map (λ job. job.id) queue ≡ waiting (events_in history)
+  pub runs_are : All (HasRun arrivals) queue
+  pub jobs_are : map finish_at jobs ≡ finishes arrivals history
+  pub idle_are : idle ≡ idle_after pool history
 
 abbrev pub IsPool : Pool → Type 0
-IsPool s = AreParts s.idle_for s.arrivals.now s.next s.rule s.running.items s.idle.items s.history.items
+IsPool s = AreParts s.plan s.arrivals.now s.next s.workers s.time s.own_look s.queue.items s.running.items s.idle.items s.history.items
 
--- no job that could begin waits
-pub record IsQuiet (v : RuleView ℕ) : Type 0 where
-  pub own : v.unpicked ≡ []
-  pub queued : (v.waiting ≡ []) ⊎ (v.workers ≤ busy v)
+-- how much is left to do, by a number that each event lowers
+abbrev pub left : VirtualPool → List Arrival → ℕ → List TimedJdkEvent → ℕ
+left pool arrivals next history = 5 * (length arrivals - next) + 3 * length (waiting (events_in history)) + 2 * length (running (events_in history)) + length (idle_after pool history)
 
--- how much is left to do, by a number that each step lowers
-abbrev pub left : List Arrival → ℕ → RuleView ℕ → List (Option ℕ) → ℕ
-left arrivals next v idle = 4 * (length arrivals - next) + 3 * length v.waiting + 2 * busy v + length idle
+abbrev pub left_in : Pool → ℕ
+left_in s = left s.plan s.arrivals.now s.next s.history.items
 
-abbrev pub to_begin : RuleView ℕ → ℕ
-to_begin v = length v.unpicked + length v.waiting
+-- a job that begins at a time
+abbrev pub begun_at : ℕ → Arrival → Running
+begun_at at job = record { id = job.id; due = max (at + job.takes) job.earliest_end }
 
--- ---- Steps.
+-- where a job goes that is answered so: into the queue, or to a worker
+abbrev pub to_queue : JdkReply → Arrival → List Arrival
+to_queue First job = job ∷ []
+to_queue Queued job = job ∷ []
+to_queue _ job = []
 
-abbrev pub step_at : Step → ℕ
-step_at (step.Finish place job) = job.due
-step_at (step.Submit arrival) = arrival.at
-step_at (step.End place at) = at
-
--- the event of a step
-abbrev pub event_of : Sizes → List Timed → Step → Timed
-event_of limits history (step.Finish place job) = finish_at job
-event_of limits history (step.Submit arrival) = submission limits (events_in history) arrival
-event_of limits history (step.End place at) = end_at at
+abbrev pub to_worker : JdkReply → Arrival → List Running
+to_worker Core job = begun_at job.at job ∷ []
+to_worker Handed job = begun_at job.at job ∷ []
+to_worker Extra job = begun_at job.at job ∷ []
+to_worker _ job = []
 
 -- what is due next in a pool
-abbrev pub due_in : Pool → Option Timed
-due_in s = next_due s.rule.limits s.idle_for s.arrivals.now s.history.items
-
--- the place of what a step names
-abbrev pub IsThere : Pool → Step → Type 0
-IsThere s (step.Finish place job) = slice_get s.running.items place ≡ Some job
-IsThere s (step.Submit arrival) = slice_get s.arrivals.now s.next ≡ Some arrival
-IsThere s (step.End place at) = (nat_lt s.rule.core s.rule.workers ≡ true) × EndsFirst s.idle.items place at
-
--- the step is what is due next
-abbrev pub IsChosen : Pool → Step → Type 0
-IsChosen s step = (due_in s ≡ Some (event_of s.rule.limits s.history.items step)) × IsThere s step
+abbrev pub due_in : Pool → Option TimedJdkEvent
+due_in s = next_due s.plan s.arrivals.now s.history.items

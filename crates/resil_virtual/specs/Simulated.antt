@@ -1,30 +1,37 @@
 -- What the history of a load is that was carried out in virtual time.
-use Rattle.std.specs.Prelude.{ℕ, ◌≡◌, ◌≤◌, ◌++◌, ◌∷◌, [], List, Some, None}
-use Rattle.resil_rule.specs.Limits.{Sizes}
-use Rattle.resil_rule.specs.Admission.{IsLegal}
-use Rattle.resil_rule.specs.History.{running, waiting, workers}
-use Rattle.resil_rule.specs.Timed.{AreAscending, events_in, times_in}
-use Rattle.resil_rule.specs.declared.timed.Timed.{Timed}
+use Rattle.std.specs.Prelude.{◌≡◌, ◌≤◌, ◌++◌, ◌∷◌, [], true, List, Some, None, if◌then◌else◌}
+use Rattle.resil_rule.specs.Timed.{AreAscending}
+use Rattle.resil_jdk.specs.Admission.{IsLegal}
+use Rattle.resil_jdk.specs.History.{kept_size, running, waiting, workers}
+use Rattle.resil_jdk.specs.declared.event.JdkEvent.TheVariants.{TimeOut}
+use Rattle.resil_jdk.specs.Timed.{events_in, times_in}
+use Rattle.resil_jdk.specs.declared.timed.TimedJdkEvent.{TimedJdkEvent}
 use Rattle.resil_virtual.specs.Due.{next_due, submissions_at, submissions_of}
 use Rattle.resil_virtual.specs.declared.arrival.Arrival.{Arrival}
+use Rattle.resil_virtual.specs.declared.virtual_pool.VirtualPool.{VirtualPool}
+
+-- What is set before all else: that core workers time out, if they do.
+abbrev pub opening : VirtualPool → List TimedJdkEvent
+opening pool = if pool.time_out then record { event = TimeOut true; at = 0 } ∷ [] else []
 
 -- What is due next happens, until nothing is.
-abbrev pub GoesOn : Sizes → ℕ → List Arrival → List Timed → List Timed → Type 0
-GoesOn limits idle_for arrivals before [] = next_due limits idle_for arrivals before ≡ None
-GoesOn limits idle_for arrivals before (timed ∷ history) = (next_due limits idle_for arrivals before ≡ Some timed) × GoesOn limits idle_for arrivals (before ++ timed ∷ []) history
+abbrev pub GoesOn : VirtualPool → List Arrival → List TimedJdkEvent → List TimedJdkEvent → Type 0
+GoesOn pool arrivals before [] = next_due pool arrivals before ≡ None
+GoesOn pool arrivals before (timed ∷ history) = (next_due pool arrivals before ≡ Some timed) × GoesOn pool arrivals (before ++ timed ∷ []) history
 
--- The history of a load in a pool of these limits: what is due next happens, until nothing is. So it is legal; its submissions are those of the
--- load, in order, each at its time; no time goes back; and in the end each accepted job is finished, and there are no more workers than the core
--- size.
-pub record IsSimulated (limits : Sizes) (idle_for : ℕ) (arrivals : List Arrival) (history : List Timed) : Type 0 where
-  pub goes_on : GoesOn limits idle_for arrivals [] history
-  pub legal : IsLegal limits (events_in history)
+-- The history of a load in a pool: after the opening, what is due next happens, until nothing is. So it is legal; its submissions are those of the
+-- load, in order, each at its time; no time goes back; and in the end each accepted job is finished, and there are no more workers than may stay.
+pub record IsSimulated (pool : VirtualPool) (arrivals : List Arrival) (history : List TimedJdkEvent) : Type 0 where
+  pub rest : List TimedJdkEvent
+  pub opens : history ≡ opening pool ++ rest
+  pub goes_on : GoesOn pool arrivals (opening pool) rest
+  pub legal : IsLegal pool.limits (events_in history)
   pub submissions : submissions_at history ≡ submissions_of arrivals
   pub ascending : AreAscending (times_in history)
   pub none_waits : waiting (events_in history) ≡ []
   pub none_runs : running (events_in history) ≡ []
-  pub few : workers (events_in history) ≤ limits.core
+  pub few : workers (events_in history) ≤ kept_size pool.limits (events_in history)
 
 -- One load and one pool have one history.
 abbrev pub OneHistory : Type 0
-OneHistory = (limits : Sizes) (idle_for : ℕ) (arrivals : List Arrival) (h k : List Timed) → IsSimulated limits idle_for arrivals h → IsSimulated limits idle_for arrivals k → h ≡ k
+OneHistory = (pool : VirtualPool) (arrivals : List Arrival) (h k : List TimedJdkEvent) → IsSimulated pool arrivals h → IsSimulated pool arrivals k → h ≡ k

@@ -11,4 +11,6 @@ pub struct Arrival {
     pub at: u64,
     /// How long it runs.
     pub takes: u64,
+    /// The earliest moment at which its run may end, since the same start as `at`: 0 if it ends once it has run for `takes`.
+    pub earliest_end: u64,
 }

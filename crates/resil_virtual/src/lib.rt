@@ -1,6 +1,6 @@
 //! A pool in virtual time: what a load would come to on sizes that nobody has tried.
 //!
-//! A load is known: when jobs come, and how long each runs. The rule of admission is proved, so it is carried out over the load, with no
+//! A load is known: when jobs come, and how long each runs. It is carried out by the rule of the JDK's `ThreadPoolExecutor`, with no
 //! thread and no clock, and what happens is written as a history with times. `specs/Due.antt` says what is due next, and
 //! `specs/Simulated.antt` that it happens until nothing is due.
 #![tactic(auto)]
@@ -11,26 +11,31 @@ ghost use Rattle.resil_virtual.specs.Simulated.{IsSimulated};
 
 mod arrival;
 mod due;
+mod idle;
 mod laws;
 mod pool;
+mod virtual_pool;
 
 pub use arrival::Arrival;
-pub use laws::{one_history, worked_loads};
+pub use laws::{one_history, same_at_once, worked_loads};
 use pool::Pool;
-use resil_rule::{Limits, Timed};
+use resil_jdk::TimedJdkEvent;
 use std::alloc::{AllocError, Global};
+pub use virtual_pool::VirtualPool;
 
-/// What happens to a load in a pool of these limits, of whose workers those above the core size end after so many microseconds without a
-/// job. No worker takes time to start or to wake, and the pool isn't closed.
+/// What happens to a load in a pool. The pool isn't closed, and nobody resizes it. If core workers time out, the history begins with
+/// that, at 0.
 ///
 /// # Errors
 ///
 /// `AllocError` when out of memory.
 ///
 /// ```
-/// let job = |number, at| Arrival { id: Id { caller: 1, number }, at, takes: 500 };
+/// let job = |number, at| Arrival { id: Id { caller: 1, number }, at, takes: 500, earliest_end: 0 };
+/// let limits = JdkLimits::new(1, 1, 1)?;
+/// let pool = VirtualPool { limits, time_out: false, idle_for: 0, wakes: 0 };
 /// // One worker runs both jobs, so the second one waits for 400 microseconds.
-/// let history = simulate(alloc, Limits::new(1, 1, 1)?, 0, &[job(1, 0), job(2, 100)])?;
+/// let history = simulate(alloc, &pool, &[job(1, 0), job(2, 100)])?;
 /// for timed in &history {
 ///     println!(rt; "{} {:?}", timed.at, timed.event)?;
 /// }
@@ -38,14 +43,13 @@ use std::alloc::{AllocError, Global};
 /// ```
 pub fn simulate(
     alloc: Global,
-    limits: Limits,
-    idle_for: u64,
+    pool: &VirtualPool,
     arrivals: &[Arrival],
-) -> Result<Vec<Timed>, AllocError>
-    requires { IsLoad idle_for arrivals.now }
-    ensures simulated { IfOk result (λ history. IsSimulated limits idle_for arrivals.now history.items) }
+) -> Result<Vec<TimedJdkEvent>, AllocError>
+    requires { IsLoad pool.now.idle_for pool.now.wakes arrivals.now }
+    ensures simulated { IfOk result (λ history. IsSimulated pool.now arrivals.now history.items) }
 {
-    let mut pool = Pool::new(alloc, limits, idle_for, arrivals)?;
-    while pool.step()? {}
-    Ok(pool.history)
+    let mut virtual_pool = Pool::new(alloc, *pool, arrivals)?;
+    while virtual_pool.step()? {}
+    Ok(virtual_pool.history)
 }

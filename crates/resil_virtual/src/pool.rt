@@ -1,321 +1,440 @@
-//! A pool while a load is carried out: its rule, what its workers do, and what happened.
+//! A pool while a load is carried out: what its workers do, which jobs wait, and what happened.
 //!
-//! What is due at one moment happens in this order: a finish, of the job that began first; the submission that comes then; the end of
-//! the worker that has been idle longest. A job that can begin does so before anything else happens.
+//! What is due at one moment happens in this order: the worker that has just finished a job takes one that waits; a finish, of the job
+//! that began first; a look of a woken worker, if a job waits; the submission that comes then; an end of an idle worker, which takes a
+//! job if one waits.
 
-ghost use Rattle.std.specs.Prelude.{◌≡◌, ◌≤◌, ◌<◌, ◌+◌, ◌^◌, ◌∷◌, ◌++◌, [], IfNone, IfOk, IfSome, None as nothing, OnOk, Some, drop, length, map, nat_lt, option_map, slice_get, if◌then◌else◌};
+ghost use Rattle.std.specs.Prelude.{◌≡◌, ◌<◌, ◌+◌, ◌^◌, ◌++◌, ◌==◌, ◌∷◌, [], IfOk, IfSome, None as nothing, OnOk, Some, drop, filter, length, map, not, option_map, option_to_list, slice_get, if◌then◌else◌};
 ghost use Rattle.std.specs.Bool.{OnTrue, OnFalse};
-ghost use Rattle.resil_rule.specs.Timed.{events_in};
+ghost use Rattle.std.specs.Option.{option_map_or};
+ghost use Rattle.resil_rule.specs.History.{is_same_id};
+ghost use Rattle.resil_jdk.specs.RuleView.{begins};
+ghost use Rattle.resil_jdk.specs.Timed.{events_in};
 ghost use Rattle.resil_virtual.specs.Load.{IsLoad};
-ghost use Rattle.resil_virtual.specs.Due.{earliest, end_at, ends_of, last_at, sooner, submission};
-ghost use Rattle.resil_virtual.specs.Pool.{IsChosen, IsPool, IsQuiet, IsThere, due_in, event_of, finish_at, left, step_at, to_begin};
+ghost use Rattle.resil_virtual.specs.Due.{earliest, end_at, end_from, ends_due, finishes, has_spare, idle_by, is_finish, looks_due, own_takes, sooner, submissions_due, take_at};
+ghost use Rattle.resil_virtual.specs.Pool.{IsPool, begun_at, due_in, left_in, reply_by, to_queue, to_worker};
 
 use crate::arrival::Arrival;
-use crate::due::{Running, first_due, first_end, pass};
-use resil_rule::{Event, Limits, Origin, Rule, Timed};
+use crate::due::{Running, first_due, sooner};
+use crate::idle::{Idle, first_end, first_look, pass, remove_first, remove_taker, wake_first};
+use crate::virtual_pool::VirtualPool;
+use resil_jdk::{JdkEvent, JdkReply, TimedJdkEvent};
+use resil_rule::Id;
 use std::alloc::{AllocError, Global};
-
-/// What happens next.
-#[derive(Clone, Copy)]
-pub(crate) enum Step {
-    /// The job at this place finishes.
-    Finish(usize, Running),
-    /// This job is submitted.
-    Submit(Arrival),
-    /// The idle worker at this place ends at this time.
-    End(usize, u64),
-}
-
-impl Step {
-    // When it happens.
-    fn at(&self) -> u64
-        ensures { result ≡ step_at self.now }
-    {
-        match self {
-            Step::Finish(_, job) => job.due,
-            Step::Submit(arrival) => arrival.at,
-            Step::End(_, at) => *at,
-        }
-    }
-}
+use std::collections::VecDeque;
 
 /// A pool in virtual time.
 #[derive(Drop)]
 pub(crate) struct Pool<'a> {
+    plan: VirtualPool,
     // The load, and how many of its jobs were submitted.
     arrivals: &'a [Arrival],
     next: usize,
-    // How many microseconds a worker above the core size may be idle.
-    idle_for: u64,
-    // The rule, over how long each job runs.
-    rule: Rule<u64>,
+    // How many workers there are.
+    workers: u32,
+    // The jobs that wait.
+    queue: VecDeque<Arrival>,
     // The jobs that run, in the order in which they began.
     running: Vec<Running>,
-    // The idle workers, the one that has been idle longest first: when each of them may end, if ever.
-    idle: Vec<Option<u64>>,
+    // The idle workers, the one that has been idle longest first.
+    idle: Vec<Idle>,
+    // The time of the last event, and whether it is a finish, whose worker looks for a job at once.
+    time: u64,
+    own_look: bool,
     // What happened.
-    pub(crate) history: Vec<Timed>,
+    pub(crate) history: Vec<TimedJdkEvent>,
 }
 
-// The sooner one of two steps; the first if both are of one moment.
-fn sooner(first: Option<Step>, other: Option<Step>) -> Option<Step>
-    ensures { result ≡ sooner step_at first other }
+// The take of a job at a time, if both are there.
+fn take_at(front: Option<Id>, at: Option<u64>) -> Option<TimedJdkEvent>
+    ensures { result ≡ option_map_or (λ id. option_map (take_at id) at) front nothing }
 {
-    match (first, other) {
-        (Some(first), Some(other)) if other.at() < first.at() => Some(other),
-        (None, other) => other,
-        (first, _) => first,
+    match (front, at) {
+        (Some(id), Some(at)) => Some(TimedJdkEvent {
+            event: JdkEvent::Take(id),
+            at,
+        }),
+        _ => None,
     }
 }
 
-// The step that comes first. If several are of one moment, a finish comes before a submission, and both before an end.
-fn first_step(finish: Option<Step>, submission: Option<Step>, end: Option<Step>) -> Option<Step>
-    ensures { result ≡ sooner step_at finish (sooner step_at submission end) }
+// The end at a time, if there is one.
+fn end_at(at: Option<u64>) -> Option<TimedJdkEvent>
+    ensures { result ≡ option_map end_at at }
 {
-    sooner(finish, sooner(submission, end))
+    match at {
+        Some(at) => Some(TimedJdkEvent {
+            event: JdkEvent::IdleEnd,
+            at,
+        }),
+        None => None,
+    }
 }
 
-// The worker that has been idle longest has a job again. There is one.
-fn take_longest(idle: &mut Vec<Option<u64>>)
-    requires { 0 < length idle.old.items }
-    ensures { idle.new.items ≡ drop 1 idle.old.items }
+// A worker begins a job at a time. Errors: `AllocError` when out of memory.
+fn run(running: &mut Vec<Running>, job: Arrival, at: u64) -> Result<(), AllocError>
+    requires { at + job.takes < 2 ^ 64 }
+    ensures { OnOk result (running.new.items ≡ running.old.items ++ begun_at at job ∷ []) }
 {
-    idle.remove(0);
-}
-
-// One more worker is idle. Errors: `AllocError` when out of memory.
-fn fall_idle(idle: &mut Vec<Option<u64>>, end: Option<u64>) -> Result<(), AllocError>
-    ensures { OnOk result (idle.new.items ≡ idle.old.items ++ end ∷ []) }
-{
-    idle.push(end)?;
+    running.push(Running {
+        id: job.id,
+        due: (at + job.takes).max(job.earliest_end),
+    })?;
     Ok(())
 }
 
+// The event that comes first; of several of one moment the first in this order.
+fn first_event(
+    own: Option<TimedJdkEvent>,
+    finish: Option<TimedJdkEvent>,
+    look: Option<TimedJdkEvent>,
+    submission: Option<TimedJdkEvent>,
+    end: Option<TimedJdkEvent>,
+) -> Option<TimedJdkEvent>
+    ensures { result ≡ sooner (λ timed. timed.at) own (sooner (λ timed. timed.at) finish (sooner (λ timed. timed.at) look (sooner (λ timed. timed.at) submission end))) }
+{
+    let later = sooner(finish, sooner(look, sooner(submission, end)));
+    sooner(own, later)
+}
+
+// The job is gone.
+fn remove_job(running: &mut Vec<Running>, id: Id)
+    ensures { running.new.items ≡ filter (λ job. not (is_same_id id job.id)) running.old.items }
+{
+    running.retain(|job| job.id != id);
+}
+
 impl<'a> Pool<'a> {
-    /// A pool of these limits before anything happens. Errors: `AllocError` when out of memory.
+    /// A pool before any job comes. Errors: `AllocError` when out of memory.
     pub(crate) fn new(
         alloc: Global,
-        limits: Limits,
-        idle_for: u64,
+        plan: VirtualPool,
         arrivals: &'a [Arrival],
     ) -> Result<Pool<'a>, AllocError>
-        requires { IsLoad idle_for arrivals.now }
+        requires { IsLoad plan.idle_for plan.wakes arrivals.now }
         ensures pool { IfOk result IsPool }
-        ensures quiet { IfOk result (λ pool. IsQuiet pool.rule) }
-        ensures limits { IfOk result (λ pool. pool.rule.limits ≡ limits) }
-        ensures load { IfOk result (λ pool. (pool.arrivals.now ≡ arrivals.now) × (pool.idle_for ≡ idle_for)) }
+        ensures load { IfOk result (λ pool. (pool.plan ≡ plan) × (pool.arrivals.now ≡ arrivals.now)) }
     {
-        let Ok(rule) = Rule::new(alloc, limits, 0) else {
-            return Err(AllocError);
-        };
+        let mut history = Vec::new(alloc);
+        if plan.time_out {
+            history.push(TimedJdkEvent {
+                event: JdkEvent::TimeOut(true),
+                at: 0,
+            })?;
+        }
         Ok(Pool {
+            plan,
             arrivals,
             next: 0,
-            idle_for,
-            rule,
-            running: Vec::with_capacity(alloc, limits.max() as usize)?,
+            workers: 0,
+            queue: VecDeque::new(alloc),
+            running: Vec::new(alloc),
             idle: Vec::new(alloc),
-            history: Vec::new(alloc),
+            time: 0,
+            own_look: false,
+            history,
         })
     }
 
-    // Begins the job that can begin first, if any can. Errors: `AllocError` when out of memory.
-    fn begin_next(&mut self, at: u64) -> Result<bool, AllocError>
-        requires pool { IsPool self.old }
-        requires at { last_at self.old.history.items ≡ at }
-        ensures pool { OnOk result (IsPool self.new) }
-        ensures at { OnOk result (last_at self.new.history.items ≡ at) }
-        ensures less { IfOk result (λ one. OnTrue one (to_begin self.new.rule < to_begin self.old.rule)) }
-        ensures quiet { IfOk result (λ one. OnFalse one (IsQuiet self.new.rule)) }
-        ensures left { OnOk result (left self.new.arrivals.now self.new.next self.new.rule self.new.idle.items ≤ left self.old.arrivals.now self.old.next self.old.rule self.old.idle.items) }
-        ensures load { OnOk result ((self.new.rule.limits ≡ self.old.rule.limits) × (self.new.arrivals.now ≡ self.old.arrivals.now) × (self.new.idle_for ≡ self.old.idle_for)) }
+    // The job that waits longest.
+    fn front(&self) -> Option<Id>
+        ensures { result ≡ slice_get (map (λ job. job.id) self.now.queue.items) 0 }
     {
-        let Some(picked) = self.rule.pick() else {
-            return Ok(false);
-        };
-        match picked.origin {
-            Origin::OwnStart => {}
-            Origin::Queue => {
-                take_longest(&mut self.idle);
-                self.history.push(Timed {
-                    event: Event::Take(picked.slot.id),
-                    at,
-                })?;
-            }
-        }
-        self.running.push(Running {
-            slot: picked.slot,
-            due: at + picked.work,
-        })?;
-        Ok(true)
+        self.queue.front().map(|job| job.id)
     }
 
-    // Begins each job that can begin. Errors: `AllocError` when out of memory.
-    fn begin_all(&mut self, at: u64) -> Result<(), AllocError>
-        requires pool { IsPool self.old }
-        requires at { last_at self.old.history.items ≡ at }
-        ensures pool { OnOk result (IsPool self.new) }
-        ensures quiet { OnOk result (IsQuiet self.new.rule) }
-        ensures left { OnOk result (left self.new.arrivals.now self.new.next self.new.rule self.new.idle.items ≤ left self.old.arrivals.now self.old.next self.old.rule self.old.idle.items) }
-        ensures load { OnOk result ((self.new.rule.limits ≡ self.old.rule.limits) × (self.new.arrivals.now ≡ self.old.arrivals.now) × (self.new.idle_for ≡ self.old.idle_for)) }
+    // Whether no job waits.
+    fn no_job_waits(&self) -> bool
+        ensures { result ≡ (length self.now.queue.items == 0) }
     {
-        while self.begin_next(at)? {}
+        self.queue.len() == 0
+    }
+
+    // Whether there are more workers than may stay.
+    fn has_spare(&self) -> bool
+        requires { IsPool self.now }
+        ensures { result ≡ has_spare self.now.plan (events_in self.now.history.items) }
+    {
+        let kept = if self.plan.time_out {
+            0
+        } else {
+            self.plan.limits.core()
+        };
+        kept < self.workers
+    }
+
+    // The answer to the next submission.
+    fn reply(&self) -> JdkReply
+        ensures { result ≡ reply_by self.now.plan.limits self.now.workers (length self.now.queue.items) (length self.now.running.items) }
+    {
+        let limits = self.plan.limits;
+        if self.workers < limits.core() {
+            JdkReply::Core
+        } else if self.queue.len() < limits.queue() as usize {
+            if self.workers == 0 {
+                JdkReply::First
+            } else {
+                JdkReply::Queued
+            }
+        } else if limits.queue() == 0 && self.running.len() < self.workers as usize {
+            JdkReply::Handed
+        } else if self.workers < limits.max() {
+            JdkReply::Extra
+        } else {
+            JdkReply::Full
+        }
+    }
+
+    // The take of the worker that has just finished a job.
+    fn next_own(&self) -> Option<TimedJdkEvent>
+        requires { IsPool self.now }
+        ensures { result ≡ earliest (λ timed. timed.at) (own_takes self.now.history.items) }
+    {
+        if !self.own_look {
+            return None;
+        }
+        take_at(self.front(), Some(self.time))
+    }
+
+    // The finish that comes first.
+    fn next_finish(&self) -> Option<TimedJdkEvent>
+        requires { IsPool self.now }
+        ensures { result ≡ earliest (λ timed. timed.at) (finishes self.now.arrivals.now self.now.history.items) }
+    {
+        match first_due(&self.running) {
+            Some(job) => Some(TimedJdkEvent {
+                event: JdkEvent::Finish(job.id),
+                at: job.due,
+            }),
+            None => None,
+        }
+    }
+
+    // The take of the woken worker that looks first.
+    fn next_look(&self) -> Option<TimedJdkEvent>
+        requires { IsPool self.now }
+        ensures { result ≡ earliest (λ timed. timed.at) (looks_due self.now.history.items self.now.idle.items) }
+    {
+        take_at(self.front(), first_look(&self.idle))
+    }
+
+    // The job that comes next.
+    fn next_job(&self) -> Option<Arrival>
+        ensures { result ≡ slice_get self.now.arrivals.now self.now.next }
+    {
+        self.arrivals.get(self.next).copied()
+    }
+
+    // The submission that comes next.
+    fn next_submission(&self) -> Option<TimedJdkEvent>
+        requires { IsPool self.now }
+        ensures { result ≡ earliest (λ timed. timed.at) (submissions_due self.now.plan self.now.arrivals.now self.now.history.items) }
+    {
+        match self.next_job() {
+            Some(job) => Some(TimedJdkEvent {
+                event: JdkEvent::Submit {
+                    id: job.id,
+                    reply: self.reply(),
+                },
+                at: job.at,
+            }),
+            None => None,
+        }
+    }
+
+    // The end that comes first, or the take of that worker if a job waits.
+    fn next_end(&self) -> Option<TimedJdkEvent>
+        requires { IsPool self.now }
+        ensures { result ≡ earliest (λ timed. timed.at) (ends_due self.now.plan self.now.history.items self.now.idle.items) }
+    {
+        let front = self.front();
+        let first = first_end(&self.idle);
+        if front.is_some() {
+            return take_at(front, first);
+        }
+        if !self.has_spare() {
+            return None;
+        }
+        end_at(first)
+    }
+
+    // What happens next.
+    fn next_event(&self) -> Option<TimedJdkEvent>
+        requires { IsPool self.now }
+        ensures { result ≡ due_in self.now }
+    {
+        first_event(
+            self.next_own(),
+            self.next_finish(),
+            self.next_look(),
+            self.next_submission(),
+            self.next_end(),
+        )
+    }
+
+    // The job is where the answer says, and a worker has begun if it says so. Errors: `AllocError` when out of memory.
+    fn place(&mut self, job: Arrival, reply: JdkReply) -> Result<(), AllocError>
+        requires room { self.old.workers + 1 < 2 ^ 32 }
+        requires runs { job.at + job.takes < 2 ^ 64 }
+        requires wakes { job.at + self.old.plan.wakes + self.old.plan.idle_for < 2 ^ 64 }
+        ensures rest { OnOk result (self.new ≡ record self.old { workers = self.old.workers + begins reply; queue = self.new.queue; running = self.new.running; idle = self.new.idle }) }
+        ensures queue { OnOk result (self.new.queue.items ≡ self.old.queue.items ++ to_queue reply job) }
+        ensures running { OnOk result (self.new.running.items ≡ self.old.running.items ++ to_worker reply job) }
+        ensures idle { OnOk result (self.new.idle.items ≡ idle_by self.old.plan [] self.old.idle.items (JdkEvent.Submit job.id reply) job.at) }
+    {
+        match reply {
+            JdkReply::Core | JdkReply::Extra => {
+                self.workers += 1;
+                run(&mut self.running, job, job.at)?;
+            }
+            JdkReply::Handed => {
+                self.idle.pop();
+                run(&mut self.running, job, job.at)?;
+            }
+            JdkReply::First => {
+                self.workers += 1;
+                self.queue.push_back(job)?;
+                let look = job.at + self.plan.wakes;
+                self.idle.push(Idle {
+                    end: Some(look + self.plan.idle_for),
+                    look: Some(look),
+                })?;
+            }
+            JdkReply::Queued => {
+                self.queue.push_back(job)?;
+                wake_first(&mut self.idle, job.at + self.plan.wakes);
+            }
+            JdkReply::Full | JdkReply::Closed => {}
+        }
         Ok(())
     }
 
-    // Submits the next job, and begins what can begin. Errors: `AllocError` when out of memory.
-    fn submit(&mut self, arrival: Arrival) -> Result<(), AllocError>
-        requires pool { IsPool self.old }
-        requires quiet { IsQuiet self.old.rule }
-        requires chosen { IsChosen self.old (Step.Submit arrival) }
-        ensures pool { OnOk result (IsPool self.new) }
-        ensures quiet { OnOk result (IsQuiet self.new.rule) }
-        ensures left { OnOk result (left self.new.arrivals.now self.new.next self.new.rule self.new.idle.items < left self.old.arrivals.now self.old.next self.old.rule self.old.idle.items) }
-        ensures load { OnOk result ((self.new.rule.limits ≡ self.old.rule.limits) × (self.new.arrivals.now ≡ self.old.arrivals.now) × (self.new.idle_for ≡ self.old.idle_for)) }
+    // The event has happened. Errors: `AllocError` when out of memory.
+    fn record(&mut self, timed: TimedJdkEvent) -> Result<(), AllocError>
+        ensures { OnOk result ((self.new ≡ record self.old { own_look = is_finish timed.event; time = timed.at; history = self.new.history }) × (self.new.history.items ≡ self.old.history.items ++ timed ∷ [])) }
     {
-        let is_spare = self.has_spare();
-        pass(&mut self.idle, is_spare, arrival.at);
-        let Ok(()) = self.rule.reserve_caller(arrival.id.caller) else {
-            return Err(AllocError);
-        };
-        let reply = self.rule.next_reply();
-        self.rule
-            .submit_with_reply(arrival.id, arrival.takes, reply);
-        self.next += 1;
-        self.history.push(Timed {
-            event: Event::Submit {
-                id: arrival.id,
-                reply,
-            },
-            at: arrival.at,
-        })?;
-        self.begin_all(arrival.at)
+        self.own_look = matches!(timed.event, JdkEvent::Finish(_));
+        self.time = timed.at;
+        self.history.push(timed)?;
+        Ok(())
     }
 
-    // Whether there are more workers than the core size.
-    fn has_spare(&self) -> bool
-        ensures { result ≡ nat_lt self.now.rule.core self.now.rule.workers }
+    // The next job is submitted. Errors: `AllocError` when out of memory.
+    fn submit(&mut self, id: Id, reply: JdkReply, at: u64) -> Result<(), AllocError>
+        requires pool { IsPool self.old }
+        requires due { due_in self.old ≡ Some (record { event = JdkEvent.Submit id reply; at = at }) }
+        ensures pool { OnOk result (IsPool self.new) }
+        ensures less { OnOk result (left_in self.new < left_in self.old) }
+        ensures load { OnOk result ((self.new.plan ≡ self.old.plan) × (self.new.arrivals.now ≡ self.old.arrivals.now)) }
     {
-        self.rule.core() < self.rule.workers()
+        let Some(job) = self.next_job() else {
+            return Ok(());
+        };
+        let none_waits = self.no_job_waits();
+        pass(&mut self.idle, none_waits, job.at);
+        self.place(job, reply)?;
+        self.next += 1;
+        self.record(TimedJdkEvent {
+            event: JdkEvent::Submit { id: job.id, reply },
+            at: job.at,
+        })
+    }
+
+    // The job at the front of the queue.
+    fn front_job(&self) -> Option<Arrival>
+        ensures { result ≡ slice_get self.now.queue.items 0 }
+    {
+        self.queue.front().copied()
+    }
+
+    // A worker takes the job at the front of the queue. Errors: `AllocError` when out of memory.
+    fn take(&mut self, id: Id, at: u64) -> Result<(), AllocError>
+        requires pool { IsPool self.old }
+        requires due { due_in self.old ≡ Some (take_at id at) }
+        ensures pool { OnOk result (IsPool self.new) }
+        ensures less { OnOk result (left_in self.new < left_in self.old) }
+        ensures load { OnOk result ((self.new.plan ≡ self.old.plan) × (self.new.arrivals.now ≡ self.old.arrivals.now)) }
+    {
+        let Some(job) = self.front_job() else {
+            return Ok(());
+        };
+        pass(&mut self.idle, false, at);
+        remove_taker(&mut self.idle, self.own_look, at);
+        self.queue.pop_front();
+        run(&mut self.running, job, at)?;
+        self.record(TimedJdkEvent {
+            event: JdkEvent::Take(id),
+            at,
+        })
     }
 
     // When a worker that falls idle at a time may end, if ever.
     fn end_from(&self, at: u64) -> Option<u64>
-        requires { at + self.now.idle_for < 2 ^ 64 }
-        ensures { result ≡ (if nat_lt self.now.rule.core self.now.rule.workers then Some (at + self.now.idle_for) else nothing) }
+        requires pool { IsPool self.now }
+        requires fits { at + self.now.plan.idle_for < 2 ^ 64 }
+        ensures { result ≡ end_from self.now.plan (events_in self.now.history.items) at }
     {
         if self.has_spare() {
-            Some(at + self.idle_for)
+            Some(at + self.plan.idle_for)
         } else {
             None
         }
     }
 
-    // Finishes a job, whose worker is idle then, and begins what can begin. Errors: `AllocError` when out of memory.
-    fn finish(&mut self, place: usize, job: Running) -> Result<(), AllocError>
+    // A job is finished. Its worker is idle if no job waits. Errors: `AllocError` when out of memory.
+    fn finish(&mut self, id: Id, at: u64) -> Result<(), AllocError>
         requires pool { IsPool self.old }
-        requires quiet { IsQuiet self.old.rule }
-        requires chosen { IsChosen self.old (Step.Finish place job) }
+        requires due { due_in self.old ≡ Some (record { event = JdkEvent.Finish id; at = at }) }
         ensures pool { OnOk result (IsPool self.new) }
-        ensures quiet { OnOk result (IsQuiet self.new.rule) }
-        ensures left { OnOk result (left self.new.arrivals.now self.new.next self.new.rule self.new.idle.items < left self.old.arrivals.now self.old.next self.old.rule self.old.idle.items) }
-        ensures load { OnOk result ((self.new.rule.limits ≡ self.old.rule.limits) × (self.new.arrivals.now ≡ self.old.arrivals.now) × (self.new.idle_for ≡ self.old.idle_for)) }
+        ensures less { OnOk result (left_in self.new < left_in self.old) }
+        ensures load { OnOk result ((self.new.plan ≡ self.old.plan) × (self.new.arrivals.now ≡ self.old.arrivals.now)) }
     {
-        let is_spare = self.has_spare();
-        pass(&mut self.idle, is_spare, job.due);
-        let end = self.end_from(job.due);
-        // It is out.
-        let _out = self.rule.finish(job.slot);
-        self.running.remove(place);
-        self.history.push(Timed {
-            event: Event::Finish(job.slot.id),
-            at: job.due,
-        })?;
-        fall_idle(&mut self.idle, end)?;
-        self.begin_all(job.due)
-    }
-
-    // Ends an idle worker. Errors: `AllocError` when out of memory.
-    fn end(&mut self, place: usize, at: u64) -> Result<(), AllocError>
-        requires pool { IsPool self.old }
-        requires quiet { IsQuiet self.old.rule }
-        requires chosen { IsChosen self.old (Step.End place at) }
-        ensures pool { OnOk result (IsPool self.new) }
-        ensures quiet { OnOk result (IsQuiet self.new.rule) }
-        ensures left { OnOk result (left self.new.arrivals.now self.new.next self.new.rule self.new.idle.items < left self.old.arrivals.now self.old.next self.old.rule self.old.idle.items) }
-        ensures load { OnOk result ((self.new.rule.limits ≡ self.old.rule.limits) × (self.new.arrivals.now ≡ self.old.arrivals.now) × (self.new.idle_for ≡ self.old.idle_for)) }
-    {
-        // One is spare.
-        let _ended = self.rule.idle_end();
-        self.idle.remove(place);
-        self.history.push(Timed {
-            event: Event::IdleEnd,
+        let none_waits = self.no_job_waits();
+        let end = self.end_from(at);
+        pass(&mut self.idle, none_waits, at);
+        remove_job(&mut self.running, id);
+        if none_waits {
+            self.idle.push(Idle { end, look: None })?;
+        }
+        self.record(TimedJdkEvent {
+            event: JdkEvent::Finish(id),
             at,
-        })?;
-        Ok(())
+        })
     }
 
-    // The finish that comes first.
-    fn next_finish(&self) -> Option<Step>
-        ensures there { IfSome result (IsThere self.now) }
-        ensures due { option_map (event_of self.now.rule.limits self.now.history.items) result ≡ earliest (λ timed. timed.at) (map finish_at self.now.running.items) }
+    // An idle worker ends. Errors: `AllocError` when out of memory.
+    fn end(&mut self, at: u64) -> Result<(), AllocError>
+        requires pool { IsPool self.old }
+        requires due { due_in self.old ≡ Some (end_at at) }
+        ensures pool { OnOk result (IsPool self.new) }
+        ensures less { OnOk result (left_in self.new < left_in self.old) }
+        ensures load { OnOk result ((self.new.plan ≡ self.old.plan) × (self.new.arrivals.now ≡ self.old.arrivals.now)) }
     {
-        match first_due(&self.running) {
-            Some((place, job)) => Some(Step::Finish(place, job)),
-            None => None,
-        }
-    }
-
-    // The submission that comes next.
-    fn next_submission(&self) -> Option<Step>
-        ensures there { IfSome result (IsThere self.now) }
-        ensures due { option_map (event_of self.now.rule.limits self.now.history.items) result ≡ option_map (submission self.now.rule.limits (events_in self.now.history.items)) (slice_get self.now.arrivals.now self.now.next) }
-    {
-        match self.arrivals.get(self.next) {
-            Some(arrival) => Some(Step::Submit(*arrival)),
-            None => None,
-        }
-    }
-
-    // The end that comes first, if a worker is spare.
-    fn next_end(&self) -> Option<Step>
-        ensures there { IfSome result (IsThere self.now) }
-        ensures due { option_map (event_of self.now.rule.limits self.now.history.items) result ≡ (if nat_lt self.now.rule.core self.now.rule.workers then earliest (λ timed. timed.at) (map end_at (ends_of self.now.idle.items)) else nothing) }
-    {
-        if !self.has_spare() {
-            return None;
-        }
-        match first_end(&self.idle) {
-            Some((place, at)) => Some(Step::End(place, at)),
-            None => None,
-        }
-    }
-
-    // What happens next.
-    fn next_step(&self) -> Option<Step>
-        requires pool { IsPool self.now }
-        requires quiet { IsQuiet self.now.rule }
-        ensures chosen { IfSome result (IsChosen self.now) }
-        ensures none { IfNone result (due_in self.now ≡ nothing) }
-    {
-        first_step(self.next_finish(), self.next_submission(), self.next_end())
+        pass(&mut self.idle, true, at);
+        remove_first(&mut self.idle, false, at);
+        self.workers -= 1;
+        self.record(TimedJdkEvent {
+            event: JdkEvent::IdleEnd,
+            at,
+        })
     }
 
     /// Carries out what happens next, and says whether anything did. Errors: `AllocError` when out of memory.
     pub(crate) fn step(&mut self) -> Result<bool, AllocError>
         requires pool { IsPool self.old }
-        requires quiet { IsQuiet self.old.rule }
         ensures pool { OnOk result (IsPool self.new) }
-        ensures quiet { OnOk result (IsQuiet self.new.rule) }
-        ensures less { IfOk result (λ one. OnTrue one (left self.new.arrivals.now self.new.next self.new.rule self.new.idle.items < left self.old.arrivals.now self.old.next self.old.rule self.old.idle.items)) }
+        ensures less { IfOk result (λ one. OnTrue one (left_in self.new < left_in self.old)) }
         ensures none { IfOk result (λ one. OnFalse one (due_in self.new ≡ nothing)) }
-        ensures load { OnOk result ((self.new.rule.limits ≡ self.old.rule.limits) × (self.new.arrivals.now ≡ self.old.arrivals.now) × (self.new.idle_for ≡ self.old.idle_for)) }
+        ensures load { OnOk result ((self.new.plan ≡ self.old.plan) × (self.new.arrivals.now ≡ self.old.arrivals.now)) }
     {
-        match self.next_step() {
-            Some(Step::Finish(place, job)) => self.finish(place, job)?,
-            Some(Step::Submit(arrival)) => self.submit(arrival)?,
-            Some(Step::End(place, at)) => self.end(place, at)?,
-            None => return Ok(false),
+        let Some(timed) = self.next_event() else {
+            return Ok(false);
+        };
+        match timed.event {
+            JdkEvent::Submit { id, reply } => self.submit(id, reply, timed.at)?,
+            JdkEvent::Take(id) => self.take(id, timed.at)?,
+            JdkEvent::Finish(id) => self.finish(id, timed.at)?,
+            _ => self.end(timed.at)?,
         }
         Ok(true)
     }

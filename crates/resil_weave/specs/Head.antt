@@ -7,16 +7,16 @@ use Rattle.resil_heads.specs.declared.error.HeadError.{HeadError}
 use Rattle.resil_heads.specs.declared.error.HeadError.TheVariants as error
 use Rattle.resil_heads.specs.Keys.{parse_at, parse_count}
 
--- the keys of the head, of which none is required
+-- the keys of the head. None is required
 abbrev pub weave_keys : Keys
 weave_keys = record { known = codes "permits" ∷ []; required = [] }
 
--- The permits that a table requests, by its checks in their order: keys that aren't known, and a
--- value that isn't a number. They are 25 where there is no key.
+-- The permits that a table requests, by its checks in their order: unknown keys, and a value that
+-- isn't a number. They are 25 if there is no key.
 abbrev pub requested_permits : Members → Result ℕ HeadError
 requested_permits head = and_then (check_keys weave_keys head) (λ _. parse_at parse_count 25 (codes "permits") head)
 
--- the permits, where a word can count them: at most 65,535
+-- the permits, if a word can count them: at most 65,535
 abbrev pub check_permits : ℕ → Result ℕ HeadError
 check_permits permits = if nat_le permits 65535 then Ok permits else Err error.TooManyPermits
 

@@ -47,6 +47,6 @@ word_fields word = codes "word" ∷ [] ∷ decimal word ∷ []
 abbrev pub woven_text : List Step → List Shown → ℕ → List ℕ
 woven_text steps shown word = table_text (woven_text_header ∷ (step_records steps shown ++ word_fields word ∷ []))
 
--- Where all steps were made, each has a record.
+-- If all steps were made, each has a record.
 abbrev pub EachStepHasRecord : Type 0
 EachStepHasRecord = (m : Machine) (steps : List Step) → length (step_records steps (all_shown m steps)) ≡ length steps

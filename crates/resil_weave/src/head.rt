@@ -1,6 +1,6 @@
 //! The head of a `weave`: how many permits there are when its steps begin.
 //!
-//! It is checked in the stages of a pool's head, though no key is required: it is TOML, each key is
+//! It is checked in the stages of a pool's head, but no key is required: it is TOML, each key is
 //! known, the value is of its kind and in its range, and last there are no more permits than a word
 //! can count. The first stage that fails gives the error.
 
@@ -30,7 +30,7 @@ fn requested_permits(table: &Table) -> Result<u32, HeadFault>
     count_at("permits", u32::from(DEFAULT_PERMITS), table)
 }
 
-// The permits, where a word can count them. Errors: `TooManyPermits` above 65,535.
+// The permits, if a word can count them. Errors: `TooManyPermits` above 65,535.
 fn check_permits(permits: u32) -> Result<u32, HeadError>
     ensures { result ≡ check_permits permits }
 {
@@ -41,8 +41,8 @@ fn check_permits(permits: u32) -> Result<u32, HeadError>
     }
 }
 
-/// The permits that the head of a `weave` gives, at most 65,535. Its one key is `permits`, an
-/// integer from 0 to 4,294,967,295, and 25 where it is absent.
+/// Returns the permits in the head of a `weave`, at most 65,535. Its one key is `permits`, an
+/// integer from 0 to 4,294,967,295, 25 by default.
 ///
 /// # Errors
 ///
@@ -52,7 +52,7 @@ pub fn read_head(alloc: Global, bytes: &[u8]) -> Result<u32, HeadFault>
     ensures answer { Gives result (weave_head_of bytes.now) }
     ensures countable { IfOk result (λ permits. permits ≤ 65535) }
 
-    // A blank head takes no memory.
+    // A blank head doesn't allocate.
     ensures memory { result ≡ Err HeadError.Memory → ¬ IsBlank bytes.now }
 {
     let table = read_document(alloc, bytes)?;

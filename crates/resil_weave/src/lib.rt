@@ -1,8 +1,8 @@
-//! `weave`: makes callers' steps on one permit word, and writes what each showed.
+//! `weave`: makes callers' steps on one permit word, and writes what each step showed.
 //!
-//! The steps are made in the order of the rows by one thread, so every interleaving of callers can
-//! be written down as an input. `head` and `rows` are what is read, `woven` is the text, and the
-//! steps are made by `resil_permit`.
+//! One thread makes the steps, in the order of the rows, so every interleaving of callers can be
+//! written down as an input. `head` and `rows` are what is read, `woven` is the text, and
+//! `resil_permit` makes the steps.
 #![tactic(auto)]
 
 ghost use Rattle.std.specs.Prelude.{MatchResult};
@@ -23,7 +23,7 @@ use std::alloc::Global;
 pub use worked_heads::worked_weave_heads;
 use woven::woven_text;
 
-/// The text of the steps that the rows of an input are, and of what each showed.
+/// Returns the text of the steps in the rows of an input, and of what each step showed.
 ///
 /// # Errors
 ///

@@ -1,7 +1,7 @@
 //! The bodies of `weave`: the single steps of callers, one row after the other.
 //!
 //! Callers are numbered from 0. All rows are read before the first step is made, so a row that
-//! can't be read is reported even where an earlier step can't be made.
+//! can't be read is reported even if an earlier step can't be made.
 
 ghost use Rattle.std.specs.Prelude.{◌≡◌, MatchResult};
 ghost use Rattle.csv.specs.Records.{fields_of};
@@ -18,7 +18,7 @@ use std::alloc::Global;
 // The fields of the header.
 const HEADER: &[&str] = &["step", "caller"];
 
-/// What the bodies may have.
+/// What a body may contain.
 pub const BODY: Body = Body {
     header: HEADER,
     forms: &[Form::Word, Form::Number(0, 65_535)],
@@ -65,8 +65,8 @@ fn parse_step(fields: &ByteRecord) -> Option<Step>
 ///
 /// # Errors
 ///
-/// The first that is met: `Memory` when out of memory; `BadHeader` where the first record is
-/// missing or isn't the header; `BadRow` with the position of the first record that is no step.
+/// The first that occurs: `Memory` if out of memory; `BadHeader` if the first record is missing or
+/// isn't the header; `BadRow` with the position of the first record that is no step.
 pub fn read_rows(alloc: Global, body: &[u8]) -> Result<Vec<Step>, BodyError>
     ensures { MatchResult result (λ steps. IsWeaveBody body.now steps.items) (IsWeaveBodyError body.now) }
 {

@@ -1,4 +1,4 @@
-//! What `weave` says of its inputs to whoever explains what is wrong with one.
+//! What `weave` says of its inputs, to explain what is wrong with one.
 
 use crate::head::{WEAVE_KEYS, read_head};
 use crate::rows::BODY;
@@ -26,11 +26,12 @@ impl Subject for WeaveSubject {
 
     fn said_of(self, name: &str) -> Option<&'static str> {
         Some(match name {
-            "TooManyPermits" => "there are at most 65535 permits",
-            "NotLoaded" => "an exchange needs a load of its caller before it that showed `loaded`",
-            "NotHolding" => "an add or a retire needs a permit that its caller holds",
-            "StillLoaded" => "its caller has loaded, and its next step is an exchange",
-            "NotRetired" => "a raise needs a permit that its caller has retired",
+            "TooManyPermits" => "there may be at most 65535 permits",
+            "NotLoaded" =>
+                "an exchange is allowed only after its caller's load that showed `loaded`",
+            "NotHolding" => "an add or a retire is allowed only if its caller holds a permit",
+            "StillLoaded" => "its caller has loaded, so its next step must be an exchange",
+            "NotRetired" => "a raise is allowed only if its caller has retired a permit",
             _ => return None,
         })
     }

@@ -1,7 +1,7 @@
 //! The text of a `weave`: what each step showed, and the permit word after the last step.
 //!
 //! It is one table. Each step has its record again, as it was read, with what it showed in the last
-//! field. The last record is of the word, and has the number of free permits in that field.
+//! field. The last record is that of the word, with the number of free permits in that field.
 
 ghost use Rattle.std.specs.Prelude.{◌≡◌, ◌++◌, IfOk, OnOk};
 ghost use Rattle.resil_input.specs.CsvTable.{HasColumns, IsPlain, record_text, text_so_far};
@@ -27,7 +27,7 @@ fn shown_name(shown: Shown) -> &'static [u8]
     }
 }
 
-// Writes the record of a step of this name. Errors: `AllocError` when out of memory.
+// Writes the record of a step of this name. Errors: `AllocError` if out of memory.
 #[tactic(auto, using(resil_input::proofs::PlainLaws::IsPlain_number))]
 fn push_named(
     table: &mut CsvTable,
@@ -45,7 +45,7 @@ fn push_named(
     table.push(&[name, digits.format(caller).as_bytes(), shown])
 }
 
-// Writes the record of a step and of what it showed. Errors: `AllocError` when out of memory.
+// Writes the record of a step and of what it showed. Errors: `AllocError` if out of memory.
 fn push_step(table: &mut CsvTable, step: Step, shown: Shown) -> Result<(), AllocError>
     requires { HasColumns table.old 3 }
     ensures columns { OnOk result (HasColumns table.new 3) }
@@ -60,7 +60,7 @@ fn push_step(table: &mut CsvTable, step: Step, shown: Shown) -> Result<(), Alloc
     }
 }
 
-// Writes the record of the word. Errors: `AllocError` when out of memory.
+// Writes the record of the word. Errors: `AllocError` if out of memory.
 #[tactic(auto, using(resil_input::proofs::PlainLaws::IsPlain_number))]
 fn push_word(table: &mut CsvTable, word: u32) -> Result<(), AllocError>
     requires { HasColumns table.old 3 }
@@ -70,13 +70,13 @@ fn push_word(table: &mut CsvTable, word: u32) -> Result<(), AllocError>
     table.push(&[b"word", b"", digits.format(word).as_bytes()])
 }
 
-/// The text of woven steps: the header `step,caller,shown`, then for each step, in order, its own
-/// record with what it showed (`loaded`, `refused`, `took`, `lost`, `gave`, `retired` or `raised`), and
-/// at the end the record `word,,` with the number of free permits.
+/// Returns the text of woven steps: the header `step,caller,shown`, then for each step, in order, its
+/// own record with what it showed (`loaded`, `refused`, `took`, `lost`, `gave`, `retired` or `raised`),
+/// and at the end the record `word,,` with the number of free permits.
 ///
 /// # Errors
 ///
-/// `AllocError` when out of memory.
+/// `AllocError` if out of memory.
 pub fn woven_text(alloc: Global, steps: &[Step], woven: &Woven) -> Result<Vec<u8>, AllocError>
     ensures { IfOk result (λ text. text.items ≡ woven_text steps.now woven.now.shown.items woven.now.word) }
 {
@@ -89,7 +89,7 @@ pub fn woven_text(alloc: Global, steps: &[Step], woven: &Woven) -> Result<Vec<u8
     table.into_text()
 }
 
-/// The law of these texts: where all steps were made, each of them has a record.
+/// The law of these texts: if all steps were made, each of them has a record.
 pub fn each_step_has_record()
     ensures { EachStepHasRecord }
 {}

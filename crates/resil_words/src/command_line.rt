@@ -1,9 +1,7 @@
-//! The words of the program: its name, the command that it is to carry out, and the command's
-//! options.
+//! The arguments of the program: its name, the command to carry out, and the command's options.
 //!
-//! `clap` reads them. The program shows no help and no version: each word that is no command of its
-//! own is refused, a call for help like any other, and so are no words at all. Only `run` has
-//! options: a flag and a number of callers.
+//! `clap` reads them. The program shows neither help nor a version: a word that isn't one of its commands is refused, a request for
+//! help included, and so are no arguments at all. Only `run` has options: a flag and a number of callers.
 
 ghost use Rattle.std.specs.Prelude.{◌≡◌, Some, None, map, false, IfOk, IfSome, option_and_then};
 ghost use Rattle.clap.specs.Words.{app_of, found_of, rows_of, subcommand_rows_of};
@@ -15,10 +13,10 @@ use clap::{Arg, ArgAction, ArgMatches, Command, value_parser};
 use std::alloc::{AllocError, Global};
 use thiserror::Error;
 
-/// The greatest number of callers of `run`: as many as a pool of threads takes.
+/// The most callers that `run` may have: as many as a pool of threads takes.
 pub const MAX_CALLERS: u16 = 64;
 
-/// What the words request.
+/// What the arguments request.
 #[derive(Clone, Copy, Debug, PartialEq, Eq)]
 pub enum Request {
     /// A command that one thread carries out.
@@ -49,26 +47,26 @@ pub struct RunOptions {
     pub callers: u16,
 }
 
-/// Why the words request nothing.
+/// Why the arguments request nothing.
 #[derive(Clone, Copy, Debug, PartialEq, Eq, Error)]
 pub enum UsageError {
-    /// Memory ran out while the words were read.
+    /// Out of memory while the arguments were read.
     #[error("out of memory")]
     Memory,
-    /// The words are refused.
-    #[error("the words are refused")]
+    /// The arguments are refused.
+    #[error("the arguments are refused")]
     Usage,
 }
 
-/// What the words request. The first of them is the program's name.
+/// What the arguments request. The first of them is the program's name.
 ///
-/// A last word `--` is accepted. `--hold` and `--callers` come after `run`, in either order and
+/// A last argument `--` is accepted. `--hold` and `--callers` come after `run`, in either order and
 /// each at most once; without `--callers` there is one caller.
 ///
 /// # Errors
 ///
-/// `Usage` for all other words, a call for help or the version among them; `Memory` where memory
-/// runs out.
+/// `Usage` for all other arguments, a request for help or the version included; `Memory` when out of
+/// memory.
 pub fn parse_args<'a>(alloc: Global, words: &'a [&'a str]) -> Result<Request, UsageError>
     ensures request { IfOk result (λ request. request_of (map (λ word. word.now) words.entry.now) ≡ Some request) }
     ensures usage { result ≡ Err UsageError.Usage → request_of (map (λ word. word.now) words.entry.now) ≡ None }
@@ -89,7 +87,7 @@ pub fn parse_args<'a>(alloc: Global, words: &'a [&'a str]) -> Result<Request, Us
     }
 }
 
-// The program's command, with one subcommand for each request. Errors: memory runs out.
+// The program's command, with one subcommand for each request. Errors: out of memory.
 fn program<'a>(alloc: Global) -> Result<Command<'a>, AllocError>
     ensures { IfOk result (λ command. app_of command ≡ program) }
 {
@@ -105,7 +103,7 @@ fn program<'a>(alloc: Global) -> Result<Command<'a>, AllocError>
         .subcommand(run)
 }
 
-// The command `run`, with its flag and its option. Errors: memory runs out.
+// The command `run`, with its flag and its option. Errors: out of memory.
 fn run_command<'a>(alloc: Global) -> Result<Command<'a>, AllocError>
     ensures app { IfOk result (λ command. app_of command ≡ run_command) }
     ensures globals { IfOk result (λ command. (fields_of command).has_globals ≡ false) }
@@ -124,7 +122,7 @@ fn run_command<'a>(alloc: Global) -> Result<Command<'a>, AllocError>
         .arg(callers)
 }
 
-// The request of the subcommand that the words named.
+// The request of the subcommand that the arguments named.
 fn request_of_matches(matches: &ArgMatches<'_>) -> Option<Request>
     ensures request { result ≡ option_and_then request_of_match (subcommand_rows_of matches.now) }
     ensures callers { IfSome result HasFewCallers }
@@ -140,7 +138,7 @@ fn request_of_matches(matches: &ArgMatches<'_>) -> Option<Request>
     })
 }
 
-// The options of `run`, by what was found for its flag and its option.
+// The options of `run`, from its flag and its option.
 fn run_options(matches: &ArgMatches<'_>) -> Option<RunOptions>
     ensures options { result ≡ run_options (rows_of (found_of matches.now)) }
     ensures callers { IfSome result (λ options. HasFewCallers (Request.Run options)) }
@@ -153,9 +151,9 @@ fn run_options(matches: &ArgMatches<'_>) -> Option<RunOptions>
     Some(RunOptions { hold, callers })
 }
 
-/// Two facts of the definition of the words: the options of `run` in words that are written out,
-/// and the number of callers in `--callers=` before any text. It does nothing: its contract is what
-/// it is for.
+/// Two facts of the definition of the arguments: the options of `run` in arguments that are written
+/// out, and the number of callers in `--callers=` before any text. It does nothing: it exists for
+/// its contract.
 pub fn worked_run_options()
     ensures examples { RunExamples }
     ensures callers { FewCallers }

@@ -1,4 +1,4 @@
-//! The words of the program: which command they request, with its options.
+//! The arguments of the program: which command they request, with its options.
 #![tactic(auto)]
 
 mod command_line;

@@ -1,14 +1,12 @@
-//! A batch: rows that say who submits what, run on a pool of its own, from its opening to its report.
+//! A batch: rows that say which caller submits what, run on a pool of its own, from its opening to its report.
 //!
-//! A batch is done once all its rows are submitted and all its workers have left; then the pool is drained. So the
-//! report has a receipt for each row, with the row's plan, in row order for each caller. With `hold` the rows are
-//! submitted in their order before any worker starts, so no reply depends on how threads run; without, callers and
-//! workers run side by side. Every thread that is started is joined, and where memory or a thread is refused the
-//! pool is closed first, so that the workers leave.
+//! A batch is done once all its rows are submitted and all its workers have left; then the pool is drained. So the report has a
+//! receipt for each row, with the row's plan, in row order for each caller. With `hold` the rows are submitted in their order
+//! before any worker starts, so no reply depends on how threads run; without it, callers and workers run concurrently. Every
+//! thread that is started is joined, and if memory or a thread is refused, the pool is closed first, so that the workers leave.
 //!
 //! `row_jobs` makes the jobs of the rows, `submit` submits them, `worker_threads` and `caller_threads` start and join threads,
-//! `shared` is what all these threads share, `run` puts all together, and `error` says why the threads of a batch may not come
-//! to their end.
+//! `shared` is what all these threads share, `run` puts it all together, and `error` says why the threads of a batch may not finish.
 
 mod caller_threads;
 mod error;

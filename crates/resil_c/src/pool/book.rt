@@ -5,7 +5,8 @@
 //! ones and the numbers.
 ghost use Rattle.std.specs.Prelude.{◌≡◌, ◌↔◌, ◌⊎◌, ◌<◌, ◌≤◌, ◌+◌, not, Some, [], if◌then◌else◌, suc, length, slice_get, false, IsTrue, IsOk, IfOk, IfErr, IfSome, IfNone, OnOk, OnErr};
 ghost use Rattle.std.specs.Bool.{OnTrue, OnFalse};
-ghost use Rattle.resil_rule.specs.Limits.{AreLimits, AreSizesWithin, IsResizeRefusal};
+ghost use Rattle.resil_rule.specs.Limits.{AreSizesWithin};
+ghost use Rattle.resil_rule.specs.Sizes.{AreSizes, IsCoreOf, IsRefusedResize};
 ghost use Rattle.resil_rule.specs.RuleView.{MayEndIdle, HasOneToPick, is_acceptance, made_by, next_reply, with_finish, with_sizes, with_idle_end, with_close};
 ghost use Rattle.resil_rule.specs.RuleState.{HasNoneToPick};
 ghost use Rattle.resil_c.specs.Book.{in_64_bits, opened_book, has_caller, answer_to, next_id, counts_of, AreCallers, IsOpenRefusal, IsSubmitted, IsPicked, IsBookOf, Follows};
@@ -13,7 +14,7 @@ ghost use Rattle.resil_c.specs.PlainData.{submit_number};
 
 use crate::pool::plain_data::{MAX_CALLERS, OpenError, PoolCounts, by_rule};
 use resil_rule::{
-    AdmitError, Event, Id, LastEvents, Limits, Origin, Picked, Record, Refusal, Reply, Rule, Slot,
+    AdmitError, Event, Id, LastEvents, Origin, Picked, Record, Refusal, Reply, Rule, Sizes, Slot,
 };
 use std::alloc::Global;
 use std::marker::Model;
@@ -33,15 +34,14 @@ pub struct Book {
 
 impl Model for Book {
     ghost use Rattle.std.specs.Prelude.{◌≡◌, ◌≤◌, ◌+◌, length};
-    ghost use Rattle.resil_rule.specs.Limits.{AreLimits};
     ghost use Rattle.resil_c.specs.Book.{BookView};
 
     ghost Value = { BookView };
 
     ghost view = { λ b. record { rule = b.rule; last = b.last; refused = b.refused; finished = b.finished } };
 
-    // A place fits into 32 bits, the rule knows the callers, and the sizes at making are in their ranges.
-    ghost invariant = { λ b. (length b.rule.out ≤ 64) × (length b.rule.made ≡ b.callers + 1) × AreLimits b.rule.limits };
+    // A place fits into 32 bits, and the rule knows the callers.
+    ghost invariant = { λ b. (length b.rule.out ≤ 1024) × (length b.rule.made ≡ b.callers + 1) };
 }
 
 // The count of refusals after an answer of the rule.
@@ -66,14 +66,14 @@ impl Book {
     ) -> Result<Book, OpenError>
         ensures opened { IfOk result (λ b. b ≡ opened_book (record { core = core; max = max; queue = queue }) callers kept) }
         ensures history { IfOk result (IsBookOf []) }
-        ensures in_range { OnOk result (AreLimits (record { core = core; max = max; queue = queue }) × AreCallers callers) }
+        ensures in_range { OnOk result (AreSizes (record { core = core; max = max; queue = queue }) × AreCallers callers) }
         ensures refused { IfErr result (IsOpenRefusal (record { core = core; max = max; queue = queue }) callers) }
     {
-        let limits = Limits::new(core, max, queue)?;
+        let sizes = Sizes::new(core, max, queue)?;
         if callers < 1 || callers > MAX_CALLERS {
             return Err(OpenError::CallersRange);
         }
-        let rule = Rule::new(alloc, limits, callers as usize + 1)?;
+        let rule = Rule::new(alloc, sizes, callers as usize + 1)?;
         let Ok(last) = LastEvents::new(alloc, kept as usize) else {
             return Err(OpenError::Memory);
         };
@@ -133,7 +133,7 @@ impl Book {
     // Picks the job that is to run next: as the rule does, with a take as an event.
     pub(crate) fn pick(&mut self) -> Option<Picked<u64>>
         ensures picked { IfSome result (λ p. IsPicked p.origin p.slot p.work self.old self.new) }
-        ensures place { IfSome result (λ p. p.slot.place < 64) }
+        ensures place { IfSome result (λ p. p.slot.place < 1024) }
         ensures some { HasOneToPick self.old.rule → IfNone result ⊥ }
         ensures none { IfNone result (HasNoneToPick self.old.rule) }
         ensures unchanged { IfNone result (self.new ≡ self.old) }
@@ -162,11 +162,11 @@ impl Book {
 
     // Sets the sizes from here on, in workers.
     pub(crate) fn resize(&mut self, core: u32, max: u32) -> Result<(), AdmitError>
-        ensures limits { AreLimits self.old.rule.limits }
         ensures within { IsOk result ↔ AreSizesWithin self.old.rule.limits core max }
+        ensures core { OnOk result (IsCoreOf self.old.rule.limits core) }
         ensures event { OnOk result (self.new.rule ≡ with_sizes self.old.rule core max) }
         ensures follows { OnOk result (Follows self.old (Event.Resized core max) self.new) }
-        ensures refused { IfErr result (IsResizeRefusal self.old.rule.limits core max) }
+        ensures refused { IfErr result (IsRefusedResize self.old.rule.limits core max) }
         ensures unchanged { OnErr result (self.new ≡ self.old) }
     {
         self.rule.resize(core, max)?;

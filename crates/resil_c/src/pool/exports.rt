@@ -6,7 +6,8 @@ ghost use Rattle.std.specs.Prelude.{◌≡◌, ◌≢◌, ◌+◌, ◌≤◌, �
 ghost use Rattle.resil_rule.specs.declared.rule.Origin.TheVariants as origin;
 ghost use Rattle.resil_rule.specs.declared.event.Event.{Event as EventOf};
 ghost use Rattle.resil_rule.specs.declared.event.Event.TheVariants.{Finish, IdleEnd, Close, Resized};
-ghost use Rattle.resil_rule.specs.Limits.{AreSizesWithin, IsCore, IsMax, IsQueue};
+ghost use Rattle.resil_rule.specs.Limits.{AreSizesWithin, IsQueue};
+ghost use Rattle.resil_rule.specs.Sizes.{IsCoreOf, IsWideCore, IsWideMax};
 ghost use Rattle.resil_rule.specs.Record.{IsLastOf};
 ghost use Rattle.resil_rule.specs.RuleView.{MayEndIdle, HasOneToPick, made_by, with_finish, with_sizes, with_idle_end, with_close};
 ghost use Rattle.resil_rule.specs.RuleState.{HasNoneToPick};
@@ -25,7 +26,7 @@ use resil_rule::{AdmitError, Id, Slot};
 use std::alloc::Global;
 
 /// Makes an open pool of these sizes without workers or jobs, and writes its handle to `out`: a core size from 1
-/// to 64, a greatest size from the core size to 64, a queue capacity from 1 to 65,536. It is for the callers from 1 to
+/// to 1,024, a greatest size from the core size to 1,024, a queue capacity from 1 to 65,536. It is for the callers from 1 to
 /// `callers`, which is 1 to 65,535, and keeps so many of the last events.
 ///
 /// 0: made. 1: out of memory. 2, 3, 4, 5: the core size, the greatest size, the queue capacity, the number of callers is
@@ -43,10 +44,10 @@ pub extern "C" fn resil_pool_new(
     ensures answers { result ≤ 5 }
     ensures made { result ≡ 0 → out.new.value ≡ Some (opened_book (record { core = core; max = max; queue = queue }) callers kept) }
     ensures history { result ≡ 0 → Has (IsBookOf []) out.new.value }
-    ensures core { (result ≡ 2) ↔ ¬ IsCore core }
-    ensures max { (result ≡ 3) ↔ IsCore core × ¬ IsMax core max }
-    ensures queue { (result ≡ 4) ↔ IsCore core × IsMax core max × ¬ IsQueue queue }
-    ensures callers { (result ≡ 5) ↔ IsCore core × IsMax core max × IsQueue queue × ¬ AreCallers callers }
+    ensures core { (result ≡ 2) ↔ ¬ IsWideCore core }
+    ensures max { (result ≡ 3) ↔ IsWideCore core × ¬ IsWideMax core max }
+    ensures queue { (result ≡ 4) ↔ IsWideCore core × IsWideMax core max × ¬ IsQueue queue }
+    ensures callers { (result ≡ 5) ↔ IsWideCore core × IsWideMax core max × IsQueue queue × ¬ AreCallers callers }
     ensures unchanged { result ≢ 0 → out.new ≡ out.old }
 {
     let book = match Book::new(alloc, core, max, queue, callers, kept) {
@@ -180,14 +181,14 @@ pub extern "C" fn resil_pool_finish(
 /// Sets the core size and the greatest size, in workers, from here on. The queue's capacity and all jobs stay, and no
 /// worker begins or ends by it.
 ///
-/// 0: set, also where they stay the same and where the pool is closed. 1: the core size isn't from 1 to 64. 2: it is, and
-/// the greatest size isn't from the core size to that of `new`. After 1 and 2 nothing was changed. 255: the handle is
-/// empty.
+/// 0: set, also where they stay the same and where the pool is closed. 1: the core size isn't from 1 to 64, or to
+/// 1,024 where that of `new` was greater than 64. 2: it is, and the greatest size isn't from the core size to that of `new`.
+/// After 1 and 2 nothing was changed. 255: the handle is empty.
 #[unsafe(no_mangle)]
 pub extern "C" fn resil_pool_resize(handle: Handle, back: &mut Handle, core: u32, max: u32) -> u8
     ensures answers { (result ≤ 2) ⊎ (result ≡ 255) }
-    ensures core { IfSome handle.value (λ b. (result ≡ 1) ↔ ¬ IsCore core) }
-    ensures max { IfSome handle.value (λ b. (result ≡ 2) ↔ IsCore core × ¬ AreSizesWithin b.rule.limits core max) }
+    ensures core { IfSome handle.value (λ b. (result ≡ 1) ↔ ¬ IsCoreOf b.rule.limits core) }
+    ensures max { IfSome handle.value (λ b. (result ≡ 2) ↔ IsCoreOf b.rule.limits core × ¬ AreSizesWithin b.rule.limits core max) }
     ensures event { result ≡ 0 → AreBoth (λ b c. c.rule ≡ with_sizes b.rule core max) handle.value back.new.value }
     ensures follows { result ≡ 0 → AreBoth (λ b c. Follows b (Resized core max) c) handle.value back.new.value }
     ensures unchanged { (result ≡ 1) ⊎ (result ≡ 2) → back.new.value ≡ handle.value }

@@ -16,9 +16,9 @@ pub(crate) const CLOSED: u8 = 4;
 pub enum OpenError {
     /// Memory ran out.
     Memory,
-    /// The core size isn't from 1 to 64.
+    /// The core size isn't from 1 to 1,024.
     CoreRange,
-    /// The greatest size isn't from the core size to 64.
+    /// The greatest size isn't from the core size to 1,024.
     MaxRange,
     /// The queue capacity isn't from 1 to 65,536.
     QueueRange,
@@ -160,7 +160,7 @@ pub(crate) fn origin_number(origin: Origin) -> u8
 }
 
 pub(crate) fn plain_job(slot: Slot, work: u64) -> PoolJob
-    requires { slot.place < 64 }
+    requires { slot.place < 1024 }
     ensures { result ≡ plain_job slot work }
 {
     PoolJob {

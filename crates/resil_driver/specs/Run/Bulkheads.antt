@@ -1,9 +1,9 @@
--- The bulkheads that a `run` makes of a registry.
+-- The bulkheads that a `run` makes from a registry.
 use Rattle.std.specs.Prelude.{ℕ, ◌≡◌, List, slice_get, option_map}
 use Rattle.resil_bulkhead.specs.Bulkhead.{BulkheadView}
 use Rattle.resil_registry.specs.Registry.{RegistryView, instance_at}
 
--- the name of a bulkhead, and how many calls it permits at once
+-- the name of a bulkhead, and how many concurrent calls it permits
 abbrev pub made_as : BulkheadView → List ℕ × ℕ
 made_as bulkhead = (bulkhead.name, bulkhead.permits.max)
 

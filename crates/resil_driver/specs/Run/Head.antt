@@ -12,15 +12,15 @@ use Rattle.resil_heads.specs.Sizes.{parse_limits, required_sizes}
 use Rattle.resil_heads.specs.Keys.{parse_at, parse_count}
 use Rattle.resil_heads.specs.declared.error.HeadError.{HeadError}
 
--- what a head says: the sizes of the pool, the keep-alive in empty looks in a row, the registry
--- after the last layer was built, and the layers, innermost first
+-- what a head says: the sizes of the pool, the keep-alive in empty polls in a row, the registry after
+-- the last layer was built, and the layers, innermost first
 pub record RunHeadView : Type 0 where
   pub limits : Sizes
   pub keep_alive : ℕ
   pub bulkheads : RegistryView ℕ
   pub layers : List Layer
 
--- the keys of the head, of which `core` and `max` are required
+-- the keys of the head; `core` and `max` are required
 abbrev pub run_keys : Keys
 run_keys = record {
   known = codes "core" ∷ codes "max" ∷ codes "queue" ∷ codes "keep_alive" ∷ codes "permits" ∷ codes "layer" ∷ [];
@@ -28,9 +28,9 @@ run_keys = record {
 }
 
 -- What a table says, by its checks in their order. The first line has all checks of keys, and the
--- values of the layers and of the configurations; the second has another value, 20 empty looks
--- where it is absent. The third has the last values, the sizes, and then begins what is built: the
--- limits of these sizes, and in the fourth line the configurations, the layers in order and the chain.
+-- values of the layers and of the configurations; the second has the keep-alive, 20 empty polls by
+-- default. The third has the last values, the sizes, and then begins what is built: the limits of
+-- these sizes, and in the fourth line the configurations, the layers in order and the chain.
 unfoldable pub parse_run : Members → Result RunHeadView HeadError
 parse_run head =
     and_then (parse_chain run_keys head) (λ asked.

@@ -26,8 +26,8 @@ use Rattle.resil_heads.specs.declared.refusal.Refusal.TheVariants as refusal
 use Rattle.resil_heads.specs.declared.refusal.RunRefusal.TheVariants as run
 use Rattle.resil_driver.specs.declared.run.runner.RunSettings.{RunSettings}
 
--- the settings that a head and the words say: the sizes and the keep-alive are those of the head,
--- and the number of callers and the flag are those of the words
+-- the settings that a head and the words give: the sizes and the keep-alive come from the head, and the number of
+-- callers and the flag from the words
 abbrev pub run_settings : RunHeadView → RunOptions → RunSettings
 run_settings said words = record {
   config = record { limits = said.limits; keep_alive = said.keep_alive; callers = words.callers };
@@ -42,12 +42,11 @@ IsOfCaller callers job = (1 ≤ job.caller) × (job.caller ≤ callers)
 abbrev pub row_for_job : List Layer → ScriptedJob → JobRow
 row_for_job layers job = record { caller = job.caller; plan = record { layers = layers; script = job.script } }
 
--- What a pool of these settings tells of these rows once it was drained: a history, the receipts of
--- each caller, and the results. The history is legal; for each caller its submissions
--- are those of its receipts, and nobody else submits; each accepted job has its result once, in
--- order of acceptance; and the plans on each caller's receipts are those of its rows, in the order
--- of the rows. With hold the history begins with the submissions of all rows, in the order of the rows,
--- and the closing. Else it isn't said which legal history it is.
+-- What a pool of these settings reports of these rows once it is drained: a history, the receipts of each caller, and
+-- the results. The history is legal; for each caller its submissions are those of its receipts, and nobody else submits;
+-- each accepted job has its result once, in order of acceptance; and the plans on each caller's receipts are those of
+-- its rows, in the order of the rows. With hold the history begins with the submissions of all rows, in the order of the
+-- rows, and the closing. Without it, any legal history is possible.
 pub record IsPoolReport (settings : RunSettings) (rows : List JobRow) (history : List Event) (receipts : List (List Receipt)) (results : List Row) : Type 0 where
   pub one_legal_history : IsLegal settings.config.limits history
   pub each_callers_submissions : AreSubmissions history receipts
@@ -57,24 +56,24 @@ pub record IsPoolReport (settings : RunSettings) (rows : List JobRow) (history :
   pub plans : ArePlansOf rows receipts
   pub held : IsTrue settings.hold → BeginsWithRows rows history
 
--- no job was ever granted more permits of one of these bulkheads at once than that has
+-- no job was ever granted more permits of one of these bulkheads at once than the bulkhead has
 pub record AreWithin (bulkheads : List BulkheadView) (results : List Row) : Type 0 where
   pub each : All (λ row. IsWithin bulkheads row.run) results
 
--- A report of these rows by these settings: that of their pool, in which no job was ever granted more permits
--- of a bulkhead of the run at once than that has.
+-- A report of these rows by these settings: that of their pool, in which no job was ever granted more permits of a
+-- bulkhead of the run at once than the bulkhead has.
 pub record IsReport (settings : RunSettings) (bulkheads : List BulkheadView) (rows : List JobRow) (history : List Event) (receipts : List (List Receipt)) (results : List Row) : Type 0 where
   pub pool : IsPoolReport settings rows history receipts results
   pub granted : AreWithin bulkheads results
 
--- their pool was drained, and a job of its report was granted more permits of a bulkhead at once than that has
+-- their pool was drained, and a job of its report was granted more permits of a bulkhead at once than the bulkhead has
 pub record HasGrantedMore (settings : RunSettings) (bulkheads : List BulkheadView) (rows : List JobRow) : Type 0 where
   pub report : Report
   pub pool : IsPoolReport settings rows report.history.items (map (λ own. own.items) report.receipts.items) report.results.items
   pub more : ¬ AreWithin bulkheads report.results.items
 
--- Why a run on threads has no report: as a stranger is told what a drain found, or answers that the bulkheads can't have
--- given; as receipts that differ, only with hold, that the rows don't stand in their order.
+-- Why a run on threads has no report. As a stranger: what a drain found, or answers that the bulkheads can't have given.
+-- As receipts that differ, only with hold: the rows aren't in their order.
 abbrev pub MayRefuseOnThreads : RunSettings → List BulkheadView → List JobRow → RunError → Type 0
 MayRefuseOnThreads settings bulkheads rows run_error.Stranger = HasStranger settings.config.limits settings.config.callers rows ⊎ HasGrantedMore settings bulkheads rows
 MayRefuseOnThreads settings bulkheads rows run_error.ReceiptsDiffer = IsTrue settings.hold
@@ -83,15 +82,14 @@ MayRefuseOnThreads settings bulkheads rows run_error.BadCaller = Unit {0}
 MayRefuseOnThreads settings bulkheads rows run_error.Memory = Unit {0}
 MayRefuseOnThreads settings bulkheads rows run_error.NoThread = Unit {0}
 
--- What a run on threads may answer: a report, or where the pool has a worker an error, with its reason.
--- Of the keep-alive nothing is said.
+-- What a run on threads may return: a report, or, if the pool has a worker, an error with its reason. It says nothing of
+-- the keep-alive.
 abbrev pub MayAnswerOnThreads : RunSettings → List BulkheadView → List JobRow → Result Report RunError → Type 0
 MayAnswerOnThreads settings bulkheads rows (Ok report) = IsReport settings bulkheads rows report.history.items (map (λ own. own.items) report.receipts.items) report.results.items
 MayAnswerOnThreads settings bulkheads rows (Err why) = (1 ≤ settings.config.limits.max) × MayRefuseOnThreads settings bulkheads rows why
 
--- A run of these jobs that a head and the words say answers this: its settings are theirs, it has a
--- bulkhead for each id of the head, and its rows are the jobs, each under the layers of the head.
--- What such a run may answer is given.
+-- A run of these jobs, as a head and the words say, returns this: its settings are theirs, it has a bulkhead for each id
+-- of the head, and its rows are the jobs, each under the layers of the head. What such a run may return is given.
 abbrev pub HasPlayed : (RunSettings → List BulkheadView → List JobRow → Result Report RunError → Type 0) → RunHeadView → RunOptions → List ScriptedJob → Result Report RunError → Type 0
 HasPlayed MayAnswer said words jobs answer = (bulkheads : List BulkheadView) × AreMadeFrom said.bulkheads bulkheads
     × MayAnswer (run_settings said words) bulkheads (map (row_for_job said.layers) jobs) answer
@@ -106,7 +104,7 @@ from_run_error run_error.NoThread = error.NoThread
 from_run_error run_error.Stranger = error.Refused (refusal.Run run.Stranger)
 from_run_error run_error.ReceiptsDiffer = error.Refused (refusal.Run run.ReceiptsDiffer)
 
--- an error of carrying out the jobs: memory, or that of a run that answered so
+-- an error of running the jobs: memory, or that of a run that returned it
 abbrev pub IsPlayError : (Result Report RunError → Type 0) → CommandError → Type 0
 IsPlayError HasAnswered error.Memory = Unit {0}
 IsPlayError HasAnswered error.NoThread = HasAnswered (Err run_error.NoThread)

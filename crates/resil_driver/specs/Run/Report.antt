@@ -29,7 +29,7 @@ first_job = record { caller = 1; number = 1 }
 abbrev pub one_job : List Event
 one_job = Submit first_job Core ∷ Close ∷ Finish first_job ∷ IdleEnd ∷ []
 
--- the results of the example: whatever its plan, the job's second call gave 7 after a wait of 500 ms
+-- the results of the example: whatever its plan, the job's second call returned 7 after a wait of 500 ms
 abbrev pub one_result : PlanView → List Row
 one_result plan = record { id = first_job; run = record { plan = plan; outcome = Value (pos 7); calls = 2; waits = 500 ∷ []; asked = [] } } ∷ []
 

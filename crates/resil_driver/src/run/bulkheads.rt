@@ -12,7 +12,7 @@ use resil_bulkhead::{Bulkhead, BulkheadError, Pass};
 use resil_registry::Registry;
 use std::alloc::{AllocError, Global};
 
-// A bulkhead of that name and number of permits, with its first pass. Errors: `AllocError` when out of memory.
+// A bulkhead of that name and number of permits, with its first pass. Errors: `AllocError` if out of memory.
 fn make_bulkhead(alloc: Global, name: &str, permits: u16) -> Result<(Bulkhead, Pass), AllocError>
     requires { IsName name.now }
     ensures name { IfOk result (λ made. made.0.name ≡ name.now) }
@@ -26,13 +26,13 @@ fn make_bulkhead(alloc: Global, name: &str, permits: u16) -> Result<(Bulkhead, P
     }
 }
 
-/// A bulkhead for each instance of a registry, in order of id, and a pass of each in the same
-/// order. A bulkhead has its instance's name, and permits as many calls at once as the instance's
-/// configuration says (Resilience4j user guide, Bulkhead, `maxConcurrentCalls`).
+/// Makes a bulkhead for each instance of a registry, in order of id, and a pass of each in the same order. A
+/// bulkhead has its instance's name, and permits as many concurrent calls as the instance's configuration says
+/// (Resilience4j user guide, Bulkhead, `maxConcurrentCalls`).
 ///
 /// # Errors
 ///
-/// `AllocError` when out of memory.
+/// `AllocError` if out of memory.
 pub fn make_bulkheads(
     alloc: Global,
     registry: &Registry<u16>,

@@ -1,12 +1,11 @@
 //! The head of a `run`: the sizes of the pool, its keep-alive, and the layers around each job with
 //! the bulkheads that they name.
 //!
-//! Its keys are `keep_alive`, those of a pool's head and those of a chain's. It is checked in the
-//! stages of both at once, each over the whole head before the next one begins: it is TOML, each
-//! layer has a shape, each key is known, the required keys are there, and each value is of its kind
-//! and in its range. Last, the pool takes its sizes, the configurations are added in byte order of
-//! their names, and the layers are built in order and make a chain. The first stage that fails
-//! gives the error.
+//! Its keys are `keep_alive`, those of a pool's head and those of a chain's. It is checked in the stages
+//! of both at once, each over the whole head before the next one begins: it is TOML, each layer has a
+//! shape, each key is known, the required keys are there, and each value is of its kind and in its
+//! range. Last, the pool accepts its sizes, the configurations are added in byte order of their names,
+//! and the layers are built in order and make a chain. The first stage that fails gives the error.
 
 ghost use Rattle.std.specs.Prelude.{IfOk, length};
 ghost use Rattle.toml.specs.View.{table_view};
@@ -28,8 +27,8 @@ use std::alloc::Global;
 use std::marker::Model;
 use toml::Table;
 
-// The empty looks in a row after which a worker above the core ends, where a head names none
-// (ThreadPoolExecutor class documentation, keep-alive times; counted in looks, not in time).
+// How many empty polls in a row end a worker above the core size, if a head doesn't say
+// (ThreadPoolExecutor class documentation, keep-alive times; counted in polls, not in time).
 const DEFAULT_KEEP_ALIVE: u32 = 20;
 
 /// What the head of a `run` says.
@@ -37,7 +36,7 @@ const DEFAULT_KEEP_ALIVE: u32 = 20;
 pub struct RunHead {
     /// The sizes of the pool.
     pub limits: Limits,
-    /// The keep-alive, in empty looks in a row.
+    /// The keep-alive, in empty polls in a row.
     pub keep_alive: u32,
     /// The bulkheads by their ids, each with its number of permits.
     pub bulkheads: Registry<u16>,
@@ -53,7 +52,7 @@ impl Model for RunHead {
     ghost view = { λ h. record { limits = h.limits; keep_alive = h.keep_alive; bulkheads = h.bulkheads; layers = h.chain } };
 }
 
-// What the table of a head says. Errors: as for `read_head`, but for `BadToml`.
+// What the table of a head says. Errors: as for `read_head`, except `BadToml`.
 #[tactic(auto, unfolding(crate::specs::Run::Head::parse_run, resil_heads::specs::Layers::parse_chain))]
 fn parse_run(alloc: Global, head: &Table) -> Result<RunHead, HeadFault>
     ensures answer { Gives result (parse_run (table_view head.now)) }
@@ -71,25 +70,25 @@ fn parse_run(alloc: Global, head: &Table) -> Result<RunHead, HeadFault>
     })
 }
 
-/// What the head of a `run` says. Its keys are `core` and `max` (workers, both required), `queue`
-/// (jobs, 100 where it is absent), `keep_alive` (empty looks in a row, 20 where it is absent), each
-/// an integer from 0 to 4,294,967,295, and `permits` and `layer` as in the head of a `chain`. A
+/// Returns what the head of a `run` says. Its keys are `core` and `max` (workers, both required),
+/// `queue` (jobs, 100 by default), `keep_alive` (empty polls in a row, 20 by default), each an
+/// integer from 0 to 4,294,967,295, and `permits` and `layer` as in the head of a `chain`. A
 /// bulkhead has the permits of its configuration, 25 for `default`.
 ///
 /// # Errors
 ///
-/// The first in this order: `BadToml`; `BadValue` where `permits` isn't a table or `layer` isn't an
+/// The first in this order: `BadToml`; `BadValue` if `permits` isn't a table or `layer` isn't an
 /// array of tables; `MissingKey` or `BadValue` for the first layer that has no kind or an unknown
-/// one; `BadValue` for an unknown backoff; `UnknownKey`; `MissingKey`; `BadValue`; `Limits` where
-/// the pool refuses the sizes; `Registry` for the first configuration, in byte order of the names,
-/// that can't be added; `Retry` or `Registry` for the first layer that can't be built; `Chain`.
-/// `Memory` may come at any stage.
+/// one; `BadValue` for an unknown backoff; `UnknownKey`; `MissingKey`; `BadValue`; `Limits` if the
+/// pool refuses the sizes; `Registry` for the first configuration, in byte order of the names, that
+/// can't be added; `Retry` or `Registry` for the first layer that can't be built; `Chain`. `Memory`
+/// may come at any stage.
 pub fn read_head(alloc: Global, head: &[u8]) -> Result<RunHead, HeadFault>
     ensures answer { Gives result (run_head_of head.now) }
     ensures in_range { IfOk result (λ said. AreLimits said.limits) }
 
-    // The layers make a chain, each interval and each number of attempts is one that a retry takes,
-    // and each bulkhead of a layer is one of the registry.
+    // The layers make a chain, each interval and each number of attempts is one that a retry
+    // accepts, and each bulkhead of a layer is one of the registry.
     ensures layers_in_range { IfOk result (λ said. AreLayersInRange (length said.bulkheads.instances) said.layers) }
     ensures permits_in_range { IfOk result (λ said. ArePermitsInRange said.bulkheads) }
 {

@@ -1,8 +1,8 @@
-//! Carries out the jobs of a `run` on a pool of its own.
+//! Runs the jobs of a `run` on a pool of its own.
 //!
-//! The pool has the sizes of the head. Each job is its row's script under a copy of the layers of
-//! the head, and the workers share one bulkhead for each id that the layers name. All rows are
-//! there before the pool is opened, and nothing is done at a job's start or end but the job.
+//! The pool has the sizes of the head. Each job is its row's script under a copy of the layers of the head,
+//! and the workers share one bulkhead for each id that the layers name. All rows are there before the pool is
+//! opened, and the hook does nothing before or after a job.
 
 ghost use Rattle.std.specs.Prelude.{◌≡◌, ◌≢◌, ◌≤◌, All, IfErr, IfOk, Ok, map};
 ghost use Rattle.resil_rule.specs.Limits.{AreLimits};
@@ -20,7 +20,7 @@ use std::alloc::{AllocError, Global};
 use std::sync::Wait;
 use std::thread::Threads;
 
-// The row of a job: its caller, and the layers around its script. Errors: `AllocError` when out of memory.
+// The row of a job: its caller, and the layers around its script. Errors: `AllocError` if out of memory.
 fn row_for_job(alloc: Global, chain: &Chain, job: ScriptedJob) -> Result<JobRow, AllocError>
     ensures { IfOk result (λ row. row ≡ row_for_job chain.now job) }
 {
@@ -34,7 +34,7 @@ fn row_for_job(alloc: Global, chain: &Chain, job: ScriptedJob) -> Result<JobRow,
     })
 }
 
-// The rows of the jobs, in order, which share one copy of the layers. Errors: `AllocError` when out of memory.
+// The rows of the jobs, in order, which share one copy of the layers. Errors: `AllocError` if out of memory.
 fn rows_of(alloc: Global, chain: &Chain, jobs: Vec<ScriptedJob>) -> Result<Vec<JobRow>, AllocError>
     ensures { IfOk result (λ rows. rows.items ≡ map (row_for_job chain.now) jobs.items) }
 {
@@ -74,14 +74,12 @@ pub(crate) struct RunRequest<'a> {
     pub words: RunOptions,
 }
 
-/// The report of the jobs, which callers numbered from 1 submit to a pool of the head's sizes. With
-/// `--hold` all are submitted before a worker starts; else the callers and the workers start
-/// together.
+/// Returns the report of the jobs, which callers numbered from 1 submit to a pool of the head's sizes. With
+/// `--hold` all are submitted before a worker starts; without it the callers and the workers start together.
 ///
 /// # Errors
 ///
-/// `Memory`; `NoThread` where a thread can't be started; `Refused` as `Run` where the run has no
-/// report.
+/// `Memory`; `NoThread` if a thread can't be started; `Refused` as `Run` if the run has no report.
 pub(crate) fn play_run<J: JobRunner, R: Threads + Wait + Sync>(
     runner: &J,
     rt: &R,

@@ -1,8 +1,8 @@
 //! The text of a `run`: what its pool did, and how each accepted job ended.
 //!
-//! It is the text of the report's history, an empty line, and one table with a record for each
-//! result in order of acceptance: the job's caller and number, then the fields of its run as in the
-//! text of a `chain`. No record of a history is an empty line, so the first one parts the two.
+//! It is the text of the report's history, an empty line, and one table with a record for each result
+//! in order of acceptance: the job's caller and number, then the fields of its run as in the text of
+//! a `chain`. No record of a history is an empty line, so the first empty line separates the two.
 
 ghost use Rattle.std.specs.Prelude.{◌≡◌, ◌++◌, IfOk, OnOk};
 ghost use Rattle.resil_driver.specs.Run.Report.{ReportExample, report_text, result_fields};
@@ -15,7 +15,7 @@ use resil_input::csv_table::CsvTable;
 use resil_replay::history::{Version, history_text};
 use std::alloc::{AllocError, Global};
 
-// Writes the record of a result. Errors: `AllocError` when out of memory.
+// Writes the record of a result. Errors: `AllocError` if out of memory.
 fn push_result(table: &mut CsvTable, texts: &mut RunTexts, row: &Row) -> Result<(), AllocError>
     requires { HasColumns table.old 6 }
     ensures columns { OnOk result (HasColumns table.new 6) }
@@ -30,13 +30,12 @@ fn push_result(table: &mut CsvTable, texts: &mut RunTexts, row: &Row) -> Result<
     table.push(&[caller, number, outcome, calls, waits, asked])
 }
 
-/// The text of the report of a `run`: the text of the history, version 1, one empty line, the
-/// header `caller,number,outcome,calls,waits,asked`, then a record for each result, in order of
-/// acceptance.
+/// Returns the text of the report of a `run`: the text of the history, version 1, one empty line, the
+/// header `caller,number,outcome,calls,waits,asked`, then a record for each result, in order of acceptance.
 ///
 /// # Errors
 ///
-/// `AllocError` when out of memory.
+/// `AllocError` if out of memory.
 pub fn report_text(alloc: Global, history: &[Event], results: &[Row]) -> Result<Vec<u8>, AllocError>
     ensures { IfOk result (λ text. text.items ≡ report_text history.now results.now) }
 {

@@ -1,8 +1,7 @@
 //! The bodies of `run`: the jobs, each with the caller that submits it and its script.
 //!
 //! A row names one of the pool's callers. The rows of one caller are its jobs in the order of
-//! submission. All rows are read before the first job is submitted, so a row that can't be read
-//! keeps every job from running.
+//! submission. All rows are read before the first job is submitted, so if any row can't be read, no job is run.
 
 ghost use Rattle.std.specs.Prelude.{◌≡◌, IfOk, MatchResult};
 ghost use Rattle.csv.specs.Records.{fields_of};
@@ -20,7 +19,7 @@ use std::alloc::{AllocError, Global};
 // The fields of the header.
 const RUN_HEADER: &[&str] = &["caller", "script"];
 
-/// What the bodies may have.
+/// What a body may contain.
 pub const RUN_BODY: Body = Body {
     header: RUN_HEADER,
     forms: &[Form::Caller, Form::Script],
@@ -48,7 +47,7 @@ fn parse_caller_up_to(callers: u16, field: &[u8]) -> Option<u16>
     Some(caller)
 }
 
-// Reads a job from the fields of a record. Errors: `AllocError` when out of memory.
+// Reads a job from the fields of a record. Errors: `AllocError` if out of memory.
 fn parse_job(
     alloc: Global,
     callers: u16,
@@ -69,8 +68,8 @@ fn parse_job(
 ///
 /// # Errors
 ///
-/// The first that is met: `Memory` when out of memory; `BadHeader` where the first record is
-/// missing or isn't the header; `BadRow` with the position of the first record that is no job.
+/// The first that occurs: `Memory` if out of memory; `BadHeader` if the first record is missing or
+/// isn't the header; `BadRow` with the position of the first record that is no job.
 pub fn read_rows(alloc: Global, callers: u16, body: &[u8]) -> Result<Vec<ScriptedJob>, BodyError>
     ensures { MatchResult result (λ jobs. IsRunBody callers body.now jobs.items) (IsRunBodyError callers body.now) }
 {

@@ -1,10 +1,9 @@
-//! What carries out the jobs of a `run`.
+//! Runners: they run the jobs of a `run`.
 //!
-//! A runner is told the settings of the pool, the bulkheads and the rows. What it may answer then
-//! is its own meaning, of which nothing else is known to its caller: so a report or an error that
-//! `run` passes on is one that a runner gave for just these settings, bulkheads and rows. The runner
-//! over threads hands them on to `run_jobs` as they are, and compares the answers of the report with
-//! the bulkheads.
+//! A runner gets the settings of the pool, the bulkheads and the rows. What it may then return is its own meaning,
+//! and its caller knows nothing else of it: so a report or an error that `run` passes on is one that a runner
+//! returned for exactly these settings, bulkheads and rows. The runner over threads passes them to `run_jobs` as
+//! they are, and compares the answers of the report with the bulkheads.
 
 ghost use Rattle.std.specs.Prelude.{◌≡◌, ◌≢◌, ◌≤◌, All, IfErr, map};
 ghost use Rattle.std.specs.Thread.{IsSync};
@@ -23,7 +22,7 @@ use std::alloc::Global;
 use std::sync::Wait;
 use std::thread::Threads;
 
-/// What a run is told beside its bulkheads and its rows.
+/// The settings of a run, besides its bulkheads and its rows.
 #[derive(Clone, Copy)]
 pub struct RunSettings {
     /// The sizes of the pool, its keep-alive, and how many callers there are.
@@ -32,7 +31,7 @@ pub struct RunSettings {
     pub hold: bool,
 }
 
-/// The settings that a head and the words say.
+/// Returns the settings that a head and the words give.
 pub(crate) fn run_settings(head: &RunHead, words: RunOptions) -> RunSettings
     ensures { result ≡ run_settings head.now words }
 {
@@ -46,12 +45,12 @@ pub(crate) fn run_settings(head: &RunHead, words: RunOptions) -> RunSettings
     }
 }
 
-/// The jobs of a run, with the pool that they are submitted to and the bulkheads that they ask.
+/// The jobs of a run, with the pool that they are submitted to and the bulkheads that they use.
 #[derive(Drop)]
 pub struct RunBatch<'a> {
     /// What the pool is opened with, and when its workers start.
     pub settings: RunSettings,
-    /// The bulkheads that the jobs ask, by their ids.
+    /// The bulkheads that the jobs use, by their ids.
     pub bulkheads: &'a [Bulkhead],
     /// A pass of each of the bulkheads, in the same order.
     pub passes: Vec<Pass>,
@@ -59,7 +58,7 @@ pub struct RunBatch<'a> {
     pub rows: Vec<JobRow>,
 }
 
-/// Carries out the jobs of a `run`.
+/// Runs the jobs of a `run`.
 pub trait JobRunner {
     ghost use Rattle.std.specs.Prelude.{List, Result};
     ghost use Rattle.resil_bulkhead.specs.Bulkhead.{BulkheadView};
@@ -68,18 +67,16 @@ pub trait JobRunner {
     ghost use Rattle.resil_pool.specs.declared.draining.report.Report.{Report};
     ghost use Rattle.resil_driver.specs.declared.run.runner.RunSettings.{RunSettings};
 
-    /// What a run with these settings, with these bulkheads by their ids and of these rows may
-    /// answer.
+    /// What a run with these settings, with these bulkheads by their ids and of these rows may return.
     ghost MayAnswer: { RunSettings → List BulkheadView → List JobRow → Result Report RunError → Type 0 };
 
-    /// The report of the rows, which callers numbered from 1 submit to a pool of the settings. Its
-    /// jobs ask the bulkheads, of each of which there is a pass. It may start threads of this runtime,
-    /// and wait.
+    /// Returns the report of the rows, which callers numbered from 1 submit to a pool of the settings. Its jobs use
+    /// the bulkheads; there is a pass of each of them. It may start threads of this runtime, and wait.
     ///
     /// # Errors
     ///
-    /// `Memory`; `NoThread` where a thread can't be started; `Stranger` and `ReceiptsDiffer` where
-    /// there is no report; `Stranger` too where a job was granted more permits of a bulkhead at once than that has.
+    /// `Memory`; `NoThread` if a thread can't be started; `Stranger` and `ReceiptsDiffer` if there is no report;
+    /// `Stranger` also if a job was granted more permits of a bulkhead at once than the bulkhead has.
     fn run<R: Threads + Wait + Sync>(
         &self,
         rt: &R,
@@ -96,7 +93,7 @@ pub trait JobRunner {
         ensures answer { MayAnswer batch.entry.settings batch.entry.bulkheads.now batch.entry.rows.items result };
 }
 
-/// Carries out the jobs of a `run` on threads.
+/// Runs the jobs of a `run` on threads.
 pub struct ThreadRunner;
 
 impl JobRunner for ThreadRunner {

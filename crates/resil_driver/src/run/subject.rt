@@ -1,4 +1,4 @@
-//! What `run` says of its inputs to whoever explains what is wrong with one.
+//! What `run` says of its inputs, to explain what is wrong with one.
 
 use crate::run::head::read_head;
 use crate::run::rows::RUN_BODY;
@@ -8,7 +8,7 @@ use resil_heads::run::RUN_KEYS;
 use resil_heads::subject::Subject;
 use std::alloc::Global;
 
-/// The inputs of a `run` of so many callers.
+/// The inputs of a `run` with this many callers.
 #[derive(Clone, Copy)]
 pub struct RunSubject {
     /// How many callers there are.

@@ -4,7 +4,7 @@ use mathlib.Core.Option.{some}
 use mathlib.Core.List.{IsPrefix}
 use lib.ListN.{get_elem?}
 
--- the seat at this index has its number, knows the key, has seen a prefix of the log, and has seen all of the log's events of its own
+-- the seat at this index has its number, knows the key, has seen a prefix of the log, and has seen all its own events in the log
 pub record IsLive {E K : Type 0} (is_own : ℕ → E → Bool) (key : K) (log : List E) (index number : ℕ) (known : K) (seen : List E) : Type 0 where
   pub numbered : number ≡ index
   pub keyed : known ≡ key
@@ -18,8 +18,8 @@ pub record IsSeenWhole {E V : Type 0} (seen : V → List E) (log : List E) (view
   pub there : get_elem? views index ≡ some seat
   pub whole : seen seat ≡ log
 
--- This is the log of the seats that have these views. It is legal, and some seat has seen it whole. Fits is what the protocol says of a view at an index; and
--- no event is of a seat that isn't there
+-- This is the log of the seats that have these views. It is legal, and some seat has seen it whole. Fits is what the protocol says of a view at an
+-- index; and no event belongs to a seat that isn't there
 pub record IsLogOf {E V : Type 0} (seen : V → List E) (IsLegal : List E → Type 0) (is_own : ℕ → E → Bool) (Fits : ℕ → V → Type 0) (log : List E) (views : List V) : Type 0 where
   pub legal : IsLegal log
   pub longest : IsSeenWhole seen log views

@@ -1,4 +1,4 @@
--- What the callers hand in when a pool is drained, and what is compared with their receipts: the history and the results.
+-- What the callers pass in when a pool is drained, and what is compared with their receipts: the history and the results.
 use Rattle.std.specs.Prelude.{◌≡◌, ◌-◌, ◌≤◌, ℕ, List, Some, All, length, map, slice_get}
 use Rattle.resil_pool.specs.Words.{Id, IsPrefix, Event, Row, LoggedEvent, Receipt}
 use Rattle.resil_pool.specs.Lock.{NamesCaller, events_in, own_in}
@@ -25,7 +25,7 @@ pub record HasNumberedReceipt (receipts : List (List Receipt)) (id : Id) : Type 
   pub there : slice_get (receipts_at receipts id.caller) (id.number - 1) ≡ Some receipt
   pub number : receipt.number ≡ id.number
 
--- it has the plan that was run too
+-- it also has the plan that was run
 pub record HasReceipt (receipts : List (List Receipt)) (row : Row) : Type 0 where
   pub numbered : HasNumberedReceipt receipts row.id
   pub plan : row.run.plan ≡ numbered.receipt.plan

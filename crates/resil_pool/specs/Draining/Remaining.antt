@@ -17,7 +17,7 @@ pub record Ran {P : Type 0} (Between : P → List Asked → P → Type 0) (permi
   pub jobs : new.jobs ≡ with_runs old.jobs made
   pub kept : All (λ row. run_of new.jobs row.id ≡ Some row.run) made
 
--- from this history on all finishes are of these runs, which the permitter was asked for, one after the other; each is a result
+-- from this history on all finishes are of these runs, made with the permitter, one after the other; each is a result
 pub record RanInDrain {P : Type 0} (Between : P → List Asked → P → Type 0) (permitter permitter' : P) (before : List Event) (made : List Row) (history : List Event) (rows : List Row) : Type 0 where
   pub answered : Between permitter (asked_in made) permitter'
   pub begins : IsPrefix before history
@@ -28,11 +28,11 @@ pub record RanInDrain {P : Type 0} (Between : P → List Asked → P → Type 0)
 abbrev pub picks : MachineView → ℕ
 picks m = m.picked + length (taken m.history)
 
--- from the one machine to the other as many jobs were finished as were picked
+-- from the one machine to the other, as many jobs were finished as were picked
 abbrev pub FinishedEachPick : MachineView → MachineView → Type 0
 FinishedEachPick old new = picks new + length (finished old.history) ≡ picks old + length (finished new.history)
 
--- what a drain runs itself leaves: more history, with as many finishes as picks, with the submissions that there were, which name callers where they did
+-- what a drain runs itself leaves: more history, with as many finishes as picks, and with the same submissions, which name callers if they did before
 pub record HasRunOn (old new : MachineView) : Type 0 where
   pub limits : new.limits ≡ old.limits
   pub begins : IsPrefix old.history new.history
@@ -40,8 +40,8 @@ pub record HasRunOn (old new : MachineView) : Type 0 where
   pub names : (callers : ℕ) → KeepsNames callers old new
   pub submissions : (caller : ℕ) → submissions new.history caller ≡ submissions old.history caller
 
--- from the one machine on as many jobs were finished as were picked; then one more was picked, which left the other machine; and that one refuses a run of the
--- job's plan
+-- from the one machine on as many jobs were finished as were picked; then one more was picked, which left the other machine; and that one refuses a
+-- run of the job's plan
 pub record LeftRefused (old new : MachineView) : Type 0 where
   pub before : MachineView
   pub id : Id

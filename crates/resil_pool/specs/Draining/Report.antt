@@ -1,4 +1,4 @@
--- What is promised of the report of a drained pool.
+-- What the report of a drained pool promises.
 use Rattle.std.specs.Prelude.{◌≡◌, ℕ, ◌-◌, ◌≤◌, List, [], Some, All, Any, map, length, slice_get, slice_index_or}
 use Rattle.std.specs.List.{range_with_len}
 use Rattle.std.specs.List.Sorted.{IsPermutation}
@@ -25,7 +25,7 @@ receipts_at receipts caller = slice_index_or receipts (caller - 1) []
 abbrev pub AreSubmissions : List Event → List (List Receipt) → Type 0
 AreSubmissions history receipts = (caller : ℕ) → 1 ≤ caller → caller ≤ length receipts → submissions history caller ≡ map (submit_of caller) (receipts_at receipts caller)
 
--- the result of an accepted job: a run whose value its chain defines, of the plan that stands on the job's receipt
+-- the result of an accepted job: a run whose value its chain defines, of the plan that is on the job's receipt
 pub record IsResult (receipts : List (List Receipt)) (row : Row) : Type 0 where
   pub value : IsValue row.run
   pub receipt : Receipt

@@ -1,4 +1,4 @@
--- What a seat has seen, the log: what each turn wrote, with the plan beside each submission and the run beside each finish; and how what is seen grows by a call.
+-- What a seat has seen, the log: what each turn wrote, with the plan for each submission and the run for each finish; and how a call lets it grow.
 use Rattle.std.specs.Prelude.{ℕ, ◌≡◌, ◌≤◌, ◌==◌, ◌∷◌, [], Bool, false, List, All, Option, Some, None, map, option_map, filter, if◌then◌else◌}
 use Rattle.std.specs.List.{filter_map}
 use Rattle.resil_pool.specs.Words.{PlanView, RunView, Sizes, accepted_id, is_same_id, IsLegal, MachineView, Accepted, Row, Id, Event, Submit, Finish, Close, LoggedEvent, Note}
@@ -38,7 +38,7 @@ is_own number n = is_own_note number n.note
 abbrev pub own_in : ℕ → List LoggedEvent → List LoggedEvent
 own_in number log = filter (is_own number) log
 
--- a log is legal if its events are, by the rule of admission
+-- a log is legal if its events are legal by the rule of admission
 abbrev pub IsLegalLog : Sizes → List LoggedEvent → Type 0
 IsLegalLog limits log = IsLegal limits (events_in log)
 
@@ -57,23 +57,23 @@ plans_in log = filter_map logged_plan log
 abbrev pub plan_entry : Accepted → Id × Option PlanView
 plan_entry job = (job.id, Some job.plan)
 
--- the machine at home has these limits, this history, and the plans of the accepted jobs in it
+-- the machine in its slot has these limits, this history, and the plans of the accepted jobs in it
 pub record MatchesLog (limits : Sizes) (log : List LoggedEvent) (m : MachineView) : Type 0 where
   pub sized : m.limits ≡ limits
   pub history : m.history ≡ events_in log
   pub plans : map plan_entry m.jobs ≡ plans_in log
 
--- the run that is kept of a job
+-- the run that is kept for a job
 abbrev pub run_of : List Accepted → Id → Option RunView
 run_of [] id = None
 run_of (job ∷ jobs) id = if is_same_id id job.id then job.run else run_of jobs id
 
--- the job that a turn ended, with the run that is kept of it
+-- the job that a turn ended, with the run that is kept for it
 abbrev pub run_ended_by : List Accepted → Note → Option Row
 run_ended_by jobs (note.Event (Finish id)) = option_map (λ run. record { id = id; run = run }) (run_of jobs id)
 run_ended_by jobs _ = None
 
--- what a turn wrote, with this plan, that left the machine with these jobs
+-- what a turn wrote, with this plan, if it left the machine with these jobs
 abbrev pub logged : Option PlanView → List Accepted → Note → LoggedEvent
 logged plan jobs written = record { note = written; payload = record { plan = plan; ended = run_ended_by jobs written } }
 
@@ -84,7 +84,7 @@ start_of id = record { note = note.Started id; payload = record { plan = None; e
 abbrev pub finish_of : Id → RunView → LoggedEvent
 finish_of id run = record { note = note.Event (Finish id); payload = record { plan = None; ended = Some (record { id = id; run = run }) } }
 
--- the runs with which some entries end jobs
+-- the runs with which these entries end jobs
 abbrev pub runs_in : List LoggedEvent → List Row
 runs_in log = filter_map (λ n. n.payload.ended) log
 

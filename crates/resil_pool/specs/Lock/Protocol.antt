@@ -1,4 +1,5 @@
--- What lies under the lock says of itself: which logs it stands for, which seats there are, what a turn wrote, and which jobs a seat's own turns picked and ended.
+-- What the state under the lock says of itself: which logs it represents, which seats there are, what a turn wrote, and which jobs a seat's own turns
+-- picked and ended.
 use Rattle.std.specs.Prelude.{◌≡◌, ◌≤◌, ◌⊎◌, ◌+◌, ℕ, true, List, [], ◌∷◌, Option, Some, None, length, option_map, take}
 use Rattle.atomic_table.specs.Table.{Me}
 use Rattle.resil_lock.specs.declared.protocol.View as lock
@@ -15,11 +16,11 @@ use Rattle.resil_pool.specs.Lock.LoggedEvent.{AllNameCallers, IsLegalLog, Matche
 abbrev pub View : Type 0
 View = lock.View Opening LoggedEvent
 
--- what the closer's seat knows of a new pool, where this many seats are made
+-- what the closer's seat knows of a new pool in which this many seats are made
 abbrev pub closer_view : Opening → ℕ → View
-closer_view opening made = view_of opening rank.Opener 0 made Idle [] []
+closer_view opening made = view_of opening rank.Opener 0 made 0 Idle [] []
 
--- what a seat knows, with the slot where it holds it
+-- what a seat knows, with the slot if it holds it
 abbrev pub LockSeatState : Type 0
 LockSeatState = Me (Option State) View
 
@@ -27,7 +28,8 @@ LockSeatState = Me (Option State) View
 abbrev pub starts_of : MachineView → List Id
 starts_of machine = take machine.picked (started machine.history)
 
--- The machine stands for its legal history, with the plans of its jobs; each submission there names a caller of the pool; and the jobs that were picked are those of the log.
+-- The machine represents its legal history, with the plans of its jobs; each submission there names a caller of the pool; and the jobs that were
+-- picked are those of the log.
 pub record IsMachineOf (opening : Opening) (log : List LoggedEvent) (machine : MachineView) : Type 0 where
   pub home : MatchesLog opening.limits log machine
   pub legal : IsLegalLog opening.limits log
@@ -38,16 +40,16 @@ pub record IsMachineOf (opening : Opening) (log : List LoggedEvent) (machine : M
 abbrev pub StandsFor : Opening → List LoggedEvent → State → Type 0
 StandsFor opening log state = IsMachineOf opening log state.machine
 
--- all seats have numbers: the closer's, from which all others are cut
+-- all seats have numbers: all are split from the closer's
 abbrev pub HasNumber : Rank → Type 0
 HasNumber who = (who ≡ rank.Opener) ⊎ (who ≡ rank.Member)
 
--- whose seat it is has a number, and it has ended no job that it hadn't picked
+-- the seat's owner has a number, and it has ended no job that it hadn't picked
 pub record MayHaveWritten (who : Rank) (own : List LoggedEvent) : Type 0 where
   pub numbered : HasNumber who
   pub balanced : IsBalanced own
 
--- what is noted of a turn that was no submission
+-- the note of a turn that was no submission
 abbrev pub plain : Note → Written
 plain written = record { note = written; plan = None }
 
@@ -63,7 +65,7 @@ told state = entries_of state.machine.jobs state.last
 abbrev pub HasWork : State → Type 0
 HasWork state = (is_closed state.machine.history ≡ true) ⊎ HasOneToPick state.machine
 
--- a seat that wrote this has picked this job and not ended it: with one end of it more, no job was ended more often than it was picked
+-- a seat that wrote this has picked this job and not ended it: with one more end of it, no job was ended more often than it was picked
 abbrev pub IsDue : Id → List LoggedEvent → Type 0
 IsDue id own = (x : Id) → times x (ended_in own) + times x (id ∷ []) ≤ times x (picked_in own)
 
@@ -71,7 +73,7 @@ IsDue id own = (x : Id) → times x (ended_in own) + times x (id ∷ []) ≤ tim
 abbrev pub IsSettled : List LoggedEvent → Type 0
 IsSettled own = (id : Id) → times id (ended_in own) ≡ times id (picked_in own)
 
--- its turns have picked these jobs more, and ended these
+-- its turns have picked these jobs in addition, and ended these
 pub record Tallies (old : List LoggedEvent) (picks ends : List Id) (new : List LoggedEvent) : Type 0 where
   pub picked : (id : Id) → times id (picked_in new) ≡ times id (picked_in old) + times id picks
   pub ended : (id : Id) → times id (ended_in new) ≡ times id (ended_in old) + times id ends

@@ -6,7 +6,7 @@ use Rattle.resil_lock.specs.declared.log.Note.TheVariants as note
 use Rattle.resil_pool.specs.Lock.LoggedEvent.{log_event, events_in, start_of, closer_number, MatchesLog, plans_in, plan_entry, SeesMore, SeesOwn}
 use Rattle.resil_pool.specs.Lock.Protocol.{LockSeatState}
 
--- which lock, and with what its pool was opened
+-- which lock, and what its pool was opened with
 pub record PoolId : Type 0 where
   pub table_id : TableId
   pub limits : Sizes
@@ -20,8 +20,8 @@ pub record IsResting (me : LockSeatState) : Type 0 where
   pub idle : me.0.phase ≡ Idle
   pub no_slot : me.1 ≡ []
 
--- the seat of this number may write the event, in a pool with this many callers: a submission is written by the caller that it names, which is one of them and never
--- the closer; a closing by the closer alone, a resize never by the closer
+-- the seat of this number may write the event, in a pool with this many callers: a submission is written by the caller that it names, which is one of
+-- them and never the closer; a closing by the closer alone, a resize never by the closer
 abbrev pub MayWrite : ℕ → ℕ → Event → Type 0
 MayWrite callers number (Submit id reply) = (id.caller ≡ number) × (number ≢ closer_number) × (number ≤ callers)
 MayWrite callers number Close = number ≡ closer_number
@@ -35,7 +35,7 @@ pub record AppendedOne (me : LockSeatState) (plan : Option PlanView) (machine : 
   pub own : MayWrite me.0.key.callers me.0.number event
   pub home : MatchesLog me.0.key.limits (me.0.seen ++ log_event plan event ∷ []) machine
 
--- what a turn may leave: the machine with what it had at home, or with one event more
+-- what a turn may leave: the machine as it had it in the slot, or with one event more
 abbrev pub IsTurn : LockSeatState → Option PlanView → MachineView → Type 0
 IsTurn me plan machine = MatchesLog me.0.key.limits me.0.seen machine ⊎ AppendedOne me plan machine
 
@@ -45,7 +45,7 @@ pub record Unchanged (old new : MachineView) : Type 0 where
   pub history : new.history ≡ old.history
   pub plans : map plan_entry new.jobs ≡ map plan_entry old.jobs
 
--- one event was written, which was allowed, and of an accepted submission the plan is kept
+-- one event was written, which was allowed, and the plan of an accepted submission is kept
 pub record AppendsToMachine (plan : Option PlanView) (old : MachineView) (event : Event) (new : MachineView) : Type 0 where
   pub allowed : IsAllowed old.limits old.history event
   pub sized : new.limits ≡ old.limits
@@ -57,7 +57,7 @@ abbrev pub IsStep : Option PlanView → MachineView → Note → MachineView →
 IsStep plan old (note.Event event) new = AppendsToMachine plan old event new × (new.picked ≡ old.picked)
 IsStep plan old (note.Started id) new = (next_started old ≡ Some id) × (new ≡ record old { picked = old.picked + 1 })
 
--- the same of a turn, which wrote one entry or none
+-- the same for a turn, which wrote one entry or none
 abbrev pub IsMoved : MachineView → List LoggedEvent → MachineView → Type 0
 IsMoved old [] new = new ≡ old
 IsMoved old (entry ∷ []) new = IsStep entry.payload.plan old entry.note new
@@ -83,7 +83,7 @@ pub record AppendsWorkersEvent (old new : MachineView) : Type 0 where
   pub other : IsWorkersEvent event
   pub writes : AppendsToMachine None old event new
 
--- at most one event was written, and none of a submission, a closing and a resize
+-- at most one event was written, and no submission, closing or resize
 abbrev pub AppendsAtMostOne : MachineView → MachineView → Type 0
 AppendsAtMostOne old new = Unchanged old new ⊎ AppendsWorkersEvent old new
 
@@ -91,7 +91,7 @@ AppendsAtMostOne old new = Unchanged old new ⊎ AppendsWorkersEvent old new
 abbrev pub AppendsCloseAtMost : MachineView → MachineView → Type 0
 AppendsCloseAtMost old new = Unchanged old new ⊎ AppendsToMachine None old Close new
 
--- what the closer has seen after a closing: the closing ends it, where the closer wrote one
+-- what the closer has seen after a closing: the closing ends it, if the closer wrote one
 abbrev pub SeesClosing : Sizes → List LoggedEvent → List LoggedEvent → Type 0
 SeesClosing limits old new = SeesMore limits closer_number old new ⊎ SeesOwn limits closer_number old (log_event None Close) new
 

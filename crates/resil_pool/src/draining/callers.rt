@@ -1,7 +1,7 @@
 //! The callers of a pool that is drained: whether all are there, and their receipts in the order of their numbers.
 //!
-//! Callers may be handed in in any order. Each is found by its number and joined away into the closer, which holds
-//! the turn. The closer has seen the whole history, and in it the submissions of each caller are those on its receipts.
+//! Callers may come in any order. Each is found by its number and joined into the closer, which holds the turn.
+//! The closer has seen the whole history, and the submissions of each caller in it are those on its receipts.
 
 ghost use Rattle.std.specs.Prelude.{◌≡◌, ◌≢◌, ◌≤◌, ◌<◌, ◌↔◌, [], All, IfSome, IfNone, IsTrue, None, length, map, slice_index_or, vec_capacity};
 ghost use Rattle.resil_lock.specs.declared.protocol.Phase.TheVariants.{Holding};
@@ -35,7 +35,7 @@ pub(crate) fn are_numbered(callers: &[Caller], count: u16) -> bool
     true
 }
 
-// Joins each caller away into the closer, which holds the turn, and gives their receipts, in the order of their numbers.
+// Joins each caller into the closer, which holds the turn, and returns their receipts, in the order of their numbers.
 pub(crate) fn join_callers(
     lock: &Lock,
     closer: &mut LockSeat,

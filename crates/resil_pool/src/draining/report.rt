@@ -1,7 +1,6 @@
 //! The report of a drained pool: its history, its results and its receipts.
 //!
-//! The machine is taken apart. By the rule of the lock what comes out of it agrees with the receipts that the callers hand in, so
-//! nothing is compared.
+//! The machine is taken apart. By the rule of the lock what comes out of it agrees with the callers' receipts, so nothing is compared.
 
 ghost use Rattle.std.specs.Prelude.{◌≡◌, ◌↔◌, List, All, IfOk, length, map};
 ghost use Rattle.resil_pool.specs.Words.{IsLegal, AllDone, AreResultsOf, Row};
@@ -13,7 +12,7 @@ use crate::pool::Pool;
 use crate::receipt::Receipt;
 use resil_admission::{Event, Machine, Row};
 
-/// What comes out of a pool that was drained.
+/// What remains of a pool that was drained.
 ///
 /// ```
 /// for row in &report.results {
@@ -32,7 +31,7 @@ pub struct Report {
     pub receipts: Vec<Vec<Receipt>>,
 }
 
-/// Why a pool isn't drained.
+/// Why a pool wasn't drained.
 ///
 /// ```
 /// match drain(&rt, pool, closer, callers, ends, &mut no_bulkheads) {
@@ -43,17 +42,17 @@ pub struct Report {
 /// ```
 #[derive(Drop)]
 pub enum DrainFault {
-    /// The callers' numbers aren't 1 to the number of callers, each once, or the ends aren't as many as the
-    /// workers. All parts come back, and nothing was done.
+    /// The callers' numbers aren't 1 to the number of callers, each once, or there aren't as many ends as workers. All parts come
+    /// back, and nothing was done.
     PartMissing(Pool, Closer, Vec<Caller>, Vec<WorkerEnd>),
-    /// An accepted job has no result. The pool is at an end.
+    /// An accepted job has no result. The pool is gone.
     Stranger,
-    /// A caller's receipts aren't its submissions in the history, a submission names no caller of the pool, or a
-    /// result isn't of the plan on its receipt. The pool is at an end. It doesn't come: the rule of the lock excludes it.
+    /// A caller's receipts aren't its submissions in the history, a submission names no caller of the pool, or a result isn't of
+    /// the plan on its receipt. The pool is gone. This never occurs: the rule of the lock excludes it.
     ReceiptsDiffer,
 }
 
-// Takes the machine apart. Errors: `Stranger` where an accepted job has no result.
+// Takes the machine apart. Errors: `Stranger` if an accepted job has no result.
 pub(crate) fn into_report(
     machine: Machine,
     receipts: Vec<Vec<Receipt>>,

@@ -1,5 +1,5 @@
-//! What the history that seats see is made of: what each turn wrote, beside a submission the plan of its job, and beside a
-//! finish the run of its job. With the plans in it, the history alone says what each accepted job was to run.
+//! What the history that seats see is made of: what each turn wrote, with the plan of the job for a submission, and with
+//! the run of the job for a finish. With the plans in it, the history alone says what each accepted job was to run.
 
 use resil_admission::Row;
 use resil_decor::Plan;
@@ -7,9 +7,9 @@ use resil_lock::Logged;
 
 /// The plan or the run that came with what a turn wrote. No value of it is made.
 pub struct Carried {
-    /// Of a submission the plan of its job.
+    /// For a submission, the plan of its job.
     pub plan: Option<Plan>,
-    /// Of a finish its job and the run that is kept.
+    /// For a finish, its job and the run that is kept.
     pub ended: Option<Row>,
 }
 

@@ -6,7 +6,7 @@ ghost use Rattle.resil_decor.specs.Plan.{PlanView};
 use resil_decor::Plan;
 use std::marker::{Model, PhantomData};
 
-/// A plan as clauses see it. It has no bytes, and may go to another thread.
+/// A plan as clauses see it. It has no bytes, and may be sent to another thread.
 #[derive(Drop)]
 pub struct PlanSeen {
     marker: PhantomData<()>,

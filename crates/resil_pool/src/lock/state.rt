@@ -1,4 +1,4 @@
-//! What lies under the lock: the machine, and what the last turn wrote.
+//! What the lock protects: the machine, and what the last turn wrote.
 ghost use Rattle.std.specs.Prelude.{◌≡◌, Some, None, if◌then◌else◌};
 ghost use Rattle.resil_pool.specs.Lock.{plain};
 
@@ -8,7 +8,7 @@ use crate::lock::plan_seen::PlanSeen;
 use resil_admission::Machine;
 use resil_lock::{Guarded, Note, WithJoins};
 
-/// What the last turn wrote, and of a submission the plan.
+/// What the last turn wrote, with the plan for a submission.
 #[derive(Drop)]
 pub struct Written {
     pub(crate) note: Note,
@@ -22,7 +22,7 @@ pub struct State {
     pub(crate) last: Option<Written>,
 }
 
-/// What is noted of an act that wrote this, or nothing.
+/// The note of an act that wrote this, or of one that wrote nothing.
 pub(crate) fn note_if(written: bool, note: Note) -> Option<Written>
     ensures { result ≡ if written then Some (plain note) else None }
 {

@@ -5,12 +5,14 @@
 ghost use Rattle.std.specs.Prelude.{◌≡◌, ◌≤◌, ◌+◌};
 
 use super::Draft;
+use super::elements::write_element;
+use super::over::column_of;
 use super::page::{
     CLOSED, CORE, DEPTH, EXTRA, GREY, INK, LEFT, Pixels, QUEUED, REFUSED, RIGHT, SIZE, Scale,
     WORKERS,
 };
 use super::sheet::{Measure, Sheet};
-use crate::Picture;
+use crate::{Picture, Sign};
 
 // The class of a line, its colour, and how long its dashes and the gaps between them are.
 fn style_of(measure: Measure) -> (&'static str, &'static str, &'static str) {
@@ -105,29 +107,56 @@ fn write_refused(draft: &mut Draft, sheet: &Sheet) {
     }
 }
 
-// Writes the depth of the queue. A capacity above four times the most that waits is out of sight, and the scale then goes up to
-// twice that. Where the queue is full, an edge lies on the capacity. The band of the refusals shows nothing of it.
+/// How many jobs the scale of those that wait goes up to, and whether the capacity is in sight. A capacity above four times the most that
+/// waits is out of sight, and the scale then goes up to twice that; where a height is asked for, a capacity above it is out of sight.
+pub(crate) fn waiting_scale(picture: &Picture) -> (usize, bool) {
+    let (capacity, most) = (picture.limits.queue() as usize, picture.stats.most.waiting);
+    match picture.heights.waiting {
+        Some(height) => (height, capacity <= height),
+        None if capacity <= most.saturating_mul(4) => (capacity, true),
+        None => (most.saturating_mul(2), false),
+    }
+}
+
+/// How many workers their scale goes up to, and whether the greatest size is in sight. One above 64 and above four times the most workers is
+/// out of sight, and the scale then goes up to twice that; where a height is asked for, one above it is out of sight.
+pub(crate) fn workers_scale(picture: &Picture) -> (usize, bool) {
+    let (_, greatest) = greatest_sizes(picture);
+    let most = picture.stats.most.workers;
+    match picture.heights.workers {
+        Some(height) => (height, greatest <= height),
+        None if greatest <= 64 || greatest <= most.saturating_mul(4) => (greatest, true),
+        None => (most.saturating_mul(2), false),
+    }
+}
+
+// Writes the depth of the queue, which is 0 where there is none. Where the queue is full, an edge lies on the capacity. The band of the refusals shows
+// nothing of it.
 fn write_queue(draft: &mut Draft, sheet: &Sheet, picture: &Picture) {
     let capacity = picture.limits.queue() as usize;
     let most = picture.stats.most.waiting;
-    let greatest = if capacity <= most.saturating_mul(4) {
-        capacity
-    } else {
-        most.saturating_mul(2)
-    };
+    if capacity == 0 {
+        let scale = Scale::between(Pixels(3200), Pixels(10_400), 1);
+        write_line(draft, sheet, &scale, Measure::Waiting, 0);
+        return write_number(draft, "", 0, scale.bottom, GREY);
+    }
+    let (greatest, is_seen) = waiting_scale(picture);
     let scale = Scale::between(Pixels(3200), Pixels(10_400), greatest);
     write_area(draft, sheet, &scale, Measure::Waiting, QUEUED);
     write_line(draft, sheet, &scale, Measure::Waiting, 0);
+    let line = scale.y(capacity);
     if most >= capacity {
-        let edge = Scale::between(Pixels(3000), Pixels(3400), 1);
+        let edge = Scale::between(line.less(2), line.and(2), 1);
         write_area(draft, sheet, &edge, Measure::IsFull(capacity), REFUSED);
     }
-    if greatest == capacity {
-        let top = scale.top;
-        line!(draft; r#"<path class="capacity" d="M{LEFT} {top}H{RIGHT}" fill="none" stroke="{REFUSED}" stroke-dasharray="5 3"/>"#);
-        write_ends(draft, &scale, "full ", capacity, REFUSED);
+    if is_seen {
+        line!(draft; r#"<path class="capacity" d="M{LEFT} {line}H{RIGHT}" fill="none" stroke="{REFUSED}" stroke-dasharray="5 3"/>"#);
+        let base = Pixels(line.and(15).0.min(9000));
+        write_number(draft, "full ", capacity, base, REFUSED);
+        write_number(draft, "", 0, scale.bottom, GREY);
     } else if most > 0 {
-        write_number(draft, "most ", most, scale.y(most).and(20), GREY);
+        let base = Pixels(scale.y(most).and(20).0.min(9000));
+        write_number(draft, "most ", most, base, GREY);
         write_number(draft, "", 0, scale.bottom, GREY);
     }
 }
@@ -142,22 +171,77 @@ fn core_label(line: u32) -> u32
     line.saturating_add(600).max(16_500).min(19_800)
 }
 
+// The greatest core size and the greatest size that the pool ever has.
+fn greatest_sizes(picture: &Picture) -> (usize, usize) {
+    let (core, max) = picture.opening;
+    let cores = picture.levels.iter().map(|level| level.core).max();
+    let greatest = picture.levels.iter().map(|level| level.max).max();
+    let cores = cores.unwrap_or(core).max(core);
+    (cores as usize, greatest.unwrap_or(max).max(max) as usize)
+}
+
 // Writes the number of workers, orange above the core size, and the lines of their sizes, which step at a resize. In the gutter
-// are those at the opening. The 0 has its label where that of the core size leaves room for it.
+// are those that the pool begins with. The 0 has its label where that of the core size leaves room for it.
 fn write_workers(draft: &mut Draft, sheet: &Sheet, picture: &Picture) {
-    let core = picture.limits.core() as usize;
-    let max = picture.limits.max() as usize;
-    let scale = Scale::between(Pixels(13_400), Pixels(19_800), max);
+    let (core, max) = (picture.opening.0 as usize, picture.opening.1 as usize);
+    let (cores, greatest) = greatest_sizes(picture);
+    let most = picture.stats.most.workers;
+    let (end, is_seen) = workers_scale(picture);
+    let scale = Scale::between(Pixels(13_400), Pixels(19_800), end);
     write_area(draft, sheet, &scale, Measure::Workers, EXTRA);
     write_area(draft, sheet, &scale, Measure::CoreWorkers, WORKERS);
     write_line(draft, sheet, &scale, Measure::Workers, 0);
-    write_line(draft, sheet, &scale, Measure::CoreSize, core);
-    write_line(draft, sheet, &scale, Measure::GreatestSize, max);
-    write_number(draft, "max ", max, scale.top.and(15), SIZE);
-    let base = Pixels(core_label(scale.y(core).0));
-    write_number(draft, "core ", core, base, CORE);
-    if base.and(16).0 <= scale.bottom.0 {
+    let is_core_seen = cores <= end;
+    let labelled = if is_seen { greatest } else { most };
+    let above = match picture.heights.workers {
+        Some(_) => Pixels(scale.y(labelled).and(15).0.min(18_200)),
+        None => scale.top.and(15),
+    };
+    if is_core_seen {
+        write_line(draft, sheet, &scale, Measure::CoreSize, core);
+    }
+    if is_seen {
+        write_line(draft, sheet, &scale, Measure::GreatestSize, max);
+        write_number(draft, "max ", max, above, SIZE);
+    } else {
+        write_number(draft, "most ", most, above, GREY);
+    }
+    let line = core_label(scale.y(core).0);
+    let base = Pixels(line.max(above.and(16).0).min(19_800));
+    if is_core_seen {
+        write_number(draft, "core ", core, base, CORE);
+    }
+    if !is_core_seen || base.and(16).0 <= scale.bottom.0 {
         write_number(draft, "", 0, scale.bottom, GREY);
+    }
+}
+
+// What marks between the bands stand for.
+#[derive(Clone, Copy, PartialEq, Eq)]
+enum Between {
+    Started,
+    Culled,
+    Removed,
+}
+
+// What a mark stands for that is between the bands.
+fn kind_of(sign: Sign) -> Option<Between> {
+    match sign {
+        Sign::Started => Some(Between::Started),
+        Sign::Culled => Some(Between::Culled),
+        Sign::Removed(_) => Some(Between::Removed),
+        _ => None,
+    }
+}
+
+// Writes for each column the last one of the marks between the bands that stand for this.
+fn write_last_marks(draft: &mut Draft, sheet: &Sheet, picture: &Picture, kind: Between) {
+    let mut last = usize::MAX;
+    for mark in picture.marks.iter().rev() {
+        if kind_of(mark.sign) == Some(kind) && column_of(picture, mark.at) != last {
+            last = column_of(picture, mark.at);
+            write_element(draft, sheet, *mark);
+        }
     }
 }
 
@@ -165,12 +249,15 @@ fn write_workers(draft: &mut Draft, sheet: &Sheet, picture: &Picture) {
 pub(crate) fn write_bands(draft: &mut Draft, sheet: &Sheet, picture: &Picture) {
     let below = sheet.page.rows_end();
     // In columns the number of the scale stands below the name.
-    let named = if picture.columns.is_empty() { 24 } else { 14 };
+    let named = if picture.drawn.is_gathered() { 14 } else { 24 };
     line!(draft; r#"<g transform="translate(0 {below})"><g font-weight="bold"><text x="6" y="{named}">refused</text>"#);
     line!(draft; r#"<text x="6" y="70">waiting</text><text x="6" y="124">workers</text></g>"#);
     write_queue(draft, sheet, picture);
-    if !picture.columns.is_empty() {
+    if picture.drawn.is_gathered() {
         write_refused(draft, sheet);
+        write_last_marks(draft, sheet, picture, Between::Started);
+        write_last_marks(draft, sheet, picture, Between::Culled);
+        write_last_marks(draft, sheet, picture, Between::Removed);
     }
     write_workers(draft, sheet, picture);
     line!(draft; "</g>");

@@ -1,10 +1,10 @@
-//! The elements of bars, refusals and columns, of which the clauses say how they begin.
+//! The elements of bars, of marks between the bands and of columns, of which the clauses say how they begin.
 
 ghost use Rattle.std.specs.Prelude.{ℕ, ◌≡◌, ◌++◌, IfOk, List, OnOk, string_bytes};
-ghost use Rattle.resil_stats.specs.Svg.{IsAddition, IsMadeOf, refusal_opening};
+ghost use Rattle.resil_stats.specs.Svg.{IsAddition, IsMadeOf, refusal_opening, removal_opening, worker_opening};
 
 use super::jobs::{JobName, Style, style_of, write_result};
-use super::page::{GREY, PAPER, Pixels, REFUSED, RIGHT};
+use super::page::{GREY, INK, PAPER, Pixels, REFUSED, RIGHT};
 use super::sheet::Sheet;
 use super::{Draft, push_part};
 use crate::{Bar, Column, Mark, Sign};
@@ -42,7 +42,7 @@ impl Element for Bar {
     }
 
     // Where it stands, and its job, how that started, from where to where it runs, and what came of it. A job that isn't
-    // finished has a tip behind its bar, past the end of the axis.
+    // finished in the window has a tip behind its bar, past the end of the axis.
     fn write_rest(self, draft: &mut Draft, sheet: &Sheet) {
         let Bar { from, to, .. } = self;
         let (job, page) = (JobName(self.id), &sheet.page);
@@ -63,14 +63,14 @@ impl Element for Bar {
         }
         write_result(draft, sheet, self.id, "; result ", usize::MAX);
         line!(draft; "</title></rect>");
-        if to > page.events {
+        if to > page.window.end {
             let half = Pixels(height.0 / 2);
             line!(draft; r#"<path d="M{RIGHT} {y}l10 {half}l-10 {half}z" fill="{fill}"/>"#);
         }
     }
 }
 
-// The element of a mark where it is of a refusal: else there is none.
+// The element of a mark that stands between the bands: what is done to the pool lies over all of them, and has none here.
 impl Element for Mark {
     ghost use Rattle.resil_stats.specs.Svg.{mark_opening};
 
@@ -80,28 +80,76 @@ impl Element for Mark {
         match self.sign {
             Sign::Full(id) => refusal_opening(alloc, "full", id, self.at),
             Sign::Closed(id) => refusal_opening(alloc, "closed", id, self.at),
-            Sign::Closing | Sign::Resized { .. } => Ok(String::new(alloc)),
+            Sign::Started => worker_opening(alloc, "started", self.at),
+            Sign::Culled => worker_opening(alloc, "culled", self.at),
+            Sign::Removed(id) => removal_opening(alloc, id, self.at),
+            Sign::Closing | Sign::Stopping | Sign::Resized { .. } | Sign::TimeOut(_) => {
+                Ok(String::new(alloc))
+            }
         }
     }
 
-    // Of a full pool a cross, or a tick where events are close; of a closed one a diamond, or a short tick.
+    // Of a full pool a cross, or a tick where events are close; of a closed one a diamond, or a short tick. A removal is an arrow out of
+    // the queue; a worker that begins or ends without a job is an arrow over their number.
     fn write_rest(self, draft: &mut Draft, sheet: &Sheet) {
-        let (id, sign, tick, stroke, reason) = match self.sign {
-            Sign::Full(id) => (id, "10m-4 0l8 12m0 -12l-8 12", "8v16", REFUSED, "full"),
-            Sign::Closed(id) => (id, "11l4 5.5l-4 5.5l-4 -5.5z", "15v9", GREY, "closed"),
-            Sign::Closing | Sign::Resized { .. } => return,
+        let Some(
+            Look {
+                way,
+                tick,
+                stroke,
+                told,
+            },
+        ) = look_of(self.sign)
+        else {
+            return;
         };
-        let (job, at, page) = (JobName(id), self.at, &sheet.page);
+        let (at, page) = (self.at, &sheet.page);
         let x = page.x(at);
-        let way = if page.has_room_for_signs() {
-            sign
-        } else {
-            tick
-        };
+        let way = if page.has_room_for_signs() { way } else { tick };
         let width = if page.event_width() < 160 { "1.2" } else { "2" };
         draft.put_time("data-time", page.time(at));
-        line!(draft; r#"d="M{x} {way}" fill="none" stroke="{stroke}" stroke-width="{width}"><title>job {job} refused at event {at}: {reason}</title></path>"#);
+        put!(draft; r#"d="M{x} {way}" fill="none" stroke="{stroke}" stroke-width="{width}"><title>"#);
+        match self.sign {
+            Sign::Full(id) | Sign::Closed(id) => {
+                put!(draft; "job {} refused at event {at}: {told}", JobName(id));
+            }
+            Sign::Removed(id) => put!(draft; "job {} {told} at event {at}", JobName(id)),
+            _ => put!(draft; "{told} at event {at}"),
+        }
+        draft.put_clock(page.clock(at));
+        line!(draft; "</title></path>");
     }
+}
+
+// How a mark between the bands looks where events are far apart and where they are close, and what is told of it.
+#[derive(Clone, Copy)]
+struct Look {
+    way: &'static str,
+    tick: &'static str,
+    stroke: &'static str,
+    told: &'static str,
+}
+
+// How a mark looks, if it stands between the bands.
+fn look_of(sign: Sign) -> Option<Look> {
+    let (up, down) = ("131v-9m-3 3l3 -3l3 3", "122v9m-3 -3l3 3l3 -3");
+    let (way, tick, stroke, told) = match sign {
+        Sign::Full(_) => ("10m-4 0l8 12m0 -12l-8 12", "8v16", REFUSED, "full"),
+        Sign::Closed(_) => ("11l4 5.5l-4 5.5l-4 -5.5z", "15v9", GREY, "closed"),
+        Sign::Started => (up, up, INK, "a worker begins without a job"),
+        Sign::Culled => (down, down, INK, "a worker is culled"),
+        Sign::Removed(_) => {
+            let out = "106v9m-3 -3l3 3l3 -3";
+            (out, out, GREY, "is removed from the queue")
+        }
+        Sign::Closing | Sign::Stopping | Sign::Resized { .. } | Sign::TimeOut(_) => return None,
+    };
+    Some(Look {
+        way,
+        tick,
+        stroke,
+        told,
+    })
 }
 
 // A column begins with its places and its numbers.
@@ -130,7 +178,9 @@ impl Element for Column {
         }
         put!(draft; r#"x="{x}" y="104" width="{width}" height="{height}" fill-opacity="0"><title>"#);
         put!(draft; "events {from} to {to}: at most {waiting} waiting, {workers} workers; ");
-        line!(draft; "refused: {full} full, {closed} closed</title></rect>");
+        put!(draft; "refused: {full} full, {closed} closed");
+        draft.put_clock(page.clock(from));
+        line!(draft; "</title></rect>");
     }
 }
 
@@ -144,11 +194,34 @@ fn refusal_opening(alloc: Global, reason: &str, id: Id, at: usize) -> Result<Str
     )
 }
 
+// How the element of a worker begins that begins or ends without a job. Errors: `AllocError` when out of memory.
+fn worker_opening(alloc: Global, class: &str, at: usize) -> Result<String, AllocError>
+    ensures { IfOk result (λ text. string_bytes text ≡ worker_opening class.now at) }
+{
+    format!(in alloc; "<path class=\"{class}\" data-at=\"{at}\" ")
+}
+
+// How the element of a removal begins: with its job and its place. Errors: `AllocError` when out of memory.
+fn removal_opening(alloc: Global, id: Id, at: usize) -> Result<String, AllocError>
+    ensures { IfOk result (λ text. string_bytes text ≡ removal_opening id at) }
+{
+    let (caller, number) = (id.caller, id.number);
+    format!(in alloc; "<path class=\"removed\" data-job=\"{caller}.{number}\" data-at=\"{at}\" ")
+}
+
 // The rest of an element. Errors: `AllocError` when out of memory.
 fn rest_of<E: Element>(sheet: &Sheet, element: E) -> Result<String, AllocError> {
     let mut draft = Draft::new(sheet.alloc);
     element.write_rest(&mut draft, sheet);
     draft.finish()
+}
+
+/// Writes an element.
+pub(crate) fn write_element<E: Element>(draft: &mut Draft, sheet: &Sheet, element: E) {
+    if let Some(opening) = draft.made(element.opening(sheet.alloc)) {
+        put!(draft; "{opening}");
+        element.write_rest(draft, sheet);
+    }
 }
 
 // Adds an element. Errors: `AllocError` when out of memory.

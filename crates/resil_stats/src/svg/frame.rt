@@ -4,17 +4,32 @@ ghost use Rattle.std.specs.Prelude.{◌≡◌, ◌++◌, IfOk, OnOk, string_byte
 ghost use Rattle.resil_stats.specs.Svg.{name_line, opening, style, xml_letter};
 
 use super::Draft;
-use super::jobs::JobName;
-use super::page::{CORE, EXTRA, GREY, GRID, INK, PAPER, Page, Pixels, QUEUED, REFUSED};
+use super::bands::{waiting_scale, workers_scale};
+use super::jobs::taken_start;
+use super::page::{CORE, Clock, EXTRA, GREY, GRID, INK, PAPER, Page, Pixels, QUEUED, REFUSED};
 use super::sheet::Sheet;
 use crate::axis::{DAY, HOUR, MILLISECOND, MINUTE, SECOND};
-use crate::{Illegal, Picture, column_width};
-use resil_input::answer::{InWords, reply_name};
-use resil_rule::{Event, Verdict};
+use crate::{Illegal, Period, Picture, Start, column_width};
+use resil_rule::Verdict;
 use std::alloc::{AllocError, Global};
 
 // From so many days on labels of ticks are wide.
 const MANY_DAYS: u64 = 10_000 * DAY;
+
+// Whether workers began or ended without a job, or jobs were removed.
+fn has_more_signs(picture: &Picture) -> bool {
+    let counts = picture.stats.counts;
+    counts.started > 0 || counts.culled > 0 || counts.removed > 0
+}
+
+// How much lower the legend ends than in the shortest picture, in pixels: a line each for the first illegal event and for more signs.
+fn lower_by(picture: &Picture) -> u32 {
+    match (picture.illegal.is_some(), has_more_signs(picture)) {
+        (true, true) => 48,
+        (false, false) => 0,
+        _ => 24,
+    }
+}
 
 // The ending of the noun behind a number.
 fn plural(number: usize) -> &'static str {
@@ -31,19 +46,19 @@ pub(crate) fn opening_text(alloc: Global, events: usize) -> Result<String, Alloc
 
 /// The rest of the first element, and the ground, which begins a line higher where there is a name.
 /// Errors: `AllocError` when out of memory.
-pub(crate) fn ground_text(
-    sheet: &Sheet,
-    picture: &Picture,
-    name: &str,
-) -> Result<String, AllocError> {
+pub(crate) fn ground_text(sheet: &Sheet, picture: &Picture) -> Result<String, AllocError> {
     let mut draft = Draft::new(sheet.alloc);
-    let (line, top, y) = if name.is_empty() {
+    let (line, top, y) = if sheet.caption.name.is_empty() {
         (0, "0", "")
     } else {
         (24, "-24", r#" y="-24""#)
     };
-    let lower = if picture.illegal.is_some() { 24 } else { 0 };
-    let height = sheet.page.end().and(lower).and(line);
+    let height = sheet.page.end().and(lower_by(picture)).and(line);
+    if !picture.is_plain() {
+        let Period { first, last } = picture.window.period;
+        let ((waiting, _), (workers, _)) = (waiting_scale(picture), workers_scale(picture));
+        put!(draft; r#" data-from="{first}" data-to="{last}" data-waiting="{waiting}" data-workers="{workers}""#);
+    }
     line!(draft; r#" viewBox="0 {top} 800 {height}" width="800" height="{height}" font-family="sans-serif" font-size="16" fill="{INK}">"#);
     line!(draft; r#"<rect{y} width="800" height="{height}" fill="{PAPER}"/>"#);
     draft.finish()
@@ -102,11 +117,10 @@ pub(crate) fn push_name(text: &mut String, name: &str) -> Result<(), AllocError>
     Ok(())
 }
 
-// Writes the sizes that the pool was opened with.
+// Writes the sizes that the pool begins with.
 fn write_opening_sizes(draft: &mut Draft, picture: &Picture) {
-    let limits = picture.limits;
-    let (core, max, queue) = (limits.core(), limits.max(), limits.queue());
-    let ending = plural(max as usize);
+    let ((core, max), queue) = (picture.opening, picture.limits.queue());
+    let ending = if max == 1 { "" } else { "s" };
     put!(draft; r#"<text x="6" y="28" font-size="22" font-weight="bold">Pool of "#);
     if core < max {
         put!(draft; "{core} to ");
@@ -114,8 +128,13 @@ fn write_opening_sizes(draft: &mut Draft, picture: &Picture) {
     line!(draft; "{max} worker{ending}, queue of {queue}</text>");
 }
 
-// Writes how many events are drawn, the verdict, and how full the pool got.
-fn write_facts(draft: &mut Draft, picture: &Picture) {
+// How many jobs wait after the last event.
+fn waiting_at_the_end(picture: &Picture) -> usize {
+    picture.levels.last().map_or(0, |level| level.waiting)
+}
+
+// Writes how many events are drawn, the verdict, how full the pool got, and when the first event was, if that is known.
+fn write_facts(draft: &mut Draft, picture: &Picture, began: Option<u64>) {
     let stats = &picture.stats;
     let (drawn, waiting, workers) = (picture.levels.len(), stats.most.waiting, stats.most.workers);
     let (events, ending) = (picture.events, plural(picture.events));
@@ -127,45 +146,53 @@ fn write_facts(draft: &mut Draft, picture: &Picture) {
         }
     }
     put!(draft; " &#183; at most {waiting} waiting, {workers} worker{}", plural(workers));
-    if stats.never_started > 0 {
-        put!(draft; " &#183; {} still waiting", stats.never_started);
+    if waiting_at_the_end(picture) > 0 {
+        put!(draft; " &#183; {} still waiting", waiting_at_the_end(picture));
+    }
+    if let Some(began) = began {
+        put!(draft; " &#183; began {} UTC", Clock(began.saturating_sub(began % SECOND)));
     }
     line!(draft; "</text>");
 }
 
-// Writes the first illegal event, and what the rule answers there.
-fn write_illegal(draft: &mut Draft, illegal: Illegal) {
-    let (at, answer) = (illegal.at, InWords(illegal.answer));
-    put!(draft; r#"<text x="6" y="76" fill="{REFUSED}">event {at}, "#);
-    match illegal.event {
-        Event::Submit { id, reply } => put!(draft; "submit {} {}", JobName(id), reply_name(reply)),
-        Event::Take(id) => put!(draft; "take {}", JobName(id)),
-        Event::Finish(id) => put!(draft; "finish {}", JobName(id)),
-        Event::IdleEnd => put!(draft; "idle"),
-        Event::Close => put!(draft; "close"),
-        Event::Resized { core, max } => put!(draft; "resize to core {core}, max {max}"),
-    }
-    line!(draft; ": {answer}</text>");
+/// Whether core workers time out, as a history has it.
+pub(crate) fn on_or_off(is_on: bool) -> &'static str {
+    if is_on { "on" } else { "off" }
 }
 
 // Writes the legend: one meaning a colour, in all bands, with how many jobs started so, then how many were refused, then the sign
 // of a full queue. The signs of refusals are crosses and diamonds, ticks, or areas.
 fn write_legend(draft: &mut Draft, page: &Page, picture: &Picture) {
-    let counts = picture.stats.counts;
-    let (core, extra, taken) = (counts.core, counts.extra, counts.taken);
-    let (full, closed) = (counts.full, counts.closed);
-    let (cross, diamond) = if !picture.columns.is_empty() {
+    let answers = picture.stats.answers;
+    let (core, extra, full, closed) = (answers.core, answers.extra, answers.full, answers.closed);
+    let (taken, told) = match taken_start(picture) {
+        Start::Handed => (answers.handed, "handed"),
+        _ => (picture.stats.counts.taken, "taken"),
+    };
+    let base = if has_more_signs(picture) { 54 } else { 78 };
+    let (cross, diamond) = if picture.drawn.is_gathered() {
         ("&#9632;", "&#9632;")
     } else if page.has_room_for_signs() {
         ("&#215;", "&#9671;")
     } else {
         ("|", "&#305;")
     };
-    put!(draft; r#"<text x="6" y="78">starts: <tspan fill="{CORE}">&#9632;</tspan> core {core}<tspan dx="10" fill="{EXTRA}">&#9632;</tspan> extra {extra}"#);
-    put!(draft; r#"<tspan dx="10" fill="{QUEUED}">&#9632;</tspan> taken {taken}<tspan dx="10">&#183;</tspan><tspan dx="10">refused: </tspan>"#);
+    put!(draft; r#"<text x="6" y="{base}">starts: <tspan fill="{CORE}">&#9632;</tspan> core {core}<tspan dx="10" fill="{EXTRA}">&#9632;</tspan> extra {extra}"#);
+    put!(draft; r#"<tspan dx="10" fill="{QUEUED}">&#9632;</tspan> {told} {taken}<tspan dx="10">&#183;</tspan><tspan dx="10">refused: </tspan>"#);
     put!(draft; r#"<tspan fill="{REFUSED}" font-weight="bold">{cross}</tspan> full {full}"#);
     put!(draft; r#"<tspan dx="10" fill="{GREY}" font-weight="bold">{diamond}</tspan> closed {closed}<tspan dx="10">&#183;</tspan>"#);
     line!(draft; r#"<tspan dx="10" fill="{REFUSED}">&#9644;</tspan> queue full</text>"#);
+}
+
+// Writes what the signs between the bands mean and how many there are of each, if there are some.
+fn write_more_signs(draft: &mut Draft, picture: &Picture) {
+    if !has_more_signs(picture) {
+        return;
+    }
+    let counts = picture.stats.counts;
+    let (started, culled, removed) = (counts.started, counts.culled, counts.removed);
+    put!(draft; r#"<text x="6" y="78">without a job: &#8593; started {started}<tspan dx="10">&#8595;</tspan> culled {culled}"#);
+    line!(draft; r#"<tspan dx="10">&#183;</tspan><tspan dx="10">out of the queue: </tspan><tspan fill="{GREY}">&#8595;</tspan> removed {removed}</text>"#);
 }
 
 // The distance of the lines of the grid, in events: one of 1, 2, 5, 10 and so on, with ten lines at most.
@@ -189,13 +216,18 @@ fn write_grid_line(draft: &mut Draft, page: &Page, place: usize) {
     line!(draft; r#"<path d="M{x} 104V{end}" stroke="{GRID}"/><text x="{x}" y="{base}" fill="{GREY}" text-anchor="{anchor}">{place}</text>"#);
 }
 
-// Writes the grid of an axis of places, up to this many events.
-fn write_places(draft: &mut Draft, page: &Page, events: usize) {
-    let step = grid_step(events);
-    write_grid_line(draft, page, 1);
+// Writes the grid of an axis of places: the first one of the history, if it is there, and all multiples of a step.
+fn write_places(draft: &mut Draft, page: &Page) {
+    let step = grid_step(page.places());
+    let Period { first, last } = page.period;
+    let first = usize::try_from(first).unwrap_or(usize::MAX);
+    let passed = first.saturating_sub(1).checked_div(step).unwrap_or(0);
+    if first <= 1 {
+        write_grid_line(draft, page, 1);
+    }
     for count in 1..12 {
-        let place = step.saturating_mul(count);
-        if place > 1 && place <= events {
+        let place = step.saturating_mul(passed.saturating_add(count));
+        if place > 1 && place as u64 <= last {
             write_grid_line(draft, page, place);
         }
     }
@@ -257,13 +289,13 @@ fn write_ticks(draft: &mut Draft, page: &Page) {
     }
 }
 
-// Writes the grid and its axis, of times or of so many events.
-fn write_grid(draft: &mut Draft, page: &Page, events: usize) {
+// Writes the grid and its axis, of times or of places.
+fn write_grid(draft: &mut Draft, page: &Page) {
     let counted = if page.is_timed() {
         write_ticks(draft, page);
         "time"
     } else {
-        write_places(draft, page, events);
+        write_places(draft, page);
         "event"
     };
     let base = page.bands_end().and(20);
@@ -271,16 +303,38 @@ fn write_grid(draft: &mut Draft, page: &Page, events: usize) {
 }
 
 /// Writes what stands around the bands, and begins the group in which they are: one line lower where an event is illegal.
-pub(crate) fn write_frame(draft: &mut Draft, page: &Page, picture: &Picture) {
-    let lower = if picture.illegal.is_some() { 24 } else { 0 };
+pub(crate) fn write_frame(draft: &mut Draft, sheet: &Sheet, picture: &Picture) {
+    let (page, caption, lower) = (&sheet.page, sheet.caption, lower_by(picture));
     write_opening_sizes(draft, picture);
-    write_facts(draft, picture);
-    if let Some(illegal) = picture.illegal {
-        write_illegal(draft, illegal);
+    write_facts(draft, picture, caption.began);
+    if let Some(Illegal { at, .. }) = picture.illegal {
+        let told = caption.illegal;
+        line!(draft; r#"<text x="6" y="76" fill="{REFUSED}">event {at}, {told}</text>"#);
     }
     line!(draft; r#"<g transform="translate(0 {lower})">"#);
     write_legend(draft, page, picture);
-    write_grid(draft, page, picture.levels.len());
+    write_more_signs(draft, picture);
+    write_grid(draft, page);
+}
+
+// Writes what the axis counts, and from where on.
+fn write_counted(draft: &mut Draft, page: &Page) {
+    let Some(first) = page.time(1) else {
+        put!(draft; "The axis counts events, it is no clock.");
+        return;
+    };
+    let from = page.period.first;
+    let (apart, side) = if from < first {
+        (first - from, "before")
+    } else {
+        (from - first, "after")
+    };
+    put!(draft; "The axis is time, counted from ");
+    if apart > 0 {
+        let (seconds, rest) = (apart / SECOND, apart % SECOND);
+        put!(draft; "{seconds}.{rest:06} s {side} ");
+    }
+    put!(draft; "the first event.");
 }
 
 /// What is written behind the refusals, or the columns: what the picture leaves open, and the end.
@@ -290,21 +344,19 @@ pub(crate) fn ending_text(sheet: &Sheet, picture: &Picture) -> Result<String, Al
     let below = sheet.page.rows_end();
     put!(draft; r#"</g><g transform="translate(0 {below})" fill="{GREY}"><text x="6" y="244">"#);
     let page = &sheet.page;
-    let counted = if page.is_timed() {
-        "The axis is time, counted from the first event."
-    } else {
-        "The axis counts events, it is no clock."
-    };
-    if picture.columns.is_empty() {
-        put!(draft; "A history names no threads: a job stands in the first free row.");
-    } else {
+    if picture.drawn.is_gathered() {
         if page.is_timed() {
             put!(draft; "Gathered: {} &#181;s", page.period.span_length());
         } else {
-            put!(draft; "Gathered: {} events", column_width(picture.levels.len()));
+            let width = column_width(picture.window.events());
+            put!(draft; "Gathered: {width} event{}", plural(width));
         }
         put!(draft; " a column, each drawn by its greatest numbers.");
+    } else {
+        put!(draft; "A history names no threads: a job stands in the first free row.");
     }
-    line!(draft; r#"</text><text x="6" y="266">{counted}</text></g></g></svg>"#);
+    put!(draft; r#"</text><text x="6" y="266">"#);
+    write_counted(&mut draft, page);
+    line!(draft; "</text></g></g></svg>");
     draft.finish()
 }

@@ -39,6 +39,7 @@ pub(crate) fn style_of(start: Start) -> Style
         Start::Core => ("core", "new core worker", CORE),
         Start::Extra => ("extra", "new extra worker", EXTRA),
         Start::Queued => ("queued", "from the queue", QUEUED),
+        Start::Handed => ("handed", "to an idle worker", QUEUED),
     };
     Style { class, words, fill }
 }
@@ -56,17 +57,34 @@ pub(crate) fn write_rows(draft: &mut Draft, page: &Page) {
     }
 }
 
+/// How jobs start that get a worker which was there: a pool without a queue hands them over.
+pub(crate) fn taken_start(picture: &Picture) -> Start {
+    if picture.limits.queue() == 0 {
+        Start::Handed
+    } else {
+        Start::Queued
+    }
+}
+
 /// Writes areas in place of the rows, one over the other, by how the jobs started.
 pub(crate) fn write_running(draft: &mut Draft, sheet: &Sheet, picture: &Picture) {
-    let most = picture.stats.most.running;
+    let most = picture
+        .heights
+        .workers
+        .unwrap_or(picture.stats.most.running);
     let scale = Scale::between(sheet.page.row_top(1), sheet.page.rows_end(), most);
-    for start in [Start::Queued, Start::Extra, Start::Core] {
+    for start in [taken_start(picture), Start::Extra, Start::Core] {
         let Style { class, fill, .. } = style_of(start);
         put!(draft; r#"<g class="running-{class}">"#);
         write_area(draft, sheet, &scale, Measure::Running(start), fill);
         line!(draft; "</g>");
     }
-    write_ends(draft, &scale, "most ", most, GREY);
+    let word = if picture.heights.workers.is_some() {
+        ""
+    } else {
+        "most "
+    };
+    write_ends(draft, &scale, word, most, GREY);
 }
 
 /// Writes what came of a job, behind these words, where it is known and there is room for this many letters.
@@ -108,7 +126,7 @@ pub(crate) fn write_labels(draft: &mut Draft, sheet: &Sheet, picture: &Picture) 
     let has_one_caller = picture.stats.callers.len() == 1;
     line!(draft; r#"<g pointer-events="none">"#);
     if sheet.page.has_room_for_labels() {
-        for bar in picture.bars.iter() {
+        for bar in picture.drawn.bars.iter() {
             let room = sheet.page.width(bar.from, bar.to).less(6);
             let letters = (room.0 / LETTER.0) as usize;
             write_label(draft, sheet, *bar, has_one_caller, letters);

@@ -1,10 +1,11 @@
-//! The marks over all bands: the closing, the resizes, and the first illegal event. The bars are drawn over their lines.
+//! The marks over all bands: the closing, the stop, the resizes and the other settings, and the first illegal event. The bars are drawn over their lines.
 
 use super::Draft;
+use super::frame::on_or_off;
 use super::page::{INK, LEFT, LETTER, Page, Pixels, REFUSED, RESIZE, RIGHT};
-use crate::{Picture, Sign};
+use crate::{Illegal, Picture, Sign};
 
-// More resizes than this are marked by a tick each.
+// More settings than this are marked by a tick each.
 const MANY: usize = 24;
 
 // The room that this many letters take.
@@ -12,21 +13,29 @@ fn room_for(letters: u32) -> u32 {
     LETTER.0.saturating_mul(letters)
 }
 
-// Writes the closing, with its label at the right, or at the left where there is no room for it, and says up to where there is
-// room for the next label at the left.
-fn write_closing(draft: &mut Draft, page: &Page, at: usize, limit: Pixels) -> Pixels {
+// Writes a closing or a stop, by its name and its label, which is at the right, or at the left where there is no room for it, and says up to
+// where there is room for the next label at the left.
+fn write_closing(
+    draft: &mut Draft,
+    page: &Page,
+    at: usize,
+    limit: Pixels,
+    (name, word): (&str, &str),
+) -> Pixels {
     let (x, end) = (page.x(at), page.bands_end());
-    let label = room_for(7);
-    put!(draft; r#"<path class="closing" data-at="{at}" "#);
+    let label = room_for(word.len().saturating_add(1).min(20) as u32);
+    put!(draft; r#"<path class="{name}" data-at="{at}" "#);
     draft.put_time("data-time", page.time(at));
     put!(draft; r#"d="M{x} 84V{end}" stroke="{INK}" stroke-width="1.6">"#);
-    line!(draft; "<title>closing at event {at}</title></path>");
+    put!(draft; "<title>{name} at event {at}");
+    draft.put_clock(page.clock(at));
+    line!(draft; "</title></path>");
     if limit.behind(x).0 >= label {
         let beside = x.and(4);
-        line!(draft; r#"<text x="{beside}" y="100" font-weight="bold">closed</text>"#);
+        line!(draft; r#"<text x="{beside}" y="100" font-weight="bold">{word}</text>"#);
     } else if x.behind(LEFT).0 >= label {
         let beside = x.less(4);
-        line!(draft; r#"<text x="{beside}" y="100" font-weight="bold" text-anchor="end">closed</text>"#);
+        line!(draft; r#"<text x="{beside}" y="100" font-weight="bold" text-anchor="end">{word}</text>"#);
         return x.behind(Pixels(label));
     }
     x
@@ -50,7 +59,9 @@ fn write_resize(
     draft.put_time("data-time", page.time(at));
     put!(draft; r#"d="M{x} 84V{end}""#);
     put!(draft; r#" stroke="{RESIZE}" stroke-width="1.4" stroke-dasharray="4 3">"#);
-    line!(draft; "<title>resize at event {at}: core {core}, max {max}</title></path>");
+    put!(draft; "<title>resize at event {at}: core {core}, max {max}");
+    draft.put_clock(page.clock(at));
+    line!(draft; "</title></path>");
     let room = limit.unwrap_or(x).behind(x).0;
     let beside = x.and(4);
     if room >= room_for(14) {
@@ -60,9 +71,29 @@ fn write_resize(
     }
 }
 
-// A number for the column in which the event at a place is: of its own where each event is drawn.
-fn column_of(picture: &Picture, place: usize) -> usize {
-    let columns = &picture.columns;
+// Writes over all bands that core workers time out from a place on, or not any more, with its label where there is room for it up to a
+// limit, or by a tick at the top.
+fn write_time_out(draft: &mut Draft, page: &Page, at: usize, is_on: bool, limit: Option<Pixels>) {
+    let (x, told) = (page.x(at), on_or_off(is_on));
+    let end = match limit {
+        Some(_) => page.bands_end(),
+        None => Pixels(10_400),
+    };
+    put!(draft; r#"<path class="time-out" data-at="{at}" data-on="{told}" "#);
+    draft.put_time("data-time", page.time(at));
+    put!(draft; r#"d="M{x} 84V{end}" stroke="{RESIZE}" stroke-width="1.4" stroke-dasharray="2 2">"#);
+    put!(draft; "<title>time-out of core workers at event {at}: {told}");
+    draft.put_clock(page.clock(at));
+    line!(draft; "</title></path>");
+    if limit.unwrap_or(x).behind(x).0 >= room_for(13) {
+        let beside = x.and(4);
+        line!(draft; r#"<text x="{beside}" y="100" fill="{RESIZE}">time-out {told}</text>"#);
+    }
+}
+
+/// A number for the column in which the event at a place is: of its own where each event is drawn.
+pub(crate) fn column_of(picture: &Picture, place: usize) -> usize {
+    let columns = &picture.drawn.columns;
     if columns.is_empty() {
         return place;
     }
@@ -72,30 +103,56 @@ fn column_of(picture: &Picture, place: usize) -> usize {
         .count()
 }
 
-/// Writes the closing and each resize, or the last resize of each column where there are columns: from the last one to the first,
-/// since a label has the room up to the next mark. The first illegal event is the one after those drawn, at the right end.
+// Whether a mark is that of a resize, or of a setting of the time-out.
+fn is_setting(sign: Sign) -> bool {
+    matches!(sign, Sign::Resized { .. } | Sign::TimeOut(_))
+}
+
+// Writes the first illegal event over all bands, if it is drawn.
+fn write_illegal(draft: &mut Draft, page: &Page, illegal: Illegal) {
+    let Some(x) = page.illegal_x(illegal) else {
+        return;
+    };
+    let (at, end) = (illegal.at, page.bands_end());
+    put!(draft; r#"<path class="illegal" data-at="{at}" "#);
+    draft.put_time("data-time", page.time(at));
+    put!(draft; r#"d="M{x} 84V{end}" stroke="{REFUSED}" stroke-width="5">"#);
+    put!(draft; "<title>first illegal event: {at}");
+    draft.put_clock(page.clock(at));
+    line!(draft; "</title></path>");
+}
+
+/// Writes the closing, the stop, each resize and each setting of the time-out, or the last ones of each column where there are columns: from
+/// the last one to the first, since a label has the room up to the next mark. The first illegal event is the one after those drawn, at the
+/// right end.
 pub(crate) fn write_over(draft: &mut Draft, page: &Page, picture: &Picture) {
-    let is_short = picture.stats.counts.resizes > MANY;
+    let settings = picture.marks.iter().filter(|mark| is_setting(mark.sign));
+    let is_short = settings.count() > MANY;
     let mut limit = RIGHT.and(8);
-    let mut resized = usize::MAX;
+    let (mut resized, mut timed_out) = (usize::MAX, usize::MAX);
     for mark in picture.marks.iter().rev() {
-        let column = column_of(picture, mark.at);
+        let room = if is_short { None } else { Some(limit) };
         match mark.sign {
-            Sign::Closing => limit = write_closing(draft, page, mark.at, limit),
-            Sign::Resized { core, max } if column != resized => {
-                let room = if is_short { None } else { Some(limit) };
+            Sign::Closing => {
+                limit = write_closing(draft, page, mark.at, limit, ("closing", "closed"));
+            }
+            Sign::Stopping => {
+                limit = write_closing(draft, page, mark.at, limit, ("stop", "stopped"));
+            }
+            Sign::Resized { core, max } if column_of(picture, mark.at) != resized => {
                 write_resize(draft, page, mark.at, (core, max), room);
                 limit = page.x(mark.at);
-                resized = column;
+                resized = column_of(picture, mark.at);
             }
-            Sign::Resized { .. } | Sign::Full(_) | Sign::Closed(_) => {}
+            Sign::TimeOut(is_on) if column_of(picture, mark.at) != timed_out => {
+                write_time_out(draft, page, mark.at, is_on, room);
+                limit = page.x(mark.at);
+                timed_out = column_of(picture, mark.at);
+            }
+            _ => {}
         }
     }
     if let Some(illegal) = picture.illegal {
-        let (at, end) = (illegal.at, page.bands_end());
-        put!(draft; r#"<path class="illegal" data-at="{at}" "#);
-        draft.put_time("data-time", page.time(at));
-        put!(draft; r#"d="M{RIGHT} 84V{end}" stroke="{REFUSED}" stroke-width="5">"#);
-        line!(draft; "<title>first illegal event: {at}</title></path>");
+        write_illegal(draft, page, illegal);
     }
 }

@@ -5,9 +5,9 @@
 //! group that begins below the rows. All share one axis, of places or of times. Letters are 16 pixels high, so that they can
 //! be read where the picture is half as wide; what has no room for them has no label.
 
-use crate::axis::{Period, period_of};
+use crate::axis::{DAY, HOUR, MINUTE, Period, SECOND};
 use crate::spans::time_at;
-use crate::{Column, Picture};
+use crate::{Column, Illegal, Picture, Window};
 use std::fmt;
 
 // The colours on light ground; the style of `frame` has a dark one for each. Each has one meaning in all bands; those of bars
@@ -72,6 +72,23 @@ impl fmt::Display for Pixels {
     }
 }
 
+/// A time of day, in microseconds since a midnight.
+#[derive(Clone, Copy)]
+pub(crate) struct Clock(pub u64);
+
+impl fmt::Display for Clock {
+    fn fmt<W: fmt::Write>(&self, f: &mut fmt::Formatter<W>) -> fmt::Result {
+        let of_day = self.0 % DAY;
+        let (hour, minute) = (of_day / HOUR, of_day % HOUR / MINUTE);
+        let (second, rest) = (of_day % MINUTE / SECOND, of_day % SECOND);
+        write!(f, "{hour:02}:{minute:02}:{second:02}")?;
+        if rest == 0 {
+            return Ok(());
+        }
+        write!(f, ".{rest:06}")
+    }
+}
+
 /// The ends of the axis.
 pub(crate) const LEFT: Pixels = Pixels(9200);
 
@@ -120,11 +137,15 @@ fn share(length: u32, parts: usize, all: usize) -> u32 {
 /// The page of a picture.
 #[derive(Clone, Copy)]
 pub(crate) struct Page<'a> {
-    /// How many events there are, 1 at least.
+    /// How many events the history has that can be drawn, 1 at least.
     pub events: usize,
+    /// Which of them are drawn.
+    pub window: Window,
     /// Their times, where they have some: the axis is one of times then.
     times: Option<&'a [u64]>,
-    /// From the first of these to the last one.
+    /// When the first event was, where that is known: in microseconds since midnight, UTC.
+    began: Option<u64>,
+    /// From where to where the axis goes.
     pub period: Period,
     /// How many rows there are.
     pub rows: u32,
@@ -133,18 +154,20 @@ pub(crate) struct Page<'a> {
 }
 
 impl<'a> Page<'a> {
-    /// The page of a picture, for these times of its events.
-    pub(crate) fn of(picture: &Picture, times: Option<&'a [u64]>) -> Page<'a> {
-        let rows = if picture.columns.is_empty() {
-            picture.stats.most.workers.max(1).min(64) as u32
-        } else {
+    /// The page of a picture, for these times of its events, the first of which was at a time of day.
+    pub(crate) fn of(picture: &Picture, times: Option<&'a [u64]>, began: Option<u64>) -> Page<'a> {
+        let rows = if picture.drawn.is_gathered() {
             AREA_ROWS
+        } else {
+            picture.stats.most.workers.max(1).min(64) as u32
         };
         let pitch = ROWS_HEIGHT.checked_div(rows).unwrap_or(PITCH);
         Page {
             events: picture.levels.len().max(1),
+            window: picture.window,
             times,
-            period: period_of(times.unwrap_or(&[]), picture.levels.len()),
+            began,
+            period: picture.window.period,
             rows,
             pitch: pitch.max(LEAST_PITCH).min(PITCH),
         }
@@ -156,16 +179,50 @@ impl<'a> Page<'a> {
             .map(|times| time_at(times, place.saturating_sub(1)))
     }
 
-    /// Where a place stands on the axis: by its time, or place p at left + (p - 1) (right - left) / n.
+    /// The time of day at the event at a place, where that is known.
+    pub(crate) fn clock(&self, place: usize) -> Option<Clock> {
+        let (began, first, time) = (self.began?, self.time(1)?, self.time(place)?);
+        let after = time.saturating_sub(first) % DAY;
+        Some(Clock(began.saturating_add(after)))
+    }
+
+    /// How many places the axis has, of events without times.
+    pub(crate) fn places(&self) -> usize {
+        let Period { first, last } = self.period;
+        let places = last.saturating_add(1).saturating_sub(first).max(1);
+        usize::try_from(places).unwrap_or(usize::MAX)
+    }
+
+    // Where a place stands on an axis of places: place p of those from f to l at left + (p - f) (right - left) / (l + 1 - f).
+    fn x_of_place(&self, place: usize) -> Pixels {
+        let first = usize::try_from(self.period.first).unwrap_or(usize::MAX);
+        let along = share(SPAN, place.saturating_sub(first), self.places());
+        Pixels(LEFT.0.saturating_add(along))
+    }
+
+    /// Where a place stands on the axis: by its time, or by itself. What is after the window is at the right end.
     pub(crate) fn x(&self, place: usize) -> Pixels {
         match self.time(place) {
-            Some(_) if place > self.events => RIGHT,
+            Some(_) if place > self.window.end.max(1) => RIGHT,
             Some(time) => Pixels(self.period.x_of(time)),
-            None => {
-                let along = share(SPAN, place.saturating_sub(1), self.events);
-                Pixels(LEFT.0.saturating_add(along))
-            }
+            None => self.x_of_place(place),
         }
+    }
+
+    /// Where the first illegal event is: at the right end or, where an end or a beginning was asked for, at its moment, if that is drawn.
+    pub(crate) fn illegal_x(&self, illegal: Illegal) -> Option<Pixels> {
+        let Period { first, last } = self.period;
+        if self.window.is_whole {
+            return Some(RIGHT);
+        }
+        let moment = self.time(illegal.at).unwrap_or(illegal.at as u64);
+        if moment < first || moment > last {
+            return None;
+        }
+        Some(match self.time(illegal.at) {
+            Some(time) => Pixels(self.period.x_of(time)),
+            None => self.x_of_place(illegal.at),
+        })
     }
 
     /// The width of a bar from one place to another.
@@ -201,7 +258,12 @@ impl<'a> Page<'a> {
 
     /// The length of the axis for each event.
     pub(crate) fn event_width(&self) -> u32 {
-        share(SPAN, 1, self.events)
+        let events = if self.is_timed() {
+            self.window.events().max(1)
+        } else {
+            self.places()
+        };
+        share(SPAN, 1, events)
     }
 
     /// Whether refusals have room for signs: else they are ticks.

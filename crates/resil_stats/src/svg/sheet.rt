@@ -1,10 +1,10 @@
 //! What all parts of a picture are written with: its page, the points that its outlines go through, and what
 //! came of its jobs.
 
-use super::page::{Page, Pixels};
-use crate::columns::running_at;
+use super::Caption;
+use super::page::{LEFT, Page, Pixels};
 use crate::results::Outcomes;
-use crate::{Column, Level, Picture, Running, Start};
+use crate::{Column, Level, Picture, Running, Start, Window};
 use std::alloc::{AllocError, Global};
 
 /// What a picture is drawn on, and drawn of.
@@ -14,6 +14,7 @@ pub(crate) struct Sheet<'a> {
     pub page: Page<'a>,
     pub points: &'a [Point],
     pub outcomes: &'a Outcomes,
+    pub caption: Caption<'a>,
 }
 
 /// The numbers that hold from a place on the axis on, and what runs there. An event that is drawn by itself is a column of one event.
@@ -56,7 +57,7 @@ impl Measure {
             Measure::GreatestSize => column.max as usize,
             Measure::Running(Start::Core) => running.core,
             Measure::Running(Start::Extra) => running.core.saturating_add(running.extra),
-            Measure::Running(Start::Queued) => running.all(),
+            Measure::Running(Start::Queued | Start::Handed) => running.all(),
             Measure::Full => column.full,
             Measure::Refused => column.full.saturating_add(column.closed),
         }
@@ -90,15 +91,24 @@ fn push_point(points: &mut Vec<Point>, point: Point) -> Result<(), AllocError> {
     Ok(())
 }
 
+// How many jobs run after the event at a place, by how they started.
+fn running_at(picture: &Picture, place: usize) -> Running {
+    let areas = &picture.drawn.areas;
+    areas
+        .get(place.saturating_sub(1))
+        .copied()
+        .unwrap_or(Running::default())
+}
+
 // Adds the points of a column, behind whose span of time holds what holds after its last event. Errors: `AllocError` when out of memory.
 fn push_column(
     points: &mut Vec<Point>,
     page: &Page,
     picture: &Picture,
     column: Column,
-    running: Running,
 ) -> Result<(), AllocError> {
     let (x, end) = page.ends(&column);
+    let running = running_at(picture, column.peak);
     push_point(points, Point { x, column, running })?;
     match picture.levels.get(column.to.saturating_sub(1)) {
         Some(level) if page.is_timed() => push_point(
@@ -106,23 +116,44 @@ fn push_column(
             Point {
                 x: end,
                 column: column_of(*level),
-                running: running_at(&picture.bars, column.to),
+                running: running_at(picture, column.to),
             },
         ),
         _ => Ok(()),
     }
 }
 
-/// The points of a picture: of each event, or of each column where there are columns; of those at one place the last one.
-/// Errors: `AllocError` when out of memory.
+// What holds at the beginning of a window, after the event before it. It is drawn from the left end on.
+fn push_first(points: &mut Vec<Point>, picture: &Picture) -> Result<(), AllocError> {
+    let before = picture.window.before;
+    match before
+        .checked_sub(1)
+        .and_then(|index| picture.levels.get(index))
+    {
+        Some(level) => push_point(
+            points,
+            Point {
+                x: LEFT,
+                column: column_of(*level),
+                running: running_at(picture, before),
+            },
+        ),
+        None => Ok(()),
+    }
+}
+
+/// The points of the window of a picture: that of its beginning, and then of each event, or of each column where events are gathered; of
+/// those at one place the last one. Errors: `AllocError` when out of memory.
 pub(crate) fn points_of(
     alloc: Global,
     page: &Page,
     picture: &Picture,
 ) -> Result<Vec<Point>, AllocError> {
     let mut points = Vec::new(alloc);
-    if picture.columns.is_empty() {
-        for level in picture.levels.iter() {
+    push_first(&mut points, picture)?;
+    if !picture.drawn.is_gathered() {
+        let Window { before, end, .. } = picture.window;
+        for level in picture.levels.get(before..end).unwrap_or(&[]) {
             let point = Point {
                 x: page.x(level.at),
                 column: column_of(*level),
@@ -131,8 +162,8 @@ pub(crate) fn points_of(
             push_point(&mut points, point)?;
         }
     }
-    for (column, running) in picture.columns.iter().zip(&picture.areas) {
-        push_column(&mut points, page, picture, *column, *running)?;
+    for column in picture.drawn.columns.iter() {
+        push_column(&mut points, page, picture, *column)?;
     }
     Ok(points)
 }

@@ -1,14 +1,12 @@
 use Rattle.std.proofs.Common.{◌≡◌}
-use Rattle.resil_virtual.specs.Pool.{IsPool, IsQuiet, left}
+use Rattle.resil_virtual.specs.Pool.{IsPool, left_in}
 use Rattle.resil_virtual.proofs.simulate.Given as goal
 
-abbrev pub invariant-loop-pool : goal.invariant-loop-pool
-invariant-loop-pool l = record {
-  pool : IsPool l.pool;
-  quiet : IsQuiet l.pool.rule;
-  limits : l.pool.rule.limits ≡ l.fn.limits;
-  load : (l.pool.arrivals.now ≡ l.arrivals) × (l.pool.idle_for ≡ l.idle_for);
+abbrev pub invariant-loop-virtual_pool : goal.invariant-loop-virtual_pool
+invariant-loop-virtual_pool l = record {
+  pool : IsPool l.virtual_pool;
+  load : (l.virtual_pool.plan ≡ l.pool) × (l.virtual_pool.arrivals.now ≡ l.arrivals);
 }
 
-abbrev pub decreases-loop-pool : goal.decreases-loop-pool
-decreases-loop-pool l = left l.pool.arrivals.now l.pool.next l.pool.rule l.pool.idle.items
+abbrev pub decreases-loop-virtual_pool : goal.decreases-loop-virtual_pool
+decreases-loop-virtual_pool l = left_in l.virtual_pool

@@ -1,4 +1,4 @@
--- What the thread of a caller is given, and what it gives back.
+-- What the thread of a caller gets, and what it returns.
 use Rattle.std.specs.Prelude.{◌≡◌, ◌++◌, List, [], OnOk}
 use Rattle.resil_pool.specs.declared.hold.JobRow.{JobRow}
 use Rattle.resil_workers.specs.declared.batch.submit.Submitted.{Submitted}
@@ -11,7 +11,7 @@ pub record HasSubmitted (rows : List JobRow) (caller : CallerView) (sent : Submi
   pub same : IsSameCaller caller sent.caller
   pub told : OnOk sent.outcome (plans_on_receipts sent.caller ≡ plans_on_receipts caller ++ plans_of rows caller.number)
 
--- a caller of this pool, which has been told of nothing yet, sends these rows
+-- a caller of this pool, which has submitted nothing yet, sends these rows
 pub record PromisesRowsOf (rows : List JobRow) (source : PoolId) (given : List JobRow) (caller : CallerView) : Type 0 where
   pub same : given ≡ rows
   pub from : caller.source ≡ source

@@ -12,15 +12,15 @@ use Rattle.resil_pool.specs.Draining.Remaining.{LeftRefused}
 use Rattle.resil_pool.specs.Draining.Report.{AreSubmissions}
 use Rattle.resil_workers.specs.Batch.Submit.{AreCallers, ArePlansOf, ReceiptsMatchRows}
 
--- this many callers, each told of its rows, and an end for each of this many workers
+-- this many callers, each with receipts for its rows, and an end for each of this many workers
 pub record IsFinishedBatch (rows : List JobRow) (source : PoolId) (count workers : ℕ) (sent : List CallerView) (left : List EndView) : Type 0 where
   pub callers : AreCallers source sent
   pub number : length sent ≡ count
   pub told : ReceiptsMatchRows rows sent
   pub ends : length left ≡ workers
 
--- A batch whose pool was drained, with or without a report: all its rows were submitted. The machine was left closed, with a history in which the submissions
--- of each caller are those on its receipts, and the plans on these are those of its rows, in row order; each worker's end is there; and it is said whether
+-- A batch with a drained pool, with or without a report: all its rows were submitted. The machine was left closed, with a history in which the
+-- submissions of each caller are those on its receipts, and the plans on these are those of its rows, in row order; each worker's end is there; and
 -- each run that the drain made itself was accepted, or the machine was left with one that was refused
 pub record DrainedBatch (sizes : Sizes) (callers : ℕ) (rows : List JobRow) : Type 0 where
   pub machine : MachineView

@@ -1,4 +1,4 @@
--- What the rows of a batch ask for, and what their callers are told of them.
+-- What the rows of a batch request, and what their callers have on their receipts.
 use Rattle.std.specs.Prelude.{◌≡◌, ◌≤◌, ◌==◌, ℕ, List, All, length, map, filter}
 use Rattle.std.specs.List.{range_with_len}
 use Rattle.resil_decor.specs.Plan.{PlanView}
@@ -16,7 +16,7 @@ IsFrom callers row = (1 ≤ row.caller) × (row.caller ≤ callers)
 abbrev pub plans_of : List JobRow → ℕ → List PlanView
 plans_of rows caller = map (λ row. row.plan) (filter (λ row. row.caller == caller) rows)
 
--- the plans that stand on a caller's receipts
+-- the plans on a caller's receipts
 abbrev pub plans_on_receipts : CallerView → List PlanView
 plans_on_receipts caller = map (λ receipt. receipt.plan) caller.receipts
 
@@ -29,6 +29,6 @@ pub record AreCallers (source : PoolId) (callers : List CallerView) : Type 0 whe
   pub sources : All (λ c. c.source ≡ source) callers
   pub numbered : map (λ c. c.number) callers ≡ range_with_len 1 (length callers)
 
--- each caller has been told of its rows
+-- each caller has receipts for its rows
 abbrev pub ReceiptsMatchRows : List JobRow → List CallerView → Type 0
 ReceiptsMatchRows rows callers = All (λ c. plans_on_receipts c ≡ plans_of rows c.number) callers

@@ -1,7 +1,7 @@
 //! The callers of a batch, each on a thread of its own.
 //!
-//! Each thread promises that its caller submitted the caller's rows, in row order. All threads that were started
-//! are joined, also where one couldn't be started.
+//! Each thread promises that its caller submitted the caller's rows, in row order. All threads that were started are
+//! joined, even if one couldn't be started.
 
 ghost use Rattle.std.specs.Prelude.{◌≡◌, ◌≤◌, [], All, IfOk, OnOk, length, map, vec_capacity};
 ghost use Rattle.std.specs.List.{range_with_len};
@@ -17,7 +17,7 @@ use std::snapshot::Snapshot;
 use std::sync::Wait;
 use std::thread::{Promise, PromisedHandle, Scope, Threads};
 
-/// What the thread of a caller promises: that the caller was told of its rows, in row order.
+/// What the thread of a caller promises: that the caller submitted its rows, in row order.
 #[derive(Drop)]
 pub(crate) struct SubmitPromise<'r> {
     caller: Snapshot<Caller>,
@@ -30,7 +30,7 @@ impl<'r> Promise<Submitted> for SubmitPromise<'r> {
     ghost kept_by = { λ p sent. HasSubmitted p.rows.now p.caller.value sent };
 }
 
-// Starts a thread for each caller, up to the first that can't be started.
+// Starts a thread for each caller, up to the first one that can't be started.
 fn start_callers<'s, E: 's, R: Threads + Wait + Sync, H: Hook + Sync>(
     scope: &'s Scope<'s, E>,
     batch: &Batch<'s, R, H>,
@@ -74,7 +74,7 @@ fn start_callers<'s, E: 's, R: Threads + Wait + Sync, H: Hook + Sync>(
 }
 
 // Each caller submits its rows, in row order, on a thread of its own. All these threads are joined. Errors: `Thread`
-// where one can't be started, `Memory`.
+// if one can't be started, `Memory`.
 pub(crate) fn submit_on_threads<'s, E: 's, R: Threads + Wait + Sync, H: Hook + Sync>(
     scope: &'s Scope<'s, E>,
     batch: &Batch<'s, R, H>,

@@ -8,7 +8,7 @@ use std::alloc::AllocError;
 /// Why a batch is broken off.
 #[derive(Clone, Copy, Debug)]
 pub(crate) enum BatchError {
-    /// Memory ran out.
+    /// Out of memory.
     Memory,
     /// A thread couldn't be started.
     Thread,

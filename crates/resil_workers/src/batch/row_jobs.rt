@@ -1,7 +1,7 @@
 //! The jobs of rows that come one after the other.
 //!
-//! A plan without layers that is that of the row before stands on the heap once, for both jobs. Layers may name any number of
-//! errors, so plans with layers aren't compared.
+//! If a plan has no layers and is the same as that of the previous row, it is on the heap once, for both jobs. Layers may
+//! name any number of errors, so plans with layers aren't compared.
 
 ghost use Rattle.std.specs.Prelude.{◌≡◌, IfOk};
 
@@ -11,12 +11,12 @@ use std::alloc::Global;
 /// Makes the jobs of rows, one after the other.
 #[derive(Drop)]
 pub(crate) struct RowJobs {
-    // The plan of the row before, if there is one.
+    // The plan of the previous row, if there is one.
     last: Option<SharedPlan>,
 }
 
 impl RowJobs {
-    // Of no row yet.
+    // Before the first row.
     pub(crate) fn new() -> RowJobs {
         RowJobs { last: None }
     }

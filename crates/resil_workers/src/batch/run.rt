@@ -1,8 +1,7 @@
 //! The run of a batch: a pool from its opening to its report.
 //!
-//! The pool is opened, its workers are made ready, the rows are submitted and the workers work, in one of two orders,
-//! and the pool is drained. All parts that `drain` asks for come back from the threads, so it
-//! can't miss one.
+//! The pool is opened, its workers are made ready, the rows are submitted and the workers work, in one of two orders, and the
+//! pool is drained. All parts that `drain` needs come back from the threads, so none can be missing.
 
 ghost use Rattle.std.specs.Prelude.{◌≡◌, ◌≤◌, ◌<◌, ◌↔◌, ◌⊎◌, ℕ, [], All, false, true, IfErr, IfOk, IsErrOf, IsOk, IsTrue, Ok, OnErr, OnOk, length, map};
 ghost use mathlib.Core.List.{IsPrefix};
@@ -33,18 +32,18 @@ use std::thread;
 use std::thread::Threads;
 use thiserror::Error;
 
-/// What a run is told of its pool.
+/// How to open the pool of a run.
 #[derive(Clone, Copy)]
 pub struct RunConfig {
     /// The sizes of the pool.
     pub limits: Limits,
-    /// After how many empty looks in a row a worker asks to end; 0 means 1.
+    /// A worker asks to end after this many empty polls in a row; 0 means 1.
     pub keep_alive: u32,
     /// How many callers there are, numbered from 1: 0 to 64.
     pub callers: u16,
 }
 
-/// Why a run gives no report.
+/// Why a run returned no report.
 ///
 /// ```
 /// match run_jobs(&rt, alloc, config, &mut no_bulkheads, rows, &NoHook, false) {
@@ -55,13 +54,13 @@ pub struct RunConfig {
 /// ```
 #[derive(Clone, Copy, Debug, PartialEq, Eq, Error)]
 pub enum RunError {
-    /// More than 64 callers were asked for.
+    /// More than 64 callers were requested.
     #[error("there are more than 64 callers")]
     TooManyCallers,
     /// A row names no caller of the run.
-    #[error("a row names no caller of the run")]
+    #[error("a row names a caller that the run doesn't have")]
     BadCaller,
-    /// Memory ran out.
+    /// Out of memory.
     #[error("out of memory")]
     Memory,
     /// A thread couldn't be started.
@@ -70,8 +69,8 @@ pub enum RunError {
     /// An accepted job has no result.
     #[error("a run was refused, or a job has no result")]
     Stranger,
-    /// Rows that were held don't stand in the history in their order.
-    #[error("the receipts are not what the history says")]
+    /// The rows were held, but aren't in the history in their order.
+    #[error("the held rows are not in the history in their order")]
     ReceiptsDiffer,
 }
 
@@ -88,8 +87,8 @@ impl From<BatchError> for RunError {
     }
 }
 
-// The workers work, each on a thread of its own, and each caller submits its rows on one. Then the pool is closed, also where
-// memory or a thread is missing, so that no worker looks for ever.
+// The workers work, each on a thread of its own, and each caller submits its rows on one. Then the pool is closed, even if memory
+// or a thread is missing, so that no worker polls forever.
 fn submit_beside_work<'a, R: Threads + Wait + Sync, H: Hook + Sync>(
     batch: &Batch<'_, R, H>,
     pool: &Pool,
@@ -168,8 +167,8 @@ fn work_off<'a, R: Threads + Wait + Sync, H: Hook + Sync>(
     )
 }
 
-// All rows are submitted in their order, the pool is closed, and then the workers work. Errors, in this order: `Memory` where
-// it runs out for a row, `NoThread`, `ReceiptsDiffer`.
+// All rows are submitted in their order, the pool is closed, and then the workers work. Errors, in this order: `Memory` if out of
+// memory for a row, `NoThread`, `ReceiptsDiffer`.
 fn submit_then_work<'a, R: Threads + Wait + Sync, H: Hook + Sync>(
     batch: &Batch<'_, R, H>,
     pool: &Pool,
@@ -194,8 +193,7 @@ fn submit_then_work<'a, R: Threads + Wait + Sync, H: Hook + Sync>(
     Ok((closer, callers, ends))
 }
 
-// What a batch with hold answers: that a row was refused for want of memory, or else that a thread is missing, or else that
-// the rows are out of order.
+// The result of a batch with `hold`: a row was refused for want of memory, or else a thread is missing, or else the rows are out of order.
 fn answer_held(
     submitted: Result<(), SubmitError>,
     worked: Result<Vec<WorkerEnd>, BatchError>,
@@ -249,7 +247,7 @@ fn submit_and_work<'a, R: Threads + Wait + Sync, H: Hook + Sync>(
     Ok((closer, callers, ends))
 }
 
-// Opens a pool, and has its rows submitted and its jobs run. More than 64 callers are refused, and a row that names none of them.
+// Opens a pool, has its rows submitted and its jobs run. It refuses more than 64 callers, and a row that names none of them.
 fn finish_batch<'a, R: Threads + Wait + Sync, H: Hook + Sync>(
     batch: &Batch<'_, R, H>,
     config: RunConfig,
@@ -286,19 +284,18 @@ fn finish_batch<'a, R: Threads + Wait + Sync, H: Hook + Sync>(
     }
 }
 
-/// Runs the jobs of these rows on a pool of its own, and drains it. With `hold` all rows are submitted in row
-/// order on the calling thread, the pool is closed, and only then the workers start. Without, each caller submits
-/// its rows, in row order, on a thread of its own while the workers run; then the pool is closed. Each worker is a
-/// thread, and hands passes that are split from these to its jobs.
+/// Runs the jobs of these rows on a pool of its own, and drains it. With `hold` all rows are submitted in row order on the
+/// calling thread, the pool is closed, and only then the workers start. Without it, each caller submits its rows, in row order,
+/// on a thread of its own while the workers run; then the pool is closed. Each worker is a thread, and gives its jobs passes that
+/// are split from these.
 ///
 /// # Errors
 ///
-/// In this order: `TooManyCallers` where there are more than `MAX_CALLERS`; `BadCaller` where a row's caller isn't from
-/// 1 to the number of callers; `Memory` when out of memory; `NoThread` where a thread can't be started;
-/// `Stranger` as a drain answers it; `ReceiptsDiffer` only where `hold` is asked for and the history before the closing
-/// isn't the rows' submissions in row order. With `hold` a row's want of memory comes before
-/// a missing thread. Where memory or a thread is missing once workers were started, the pool is closed and no report is given.
-/// Each worker leaves once there is no job to pick; without a report no clause tells which jobs were run.
+/// In this order: `TooManyCallers` if there are more than `MAX_CALLERS`; `BadCaller` if a row's caller isn't from 1 to the number of
+/// callers; `Memory` if out of memory; `NoThread` if a thread can't be started; `Stranger` as a drain returns it; `ReceiptsDiffer`
+/// only with `hold`, if the history before the closing isn't the rows' submissions in row order. With `hold`, a row's want of memory
+/// comes before a missing thread. If memory or a thread is missing once workers were started, the pool is closed and there is no
+/// report. Each worker leaves once there is no job to pick; without a report no clause says which jobs were run.
 ///
 /// ```
 /// let rows = Vec::from_array(alloc, [JobRow { caller: 1, plan }])?;
@@ -339,7 +336,7 @@ pub fn run_jobs<'a, R: Threads + Wait + Sync, H: Hook + Sync>(
     let (pool, closer, callers, ends) = finish_batch(&batch, config, passes)?;
     match drain(rt, pool, closer, callers, ends, passes) {
         Ok(report) => Ok(report),
-        // All parts were there, and the receipts are what the history says.
+        // All parts were passed in, and the receipts are what the history says.
         Err(_fault) => Err(RunError::Stranger),
     }
 }

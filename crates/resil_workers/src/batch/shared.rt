@@ -4,7 +4,7 @@ use resil_pool::{Hook, JobRow};
 use std::alloc::Global;
 use std::sync::Wait;
 
-/// The rows of a batch, whether the workers wait until all of them are submitted, and who is told of each job.
+/// The rows of a batch, whether the workers wait until all of them are submitted, and the hook around each job.
 #[derive(Drop)]
 pub(crate) struct Batch<'b, R: Wait, H: Hook> {
     pub(crate) rt: &'b R,

@@ -1,7 +1,7 @@
 //! The workers of a batch, each on a thread of its own, with passes of its own.
 //!
-//! Room for the threads and for the workers' ends is made before the first thread starts. Where a thread can't be
-//! started the pool is closed, so that the workers that were started leave.
+//! Room for the threads and for the workers' ends is made before the first thread starts. If a thread can't be started,
+//! the pool is closed, so that the workers that were started leave.
 
 ghost use Rattle.std.specs.Prelude.{◌≡◌, ◌≤◌, List, [], All, IfOk, OnOk, OnErr, true, length, vec_capacity};
 ghost use mathlib.Core.List.{IsPrefix};
@@ -20,7 +20,7 @@ use std::alloc::{AllocError, Global};
 use std::sync::Wait;
 use std::thread::{JoinHandle, Scope, Threads};
 
-/// A worker, and the passes that it hands to its jobs.
+/// A worker, and the passes that it gives to its jobs.
 #[derive(Drop)]
 pub(crate) struct ReadyWorker<'a, R: Wait> {
     worker: Worker,
@@ -41,7 +41,7 @@ pub(crate) struct ReadyWorkers<'a, R: Wait> {
     threads: WorkerThreads,
 }
 
-// Room for this many threads of workers, and for their ends.
+// Makes room for this many threads of workers, and for their ends.
 fn room_for(alloc: Global, count: usize) -> Result<WorkerThreads, AllocError>
     ensures started { IfOk result (λ room. (room.started.items ≡ []) × (count ≤ vec_capacity room.started)) }
     ensures ends { IfOk result (λ room. (room.ends.items ≡ []) × (count ≤ vec_capacity room.ends)) }
@@ -83,7 +83,7 @@ fn work<R: Wait, H: Hook>(rt: &R, pool: &Pool, ready: ReadyWorker<'_, R>, hook: 
     pool.work(rt, worker, &mut passes, hook)
 }
 
-// Starts a thread for each worker. Where one can't be started, the pool is closed, that worker works on the calling thread
+// Starts a thread for each worker. If one can't be started, the pool is closed, that worker works on the calling thread
 // until nothing is left, and the others aren't started.
 pub(crate) fn start_workers<'s, 'a: 's, E: 's, R: Threads + Wait + Sync, H: Hook + Sync>(
     scope: &'s Scope<'s, E>,

@@ -1,13 +1,15 @@
--- The closer stays as it is, and each thread was promised for the pool.
-use Rattle.std.proofs.Common.{◌≡◌, vec_capacity}
+-- The closer has written nothing and hired a worker for each context so far at most, and each thread was promised for the pool.
+use Rattle.std.proofs.Common.{◌≡◌, ◌≤◌, ◌+◌, length, vec_capacity}
 use Rattle.std.specs.Prelude.{All}
-use Rattle.resil_executor.specs.Seats.{IsLike, IsOf}
+use Rattle.std.specs.Vec.Iter.{into_iter_items}
+use Rattle.resil_executor.specs.Seats.{IsOf}
 use Rattle.resil_executor.proofs.threads.start_workers.Given as goal
 
 abbrev pub invariant-loop-context : goal.invariant-loop-context
 invariant-loop-context g l = record {
   mine : IsOf l.pool l.closer.seat;
-  same : IsLike l.initial.closer.seat l.closer.seat;
+  own : l.closer.seat.me.0.own ≡ l.initial.closer.seat.me.0.own;
+  hired : l.closer.seat.me.0.made + length (into_iter_items l.context-iterator) ≤ l.initial.closer.seat.me.0.made + length l.fn.contexts.items;
   room : vec_capacity l.threads ≡ vec_capacity l.initial.threads;
   promised : All (λ t. t.promise.pool.now ≡ l.pool) l.threads.items;
 }

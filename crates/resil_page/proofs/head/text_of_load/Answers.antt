@@ -7,5 +7,5 @@ pub returns-in-Ok-load_text : goal.returns-in-Ok-load_text
 returns-in-Ok-load_text c = (
   plan_of c.in-Ok.head,
   c.in-Ok.ensures,
-  c.in-Ok-load_text.ensures ∙ ap (load_text c.in-Ok.head.idle_for c.in-Ok.head.takes) c.deref.ensures.value,
+  c.in-Ok-load_text.ensures ∙ ap (load_text c.in-Ok.head.ways c.in-Ok.head.terms) c.deref.ensures.value,
 )

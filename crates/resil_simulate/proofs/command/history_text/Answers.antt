@@ -1,9 +1,10 @@
-use Rattle.resil_simulate.specs.Head.{plan_of}
-use Rattle.resil_simulate.proofs.CommandLaws.{arrivals-refused}
+use Rattle.resil_simulate.proofs.Words.{get_or, plan_of, rules}
+use Rattle.resil_simulate.proofs.CommandLaws.{read-one}
 use Rattle.resil_simulate.proofs.command.history_text.Goals as goal
 
-pub returns-in_default : goal.returns-in_default
-returns-in_default c = (plan_of c.in_ok-head.head, c.in_ok-head.body.now, c.in_ok-head.ensures, rw c.deref.ensures.value at c.in_default.ensures.other)
-
-pub returns-in-Err : goal.returns-in-Err
-returns-in-Err c = arrivals-refused (plan_of c.in_ok-head.head) c.in_ok-head.body.now c.args.input.now c.in_ok-head.ensures c.in-Err.why c.in-Err.ensures
+pub returns : goal.returns
+returns c =
+    let plan = plan_of c.in-Ok.read.0 in
+    let load = c.in-Ok.read.1 in
+    let d = c.index-limits.result.now in
+    (plan, get_or load.pools.items 0 d, load.arrivals.items, load.own, c.in_ok-history.history.items, read-one c.args.input.now plan load.arrivals.items load.own load.pools.items d c.in-Ok.ensures, search rules, search rules)

@@ -1,5 +1,5 @@
 use Rattle.resil_rule.specs.declared.verdict.Verdict.TheVariants.{Legal}
-use Rattle.resil_rule.proofs.VerdictLaws.{verdict_unique}
+use Rattle.resil_jdk.proofs.VerdictLaws.{verdict_unique}
 use Rattle.resil_simulate.proofs.legality.is_legal.Goals as goal
 
 pub returns-in-Ok-FirstIllegal : goal.returns-in-Ok-FirstIllegal

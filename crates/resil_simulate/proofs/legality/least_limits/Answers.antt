@@ -1,4 +1,4 @@
-use Rattle.std.proofs.Common.{[], arith}
+use Rattle.std.proofs.Common.{arith}
 use Rattle.resil_simulate.proofs.LegalityLaws.{legal_least}
 use Rattle.resil_simulate.proofs.legality.least_limits.Goals as goal
 
@@ -14,7 +14,6 @@ returns-clause-legal c = (
       (rw sizes enough.2)
       c.asked_by-least.result
       (rw sizes (omega arith, omega arith, omega arith))
-      []
       c.args.events.now
       c.asked_by-least.ensures.most
       legal,

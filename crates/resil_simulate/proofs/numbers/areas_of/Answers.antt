@@ -1,20 +1,21 @@
-use Rattle.resil_simulate.proofs.Words.{◌≡◌, ◌+◌, ◌-◌, ◌∙◌, [], ℕ, List, true, false, ap, arith, take, length-take-le, take_more, workers, Event, is_finish, running_count, allowed-take, no_event}
+use Rattle.resil_simulate.proofs.Words.{◌≡◌, ◌+◌, ◌-◌, ◌∙◌, [], ℕ, List, true, false, ap, arith, is_finish, running_count}
+use Rattle.resil_jdk.specs.History.{workers}
+use Rattle.resil_jdk.specs.declared.event.JdkEvent.{JdkEvent}
+use Rattle.resil_stats.proofs.LoadLaws.{may-come, next-legal, next-load, no_event}
 use Rattle.resil_simulate.proofs.NumberLaws.{areas-next, finish-next, no_finish}
 use Rattle.resil_simulate.proofs.numbers.areas_of.Goals as goal
 
-pub load-load-requires : goal.load-load-requires
-load-load-requires c =
+pub after-load-requires : goal.after-load-requires
+after-load-requires c =
     let (limits, sizes, legal) = c.requires.legal in
-    let i = c.loop-index.index in
-    let few = length-take-le i c.args.events.now (omega arith) in
-    (limits, take i c.args.events.now, allowed-take limits [] c.args.events.now i legal, c.loop-index.invariant.counts, omega (arith, few))
+    may-come limits [] c.args.events.now legal c.loop-index.index no_event c.loop-index-test.true c.loop-index.load c.loop-index.invariant.load (omega arith)
 
 pub overflow_add-so_far : goal.overflow_add-so_far
 overflow_add-so_far c =
     let i = c.loop-index.index in
     let was = c.loop-index.invariant in
     let gap = rw c.saturating_sub.ensures at (c.from-gap.ensures ∙ c.saturating_sub-in-loop-index.ensures) in
-    let next = areas-next _ _ c.requires c.type_inv.times i _ _ _ c.loop-index-test.true was.counts c.load-load.ensures gap in
+    let next = areas-next _ _ c.requires c.type_inv.times i _ _ c.loop-index-test.true was.load gap in
     omega (arith, next.run_time, next.small, was.run_time)
 
 pub overflow_add-so_far-in-loop-index : goal.overflow_add-so_far-in-loop-index
@@ -22,7 +23,7 @@ overflow_add-so_far-in-loop-index c =
     let i = c.loop-index.index in
     let was = c.loop-index.invariant in
     let gap = rw c.saturating_sub.ensures at (c.from-gap.ensures ∙ c.saturating_sub-in-loop-index.ensures) in
-    let next = areas-next _ _ c.requires c.type_inv.times i _ _ _ c.loop-index-test.true was.counts c.load-load.ensures gap in
+    let next = areas-next _ _ c.requires c.type_inv.times i _ _ c.loop-index-test.true was.load gap in
     omega (arith, next.worker_time, next.small, was.worker_time)
 
 pub loop-index-preserved-in_default : goal.loop-index-preserved-in_default
@@ -30,12 +31,14 @@ loop-index-preserved-in_default c =
     let i = c.loop-index.index in
     let was = c.loop-index.invariant in
     let gap = rw c.saturating_sub.ensures at (c.from-gap.ensures ∙ c.saturating_sub-in-loop-index.ensures) in
-    let next = areas-next _ _ c.requires c.type_inv.times i _ _ _ c.loop-index-test.true was.counts c.load-load.ensures gap in
+    let next = areas-next _ _ c.requires c.type_inv.times i _ _ c.loop-index-test.true was.load gap in
     let same : i + 1 - 1 ≡ i = omega arith in
-    let last = λ (number : List Event → ℕ).
+    let last = λ (number : List JdkEvent → ℕ).
     finish-next c.args.events.now c.args.times.now number i no_event false c.loop-index-test.true (no_finish _ c.in_default.not-Finish) in
     record {
-      counts = rw (← take_more c.args.events.now i no_event c.loop-index-test.true) at (c.record.ensures _ was.counts);
+      load =
+          let (limits, sizes, legal) = c.requires.legal in
+          next-load limits [] c.args.events.now legal i no_event c.loop-index-test.true _ (c.after-load.ensures limits _ (next-legal limits [] c.args.events.now legal i no_event c.loop-index-test.true) was.load);
       run_time = rw same (omega (arith, next.run_time, was.run_time));
       worker_time = rw same (omega (arith, next.worker_time, was.worker_time));
       finished_run = rw (last running_count) was.finished_run;
@@ -47,12 +50,14 @@ loop-index-preserved c =
     let i = c.loop-index.index in
     let was = c.loop-index.invariant in
     let gap = rw c.saturating_sub.ensures at (c.from-gap.ensures ∙ c.saturating_sub-in-loop-index.ensures) in
-    let next = areas-next _ _ c.requires c.type_inv.times i _ _ _ c.loop-index-test.true was.counts c.load-load.ensures gap in
+    let next = areas-next _ _ c.requires c.type_inv.times i _ _ c.loop-index-test.true was.load gap in
     let same : i + 1 - 1 ≡ i = omega arith in
-    let last = λ (number : List Event → ℕ).
+    let last = λ (number : List JdkEvent → ℕ).
     finish-next c.args.events.now c.args.times.now number i no_event true c.loop-index-test.true (ap is_finish c.in-Finish.is) in
     record {
-      counts = rw (← take_more c.args.events.now i no_event c.loop-index-test.true) at (c.record.ensures _ was.counts);
+      load =
+          let (limits, sizes, legal) = c.requires.legal in
+          next-load limits [] c.args.events.now legal i no_event c.loop-index-test.true _ (c.after-load.ensures limits _ (next-legal limits [] c.args.events.now legal i no_event c.loop-index-test.true) was.load);
       run_time = rw same (omega (arith, next.run_time, was.run_time));
       worker_time = rw same (omega (arith, next.worker_time, was.worker_time));
       finished_run = rw (last running_count) (omega (arith, next.run_time, was.run_time));

@@ -1,10 +1,12 @@
-use Rattle.resil_simulate.proofs.Words.{◌≡◌, ◌-◌, take, workers, AreCountsOf, area, running_count, to_finish}
+use Rattle.resil_simulate.proofs.Words.{◌≡◌, ◌-◌, take, area, running_count, to_finish}
+use Rattle.resil_jdk.specs.History.{workers}
+use Rattle.resil_stats.specs.Stats.{IsJdkLoadAfter}
 use Rattle.resil_simulate.proofs.numbers.areas_of.Given as goal
 
--- the counts of the events so far, and what ran and was there up to the last one, and up to the last finish
+-- the load after the events so far, and what ran and was there up to the last one, and up to the last finish
 abbrev pub invariant-loop-index : goal.invariant-loop-index
 invariant-loop-index l = record {
-  counts : AreCountsOf (take l.index l.events) l.counts;
+  load : IsJdkLoadAfter (take l.index l.events) l.load;
   run_time : l.so_far.run_time ≡ area running_count l.events l.times (l.index - 1);
   worker_time : l.so_far.worker_time ≡ area workers l.events l.times (l.index - 1);
   finished_run : l.finished.run_time ≡ to_finish running_count l.events l.times l.index;

@@ -3,4 +3,4 @@ use Rattle.resil_simulate.proofs.table.table_text.Given as goal
 
 -- the records of the pools so far
 abbrev pub invariant-loop-pool : goal.invariant-loop-pool
-invariant-loop-pool l = string_bytes l.text ≡ pools_text (take l.pool-index l.pools)
+invariant-loop-pool l = string_bytes l.text ≡ pools_text l.own (take l.pool-index l.pools)

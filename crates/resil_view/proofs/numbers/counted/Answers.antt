@@ -1,10 +1,6 @@
-use Rattle.std.proofs.Common.{◌≡◌, List, inl, inr, option_map, subst, sym}
+use Rattle.std.proofs.Common.{inl, inr}
 use Rattle.std.proofs.lemmas.Result.{IfOk-weaker}
-use Rattle.resil_jdk.specs.Admission.{IsLegal}
-use Rattle.resil_jdk.specs.declared.event.JdkEvent.{JdkEvent}
-use Rattle.resil_stats.specs.Stats.{legal_part}
-use Rattle.resil_view.specs.Judge.{IsJudgment, events_of}
-use Rattle.resil_view.specs.Numbers.{IsNumbersText, IsTableOf, jdk_events}
+use Rattle.resil_view.specs.Judge.{IsJudgment}
 use Rattle.resil_view.proofs.NumberLaws.{judged-legal}
 use Rattle.resil_view.proofs.numbers.counted.Goals as goal
 

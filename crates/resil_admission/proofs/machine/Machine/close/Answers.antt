@@ -14,5 +14,5 @@ invariant_of-self-2 c =
     let rule = rw c.if-not-close.false at c.close.ensures.event in
     let follows = rw (c.if-not-close.false, rule) at c.close.ensures.follows in
     let room = c.write.ensures.room (owed (with_close v)) (omega (arith, close-owes v (with_close v) still refl, kept.room)) in
-    rw rule (machine-after h Close (with_close v) c.write.new.self c.self.inside.jobs (follows h kept.state).1 (c.write.ensures.written h refl) room
+    rw rule (machine-after h Close (with_close v) c.write.new.self c.self.inside.jobs kept.limits (follows h kept.state).1 (c.write.ensures.written h refl) room
     (kept.accepted ∙ sym (accepted-same h Close refl)) kept.unpicked)

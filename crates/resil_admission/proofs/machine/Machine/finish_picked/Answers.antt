@@ -40,7 +40,7 @@ invariant_of-self c =
     let others : (x : Id) → 1 ≤ times_unpicked v x → unpicked_in c.record_run.new.self.kept x ≡ true = λ x some.
     let other = subst (λ (id : Id). is_same_id x id ≡ false) c.in-Some.ensures.found.0 (out-picked v h kept.state slot (found-at v h kept.state slot id c.in-Some.ensures.found) x some) in
     c.record_run.ensures.others x other ∙ kept.unpicked x some in
-    rw rule (machine-after h (Finish id) (with_finish v slot) c.write.new.self c.record_run.new.self (follows h kept.state).1 (c.write.ensures.written h refl) room
+    rw rule (machine-after h (Finish id) (with_finish v slot) c.write.new.self c.record_run.new.self kept.limits (follows h kept.state).1 (c.write.ensures.written h refl) room
     (ap ids_of ran ∙ ids-with_run jobs id c.args.run ∙ kept.accepted ∙ sym (accepted-same h (Finish id) refl)) others)
 
 pub returns-clause-out : goal.returns-clause-out

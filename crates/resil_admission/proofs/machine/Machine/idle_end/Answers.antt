@@ -14,5 +14,5 @@ invariant_of-self-2 c =
     let rule = rw c.if-not-idle_end.false at c.idle_end.ensures.event in
     let follows = rw (c.if-not-idle_end.false, rule) at c.idle_end.ensures.follows in
     let room = c.write.ensures.room (owed (with_idle_end v)) (omega (arith, idle-owes v (with_idle_end v) may refl, kept.room)) in
-    rw rule (machine-after h IdleEnd (with_idle_end v) c.write.new.self c.self.inside.jobs (follows h kept.state).1 (c.write.ensures.written h refl) room
+    rw rule (machine-after h IdleEnd (with_idle_end v) c.write.new.self c.self.inside.jobs kept.limits (follows h kept.state).1 (c.write.ensures.written h refl) room
     (kept.accepted ∙ sym (accepted-same h IdleEnd refl)) kept.unpicked)

@@ -21,6 +21,7 @@ invariant_of-self-in-OwnStart c =
           let before = left-picked v h kept.state p.slot p.work own.1 x some in
           c.pick-2.ensures.others x before.0 ∙ kept.unpicked x before.1 in
           rw own.2 (record {
+            limits = kept.limits;
             state = rw own.2 at own.3 h kept.state;
             room = omega (arith, pick-owes v (with_pick v p.slot) p.slot p.work told.0 own.1 refl, kept.room);
             accepted = ap ids_of c.pick-2.ensures.jobs ∙ kept.accepted;
@@ -45,7 +46,7 @@ invariant_of-self-in-Queue c =
           let still : (x : Id) → 1 ≤ times_unpicked (with_take v p.slot) x → unpicked_in c.pick-2.new.self.kept x ≡ true = λ x some.
           let before = left-taken v h kept.state p.slot p.work taken.2 x some in
           c.pick-2.ensures.others x before.0 ∙ kept.unpicked x before.1 in
-          rw rule (machine-after h (Take p.slot.id) (with_take v p.slot) c.write.new.self c.pick-2.new.self (follows h kept.state).1 (c.write.ensures.written h refl) room
+          rw rule (machine-after h (Take p.slot.id) (with_take v p.slot) c.write.new.self c.pick-2.new.self kept.limits (follows h kept.state).1 (c.write.ensures.written h refl) room
           (ap ids_of c.pick-2.ensures.jobs ∙ kept.accepted ∙ sym (accepted-same h (Take p.slot.id) refl)) still))
     ]
 

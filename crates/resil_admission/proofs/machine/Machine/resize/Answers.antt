@@ -13,7 +13,7 @@ invariant_of-self-2 c =
     let follows = rw rule at c.in_ok-resize.ensures.follows in
     let same = c.reserve.ensures.kept h refl in
     let room = c.write.ensures.room (owed v) (omega (arith, c.in_ok-reserve.ensures.room, c.owed.ensures.owed)) in
-    rw rule (machine-after h (Resized c.args.core c.args.max) (with_sizes v c.args.core c.args.max) c.write.new.self c.self.inside.jobs (follows h kept.state).1 (c.write.ensures.written h same) room
+    rw rule (machine-after h (Resized c.args.core c.args.max) (with_sizes v c.args.core c.args.max) c.write.new.self c.self.inside.jobs kept.limits (follows h kept.state).1 (c.write.ensures.written h same) room
     (kept.accepted ∙ sym (accepted-same h (Resized c.args.core c.args.max) refl)) kept.unpicked)
 
 pub returns-clause-event : goal.returns-clause-event

@@ -1,12 +1,13 @@
 use Rattle.std.proofs.Common.{inl, inr, ◌≡◌, ◌≤◌, ◌+◌, ◌++◌, ◌∷◌, [], ◌∙◌, suc, List, None, true, false, sym, ap, refl, arith}
 use Rattle.resil_admission.specs.Words.{is_among, RuleView, made_by, next_reply, is_acceptance, counted, with_submission, owed, IsStateOf, Follows, Id, Event, Submit, Reply, Accepted}
+use Rattle.resil_rule.specs.Limits.{AreLimits}
 use Rattle.resil_rule.proofs.FreshLaws.{next-fresh}
 use Rattle.resil_rule.proofs.OwedLaws.{submission-owes}
 use Rattle.resil_rule.proofs.RuleLaws.{next-is}
 use Rattle.resil_admission.specs.MachineView.{MachineView, ids_of, with_submission as machine_submission}
 use Rattle.resil_admission.specs.JobsInvariant.{unpicked_in}
 use Rattle.resil_admission.specs.MachineInvariant.{times_unpicked}
-use Rattle.resil_admission.proofs.MachineLaws.{machine-after, seen, unpicked-submitted, accepted-after, refused-after, refused-counted, refused-view, accepted-view}
+use Rattle.resil_admission.proofs.MachineLaws.{machine-after, started-within, seen, unpicked-submitted, accepted-after, refused-after, refused-counted, refused-view, accepted-view}
 use Rattle.resil_admission.proofs.machine.Machine.submit.Goals.{After-next_reply-reply}
 use Rattle.resil_admission.proofs.machine.Machine.submit.Goals as goal
 
@@ -26,6 +27,9 @@ module _ (c : After-next_reply-reply) where
 
   state : IsStateOf h v
   state = c.make_room.ensures.stays h c.self.invariant.state
+
+  limits : AreLimits v.limits
+  limits = rw c.make_room.ensures.rule c.self.invariant.limits
 
   next : c.args.id.number ≡ suc (made_by v c.args.id.caller)
   next = c.is_next.ensures.0 (rw c.if-not-is_next.false refl) ∙ ap suc (sym (c.make_room.ensures.made c.args.id.caller))
@@ -83,7 +87,7 @@ pub invariant_of-self-then-not-is_acceptance : goal.invariant_of-self-then-not-i
 invariant_of-self-then-not-is_acceptance c =
     let at = ready c in
     let fits = c.write.ensures.room (owed (v at)) (omega (arith, c.in-Ok.ensures.events)) in
-    rw (refused c) (machine-after (h at) (event at) (counted (v at) c.args.id) c.write.new.self c.make_room.new.jobs (refused-follows c (h at) (state at)).1 (refused-events c) fits
+    rw (refused c) (machine-after (h at) (event at) (counted (v at) c.args.id) c.write.new.self c.make_room.new.jobs (limits at) (refused-follows c (h at) (state at)).1 (refused-events c) fits
     (ap ids_of c.make_room.ensures.jobs ∙ c.self.invariant.accepted ∙ sym (refused-after (h at) c.args.id (next_reply (v at)) (bars c)))
     (unpicked at))
 
@@ -102,7 +106,7 @@ invariant_of-self-2 c =
     let old = rw (← c.reserve.ensures.kept) at (unpicked at) in
     let waits : (x : Id) → 1 ≤ times_unpicked (with_submission (v at) c.args.id tt reply) x → unpicked_in c.push.new.self.kept x ≡ true = λ x some.
     c.push.ensures.unpicked x (elim (unpicked-submitted (v at) c.args.id tt reply x some) [ inl same ↦ inl same | inr before ↦ inr (old x before) ]) in
-    rw (accepted c) (machine-after (h at) (event at) (with_submission (v at) c.args.id tt reply) c.write-2.new.self c.push.new.self (accepted-follows c (h at) (state at)).1 (accepted-events c) (omega (arith, most, fits))
+    rw (accepted c) (machine-after (h at) (event at) (with_submission (v at) c.args.id tt reply) c.write-2.new.self c.push.new.self (started-within (v at) c.args.id tt reply (limits at)) (accepted-follows c (h at) (state at)).1 (accepted-events c) (omega (arith, most, fits))
     (ap ids_of (kept c) ∙ accepted-after (h at) (jobs at) c.args.id c.args.job reply (accepts c) c.self.invariant.accepted) waits)
 
 pub returns-clause-event : goal.returns-clause-event

@@ -13,8 +13,9 @@ release-requires-clause-fits g c = seats.fits-plain _ _ c.close-closes.new.self.
 
 pub returns : goal.returns
 returns g c =
-    let turn = seats.turned c.args.closer.now.seat.me.0 c.take-state.new.seat.me.0 c.release.new.seat.me.0 c.close-closes.new.self (c.deref_mut.ensures.value ∙ c.state.view_is) c.take-state.ensures.home.0 c.take-state.ensures.key c.requires.mine.1 c.take-state.ensures.begins c.take-state.ensures.own c.release.ensures.seen in record {
+    let turn = seats.turned c.args.closer.now.seat.me.0 c.take-state.new.seat.me.0 c.release.new.seat.me.0 c.close-closes.new.self (c.deref_mut.ensures.value ∙ c.state.view_is) c.take-state.ensures.home.0 c.take-state.ensures.key c.requires.mine.1 c.take-state.ensures.begins c.take-state.ensures.own c.release.ensures.seen c.take-state.ensures.view in record {
       mine = search rules;
+      made = turn.made;
       closed = OnTrue_from _ _ (λ is. seats.last-sees turn event.Close (OnTrue_at (search (rules, is)) c.close-closes.ensures.closed));
       was_closed = OnFalse_from _ _ (λ is. seats.closed-sees turn (OnFalse_at (search (rules, is)) c.close-closes.ensures.was_closed));
     }

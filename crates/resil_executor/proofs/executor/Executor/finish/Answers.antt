@@ -20,5 +20,5 @@ release-requires-clause-fits g c =
 
 pub returns-clause-ended : goal.returns-clause-ended
 returns-clause-ended g c =
-    let turn = seats.turned c.args.worker.now.seat.me.0 c.take-state.new.seat.me.0 c.release.new.seat.me.0 c.finish.new.self (c.deref_mut.ensures.value ∙ c.state.view_is) c.take-state.ensures.home.0 c.take-state.ensures.key c.requires.mine.1 c.take-state.ensures.begins c.take-state.ensures.own c.release.ensures.seen in
+    let turn = seats.turned c.args.worker.now.seat.me.0 c.take-state.new.seat.me.0 c.release.new.seat.me.0 c.finish.new.self (c.deref_mut.ensures.value ∙ c.state.view_is) c.take-state.ensures.home.0 c.take-state.ensures.key c.requires.mine.1 c.take-state.ensures.begins c.take-state.ensures.own c.release.ensures.seen c.take-state.ensures.view in
     seats.last-sees turn (event.Finish c.args.ran.slot.id) c.finish.ensures.writes

@@ -11,7 +11,7 @@ release-requires-clause-fits g c = seats.look-fits _ _ _ _ _ _ (c.take-state.ens
 
 pub returns : goal.returns
 returns g c =
-    let turn = seats.turned c.args.worker.now.seat.me.0 c.take-state.new.seat.me.0 c.release.new.seat.me.0 c.look-look.new.self (c.deref_mut.ensures.value ∙ c.state.view_is) c.take-state.ensures.home.0 c.take-state.ensures.key c.requires.mine.1 c.take-state.ensures.begins c.take-state.ensures.own c.release.ensures.seen in record {
+    let turn = seats.turned c.args.worker.now.seat.me.0 c.take-state.new.seat.me.0 c.release.new.seat.me.0 c.look-look.new.self (c.deref_mut.ensures.value ∙ c.state.view_is) c.take-state.ensures.home.0 c.take-state.ensures.key c.requires.mine.1 c.take-state.ensures.begins c.take-state.ensures.own c.release.ensures.seen c.take-state.ensures.view in record {
       mine = search rules;
       found = seats.look-found turn (c.take-state.ensures.rank ∙ c.args.worker.now.rank) c.take-state.ensures.fits c.take-state.ensures.covered c.look-look.result c.look-look.ensures.found;
       nothing = seats.look-nothing turn (c.take-state.ensures.rank ∙ c.args.worker.now.rank) c.take-state.ensures.fits c.take-state.ensures.covered c.look-look.result c.look-look.ensures.nothing;

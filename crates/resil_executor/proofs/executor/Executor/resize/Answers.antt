@@ -14,7 +14,7 @@ release-requires-clause-fits g c = seats.fits-plain _ _ c.resize-resized.new.sel
 
 pub returns : goal.returns
 returns g c =
-    let turn = seats.turned c.args.closer.now.seat.me.0 c.take-state.new.seat.me.0 c.release.new.seat.me.0 c.resize-resized.new.self (c.deref_mut.ensures.value ∙ c.state.view_is) c.take-state.ensures.home.0 c.take-state.ensures.key c.requires.mine.1 c.take-state.ensures.begins c.take-state.ensures.own c.release.ensures.seen in record {
+    let turn = seats.turned c.args.closer.now.seat.me.0 c.take-state.new.seat.me.0 c.release.new.seat.me.0 c.resize-resized.new.self (c.deref_mut.ensures.value ∙ c.state.view_is) c.take-state.ensures.home.0 c.take-state.ensures.key c.requires.mine.1 c.take-state.ensures.begins c.take-state.ensures.own c.release.ensures.seen c.take-state.ensures.view in record {
       mine = search rules;
       resized = IfOk-weaker c.resize-resized.result _ _ (λ _. seats.last-sees turn (event.Resized c.args.core c.args.max)) c.resize-resized.ensures.resized;
       refused = IfErr-weaker c.resize-resized.result _ _ (λ _. seats.more-sees turn) c.resize-resized.ensures.refused;

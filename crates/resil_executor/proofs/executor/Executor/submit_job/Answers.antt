@@ -17,7 +17,7 @@ release-requires-clause-fits g c = seats.fits-visit _ _ c.submit-answer.new.self
 
 pub returns : goal.returns
 returns g c =
-    let turn = seats.turned c.args.visitor.now.seat.me.0 c.take-state.new.seat.me.0 c.release.new.seat.me.0 c.submit-answer.new.self (c.deref_mut.ensures.value ∙ c.state.view_is) c.take-state.ensures.home.0 c.take-state.ensures.key c.requires.mine.1 c.take-state.ensures.begins c.take-state.ensures.own c.release.ensures.seen in
+    let turn = seats.turned c.args.visitor.now.seat.me.0 c.take-state.new.seat.me.0 c.release.new.seat.me.0 c.submit-answer.new.self (c.deref_mut.ensures.value ∙ c.state.view_is) c.take-state.ensures.home.0 c.take-state.ensures.key c.requires.mine.1 c.take-state.ensures.begins c.take-state.ensures.own c.release.ensures.seen c.take-state.ensures.view in
     let made = seats.made-new turn (seats.submit-steps _ _ _ _ _ c.submit-answer.ensures.accepted c.submit-answer.ensures.refused) in record {
       mine = search rules;
       accepted = IfOk-weaker c.submit-answer.result _ _ (λ r. seats.accepted-sees turn r.0 r.1 c.args.work) c.submit-answer.ensures.accepted;

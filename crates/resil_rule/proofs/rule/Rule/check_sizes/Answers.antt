@@ -3,5 +3,5 @@ use Rattle.resil_rule.proofs.rule.Rule.check_sizes.Goals as goal
 
 pub returns-then-core-lt1-clause-within : goal.returns-then-core-lt1-clause-within
 returns-then-core-lt1-clause-within g c =
-    let most = c.self.invariant.limits.max.1 in
-    rw (← c.self.view_is) ((λ no. absurd (cc no)), (λ within. absurd (omega (arith, c.then-core-lt1.either, within.0, within.1, within.2, most))))
+    let greatest = c.most_core-most.ensures.no_less in
+    rw (← c.self.view_is) ((λ no. absurd (cc no)), (λ within. absurd (omega (arith, c.then-core-lt1.either, within.0, within.1, within.2, greatest))))

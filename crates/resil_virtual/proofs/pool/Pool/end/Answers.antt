@@ -1,20 +1,19 @@
-use Rattle.std.proofs.Common.{arith}
-use Rattle.resil_virtual.proofs.DueNowLaws.{reached}
-use Rattle.resil_virtual.proofs.PoolLaws.{ended-left, ended-parts, may}
+use Rattle.std.proofs.Common.{◌<◌, sym, subst}
+use Rattle.std.proofs.lemmas.Result.{on_ok_weaker}
+use Rattle.resil_virtual.specs.Pool.{IsPool, left_in}
+use Rattle.resil_virtual.specs.declared.pool.Pool.{Pool}
+use Rattle.resil_virtual.proofs.PoolLaws.{ended-left, ended-parts, some-worker}
 use Rattle.resil_virtual.proofs.pool.Pool.end.Goals as goal
+
+pub overflow_sub-self : goal.overflow_sub-self
+overflow_sub-self c = let s = c.args.self.now in some-worker s.plan s.arrivals.now s.next s.workers s.time s.own_look s.queue.items s.running.items s.idle.items s.history.items c.requires.pool c.args.at c.requires.due
 
 pub returns-clause-pool : goal.returns-clause-pool
 returns-clause-pool c =
     let s = c.args.self.now in
-    let yes = c.idle_end-ended.ensures.ends.1 (may s.idle_for s.arrivals.now s.next s.rule s.running.items s.idle.items s.history.items c.requires.pool c.args.place c.args.at c.requires.chosen.1.1 c.requires.quiet c.requires.chosen.0 (reached s.idle_for s.arrivals.now s.next s.rule s.running.items s.idle.items s.history.items c.requires.pool c.requires.quiet _ c.requires.chosen.0) c.requires.chosen.1.0) in
-    let is = rw yes at c.idle_end-ended.ensures.event in
-    let follows = rw (yes, is) at c.idle_end-ended.ensures.follows in
-    rw (c.in_ok-push.ensures.items, c.remove.ensures.items, is) (ended-parts s.idle_for s.arrivals.now s.next s.rule s.running.items s.idle.items s.history.items c.requires.pool c.args.place c.args.at c.requires.chosen.1.1 c.requires.quiet c.requires.chosen.0 (reached s.idle_for s.arrivals.now s.next s.rule s.running.items s.idle.items s.history.items c.requires.pool c.requires.quiet _ c.requires.chosen.0) c.requires.chosen.1.0 follows)
+    on_ok_weaker c.record.result (λ told. subst IsPool (sym told.0) (rw (told.1, c.remove_first.ensures.rest, c.pass.ensures) (ended-parts s.plan s.arrivals.now s.next s.workers s.time s.own_look s.queue.items s.running.items s.idle.items s.history.items c.requires.pool c.args.at c.requires.due))) c.record.ensures
 
-pub returns-clause-left : goal.returns-clause-left
-returns-clause-left c =
+pub returns-clause-less : goal.returns-clause-less
+returns-clause-less c =
     let s = c.args.self.now in
-    let yes = c.idle_end-ended.ensures.ends.1 (may s.idle_for s.arrivals.now s.next s.rule s.running.items s.idle.items s.history.items c.requires.pool c.args.place c.args.at c.requires.chosen.1.1 c.requires.quiet c.requires.chosen.0 (reached s.idle_for s.arrivals.now s.next s.rule s.running.items s.idle.items s.history.items c.requires.pool c.requires.quiet _ c.requires.chosen.0) c.requires.chosen.1.0) in
-    let is = rw yes at c.idle_end-ended.ensures.event in
-    let less = ended-left s.idle_for s.arrivals.now s.next s.rule s.running.items s.idle.items s.history.items c.requires.pool c.args.place c.args.at c.requires.chosen.1.1 c.requires.quiet c.requires.chosen.0 (reached s.idle_for s.arrivals.now s.next s.rule s.running.items s.idle.items s.history.items c.requires.pool c.requires.quiet _ c.requires.chosen.0) in
-    rw (c.remove.ensures.items, is) (omega (arith, less))
+    on_ok_weaker c.record.result (λ told. subst (λ (p : Pool). left_in p < left_in s) (sym told.0) (rw told.1 (ended-left s.plan s.arrivals.now s.next s.workers s.time s.own_look s.queue.items s.running.items s.idle.items s.history.items c.requires.pool c.args.at c.requires.due))) c.record.ensures

@@ -1,39 +1,34 @@
-use Rattle.std.proofs.Common.{arith}
+use Rattle.std.proofs.Common.{◌∙◌, ◌<◌, ◌∷◌, [], ◌++◌, List, sym, ap, subst}
 use Rattle.std.proofs.lemmas.Result.{on_ok_weaker}
-use Rattle.resil_virtual.proofs.DueNowLaws.{reached}
-use Rattle.resil_virtual.proofs.HistoryLaws.{last-is}
-use Rattle.resil_virtual.proofs.PoolLaws.{end-fits, finished-left, finished-parts, is-out}
+use Rattle.resil_virtual.specs.Due.{fallen}
+use Rattle.resil_virtual.specs.Pool.{IsPool, left_in}
+use Rattle.resil_virtual.specs.declared.idle.Idle.{Idle}
+use Rattle.resil_virtual.specs.declared.pool.Pool.{Pool}
+use Rattle.resil_virtual.proofs.PoolLaws.{busy-is, fallen-is, finish-fits, finished-left, finished-parts, none-is}
+use Rattle.resil_virtual.proofs.pool.Pool.finish.Goals.{then-none_waits+in_ok-push, else-none_waits}
 use Rattle.resil_virtual.proofs.pool.Pool.finish.Goals as goal
 
-pub pass-requires : goal.pass-requires
-pass-requires c =
-    let s = c.args.self.now in
-    rw c.has_spare-is_spare.ensures (reached s.idle_for s.arrivals.now s.next s.rule s.running.items s.idle.items s.history.items c.requires.pool c.requires.quiet _ c.requires.chosen.0).ends
+pub end_from-end-requires-clause-fits : goal.end_from-end-requires-clause-fits
+end_from-end-requires-clause-fits c = let s = c.args.self.now in finish-fits s.plan s.arrivals.now s.next s.workers s.time s.own_look s.queue.items s.running.items s.idle.items s.history.items c.requires.pool c.args.id c.args.at c.requires.due
 
-pub end_from-end-requires : goal.end_from-end-requires
-end_from-end-requires c =
+pub returns-clause-pool : goal.returns-clause-pool
+returns-clause-pool c =
     let s = c.args.self.now in
-    end-fits s.idle_for s.arrivals.now s.next s.rule s.running.items s.idle.items s.history.items c.requires.pool c.args.place c.args.job c.requires.chosen.1 c.requires.quiet
+    let none = c.no_job_waits-none_waits.ensures ∙ none-is s.plan s.arrivals.now s.next s.workers s.time s.own_look s.queue.items s.running.items s.idle.items s.history.items c.requires.pool in
+    elim c.if-none_waits.branch [
+      | then-none_waits+in_ok-push w ↦ (
+          let same = w.in_ok-push.ensures.items ∙ ap (λ (idle : List Idle). idle ++ fallen c.end_from-end.result ∷ []) c.pass.ensures
+          ∙ fallen-is s.plan s.arrivals.now s.next s.workers s.time s.own_look s.queue.items s.running.items s.idle.items s.history.items c.requires.pool c.args.id c.args.at c.no_job_waits-none_waits.result c.end_from-end.result none w.if-none_waits.true c.end_from-end.ensures in
+          on_ok_weaker c.record.result (λ told. subst IsPool (sym told.0) (rw (told.1, w.self-is, c.remove_job.ensures) (finished-parts s.plan s.arrivals.now s.next s.workers s.time s.own_look s.queue.items s.running.items s.idle.items s.history.items c.requires.pool c.args.id c.args.at c.requires.due _ same))) c.record.ensures)
+      | else-none_waits w ↦ (
+          let same = c.pass.ensures ∙ busy-is s.plan s.arrivals.now s.next s.workers s.time s.own_look s.queue.items s.running.items s.idle.items s.history.items c.requires.pool c.args.id c.args.at c.no_job_waits-none_waits.result none w.if-none_waits.false in
+          on_ok_weaker c.record.result (λ told. subst IsPool (sym told.0) (rw (told.1, w.self-is, c.remove_job.ensures) (finished-parts s.plan s.arrivals.now s.next s.workers s.time s.own_look s.queue.items s.running.items s.idle.items s.history.items c.requires.pool c.args.id c.args.at c.requires.due _ same))) c.record.ensures)
+    ]
 
-pub begin_all-requires-clause-pool : goal.begin_all-requires-clause-pool
-begin_all-requires-clause-pool c =
+pub returns-clause-less : goal.returns-clause-less
+returns-clause-less c =
     let s = c.args.self.now in
-    let yes = c.finish-out.ensures.out.1 (is-out s.idle_for s.arrivals.now s.next s.rule s.running.items s.idle.items s.history.items c.requires.pool c.args.place c.args.job c.requires.chosen.1 c.requires.quiet) in
-    let is = rw yes at c.finish-out.ensures.event in
-    let follows = rw (yes, is) at c.finish-out.ensures.follows in
-    rw (c.in_ok-push.ensures.items, c.in_ok-fall_idle.ensures, c.remove.ensures.items, c.pass.ensures, is) (finished-parts s.idle_for s.arrivals.now s.next s.rule s.running.items s.idle.items s.history.items c.requires.pool c.args.place c.args.job c.requires.chosen.1 c.requires.quiet
-    c.end_from-end.result c.end_from-end.ensures follows c.requires.chosen.0 (reached s.idle_for s.arrivals.now s.next s.rule s.running.items s.idle.items s.history.items c.requires.pool c.requires.quiet _ c.requires.chosen.0))
-
-pub begin_all-requires-clause-at : goal.begin_all-requires-clause-at
-begin_all-requires-clause-at c = rw c.in_ok-push.ensures.items (last-is c.args.self.now.history.items _)
-
-pub returns-clause-left : goal.returns-clause-left
-returns-clause-left c =
-    let s = c.args.self.now in
-    let yes = c.finish-out.ensures.out.1 (is-out s.idle_for s.arrivals.now s.next s.rule s.running.items s.idle.items s.history.items c.requires.pool c.args.place c.args.job c.requires.chosen.1 c.requires.quiet) in
-    let is = rw yes at c.finish-out.ensures.event in
-    let follows = rw (yes, is) at c.finish-out.ensures.follows in
-    let less = finished-left s.idle_for s.arrivals.now s.next s.rule s.running.items s.idle.items s.history.items c.requires.pool c.args.place c.args.job c.requires.chosen.1 c.requires.quiet
-    c.end_from-end.result c.end_from-end.ensures follows c.requires.chosen.0 (reached s.idle_for s.arrivals.now s.next s.rule s.running.items s.idle.items s.history.items c.requires.pool c.requires.quiet _ c.requires.chosen.0) in
-    let most = rw (c.in_ok-fall_idle.ensures, c.pass.ensures, is) at c.begin_all.ensures.left in
-    on_ok_weaker c.begin_all.result (λ most. omega (arith, most, less)) most
+    elim c.if-none_waits.branch [
+      | then-none_waits+in_ok-push w ↦ on_ok_weaker c.record.result (λ told. subst (λ (p : Pool). left_in p < left_in s) (sym told.0) (rw (told.1, w.self-is) (finished-left s.plan s.arrivals.now s.next s.workers s.time s.own_look s.queue.items s.running.items s.idle.items s.history.items c.requires.pool c.args.id c.args.at c.requires.due))) c.record.ensures
+      | else-none_waits w ↦ on_ok_weaker c.record.result (λ told. subst (λ (p : Pool). left_in p < left_in s) (sym told.0) (rw (told.1, w.self-is) (finished-left s.plan s.arrivals.now s.next s.workers s.time s.own_look s.queue.items s.running.items s.idle.items s.history.items c.requires.pool c.args.id c.args.at c.requires.due))) c.record.ensures
+    ]

@@ -1,18 +1,39 @@
-use Rattle.std.proofs.Common.{rules, ◌≡◌, ◌∙◌, ℕ, Bool, true, if◌then◌else◌, List, Option, Some, None, map, nat_lt, option_map, refl, sym, ap}
-use Rattle.resil_virtual.specs.Due.{earliest, end_at, ends_of}
-use Rattle.resil_virtual.proofs.DueNowLaws.{at_of}
+use Rattle.std.proofs.Common.{rules, ◌≡◌, ◌∙◌, [], ℕ, Bool, true, false, if◌then◌else◌, List, Option, Some, None, is_some, map, option_map, slice_get, refl, sym, ap}
+use Rattle.std.specs.Option.{option_map_or}
+use Rattle.resil_rule.specs.declared.event.Id.{Id}
+use Rattle.resil_virtual.specs.Due.{earliest, end_at, ends_of, front, has_spare, take_at}
+use Rattle.resil_jdk.specs.Timed.{events_in}
+use Rattle.resil_jdk.specs.declared.timed.TimedJdkEvent.{TimedJdkEvent}
+use Rattle.resil_virtual.proofs.CauseLaws.{at_of}
 use Rattle.resil_virtual.proofs.FirstLaws.{earliest-map}
 use Rattle.resil_virtual.proofs.pool.Pool.next_end.Goals as goal
 
-first-end-of : (idle : List (Option ℕ)) (o : Option ℕ) → o ≡ earliest (λ end. end) (ends_of idle) → (spare : Bool) → spare ≡ true → option_map end_at o ≡ (if spare then earliest at_of (map end_at (ends_of idle)) else None)
-first-end-of idle o is spare some = rw some (ap (option_map end_at) is ∙ sym (earliest-map end_at (λ end. end) at_of (λ end. refl) (ends_of idle)))
+abbrev Ends : List ℕ → Option Id → Bool → Option TimedJdkEvent
+Ends times o spare = earliest at_of (option_map_or (λ id. map (take_at id) times) o (if spare then map end_at times else []))
 
-pub returns-in-Some-clause-due : goal.returns-in-Some-clause-due
-returns-in-Some-clause-due c =
-    let spare : nat_lt c.args.self.now.rule.core c.args.self.now.rule.workers ≡ true = search rules in
-    first-end-of c.args.self.now.idle.items (Some c.in-Some.at) (rw c.deref.ensures.value at c.in-Some.ensures.first) _ spare
+last-take : (times : List ℕ) (o : Option Id) (spare : Bool) → true ≡ is_some o → option_map_or (λ id. option_map (take_at id) (earliest (λ at. at) times)) o None ≡ Ends times o spare
+last-take times None spare some = absurd (cc some)
+last-take times (Some id) spare some = sym (earliest-map (take_at id) (λ at. at) at_of (λ at. refl) times)
 
-pub returns-in-None-clause-due : goal.returns-in-None-clause-due
-returns-in-None-clause-due c =
-    let spare : nat_lt c.args.self.now.rule.core c.args.self.now.rule.workers ≡ true = search rules in
-    first-end-of c.args.self.now.idle.items None (rw c.deref.ensures.value at c.in-None.ensures.first) _ spare
+first-end : (times : List ℕ) (o : Option Id) (spare : Bool) → false ≡ is_some o → spare ≡ true → option_map end_at (earliest (λ at. at) times) ≡ Ends times o spare
+first-end times None true none some = sym (earliest-map end_at (λ at. at) at_of (λ at. refl) times)
+first-end times None false none some = absurd (cc some)
+first-end times (Some id) spare none some = absurd (cc none)
+
+pub returns-then-is_some : goal.returns-then-is_some
+returns-then-is_some c =
+    let s = c.args.self.now in
+    let ids = c.front-front.ensures ∙ ap (λ (ids : List Id). slice_get ids 0) c.requires.queue_is in
+    let times = rw c.deref.ensures.value at c.first_end-first.ensures in
+    c.take_at.ensures ∙ ap (λ (at : Option ℕ). option_map_or (λ id. option_map (take_at id) at) c.front-front.result None) times
+    ∙ ap (λ (o : Option Id). option_map_or (λ id. option_map (take_at id) (earliest (λ at. at) (ends_of s.idle.items))) o None) ids
+    ∙ last-take (ends_of s.idle.items) (front (events_in s.history.items)) (has_spare s.plan (events_in s.history.items)) (c.if-is_some.ensures ∙ ap (λ (o : Option Id). is_some o) ids)
+
+pub returns : goal.returns
+returns c =
+    let s = c.args.self.now in
+    let ids = c.front-front.ensures ∙ ap (λ (ids : List Id). slice_get ids 0) c.requires.queue_is in
+    let times = rw c.deref.ensures.value at c.first_end-first.ensures in
+    let spare : has_spare s.plan (events_in s.history.items) ≡ true = search rules in
+    c.end_at.ensures ∙ ap (option_map end_at) times
+    ∙ first-end (ends_of s.idle.items) (front (events_in s.history.items)) (has_spare s.plan (events_in s.history.items)) (c.if-is_some.ensures ∙ ap (λ (o : Option Id). is_some o) ids) spare

@@ -1,0 +1,41 @@
+-- The sizes of a pool that may have more workers than one of `Limits`: which are allowed, and which a resize may set.
+use Rattle.std.specs.Prelude.{ℕ, ◌≤◌, nat_lt, if◌then◌else◌}
+use Rattle.resil_rule.specs.Limits.{Sizes, IsQueue, AreSizesWithin}
+use Rattle.resil_rule.specs.declared.error.AdmitError.{AdmitError}
+use Rattle.resil_rule.specs.declared.error.AdmitError.TheVariants as refused
+
+-- a core size is from 1 to 1,024
+abbrev pub IsWideCore : ℕ → Type 0
+IsWideCore core = (1 ≤ core) × (core ≤ 1024)
+
+-- a greatest size is from the core size to 1,024
+abbrev pub IsWideMax : ℕ → ℕ → Type 0
+IsWideMax core max = (core ≤ max) × (max ≤ 1024)
+
+-- sizes that a pool may have
+pub record AreSizes (sizes : Sizes) : Type 0 where
+  pub core : IsWideCore sizes.core
+  pub max : IsWideMax sizes.core sizes.max
+  pub queue : IsQueue sizes.queue
+
+-- why sizes are refused: the first of the three that is out of its range
+abbrev pub IsSizesRefusal : Sizes → AdmitError → Type 0
+IsSizesRefusal sizes refused.CoreOutOfRange = ¬ IsWideCore sizes.core
+IsSizesRefusal sizes refused.MaxOutOfRange = IsWideCore sizes.core × ¬ IsWideMax sizes.core sizes.max
+IsSizesRefusal sizes refused.QueueOutOfRange = IsWideCore sizes.core × IsWideMax sizes.core sizes.max × ¬ IsQueue sizes.queue
+IsSizesRefusal sizes _ = ⊥
+
+-- the largest core size that a resize may name: 64, or 1,024 in a pool that was opened for more than 64 workers
+abbrev pub most_core : Sizes → ℕ
+most_core sizes = if nat_lt 64 sizes.max then 1024 else 64
+
+abbrev pub IsCoreOf : Sizes → ℕ → Type 0
+IsCoreOf sizes core = (1 ≤ core) × (core ≤ most_core sizes)
+
+-- why a pool of these sizes isn't resized: its core size isn't from 1 to the largest that a resize may name; or it is, and the greatest
+-- size is below it or above that of the opening; or memory ran out
+abbrev pub IsRefusedResize : Sizes → ℕ → ℕ → AdmitError → Type 0
+IsRefusedResize sizes core max refused.CoreOutOfRange = ¬ IsCoreOf sizes core
+IsRefusedResize sizes core max refused.MaxOutOfRange = IsCoreOf sizes core × ¬ AreSizesWithin sizes core max
+IsRefusedResize sizes core max refused.Memory = AreSizesWithin sizes core max
+IsRefusedResize sizes core max _ = ⊥

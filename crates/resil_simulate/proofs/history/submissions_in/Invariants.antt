@@ -1,7 +1,0 @@
-use Rattle.resil_simulate.proofs.Words.{◌≡◌, filter_map, take, submitted_at}
-use Rattle.std.specs.List.{enumerate_from}
-use Rattle.resil_simulate.proofs.history.submissions_in.Given as goal
-
--- the submissions among the events so far
-abbrev pub invariant-loop-index : goal.invariant-loop-index
-invariant-loop-index l = l.jobs.items ≡ filter_map (submitted_at l.history) (enumerate_from 1 (take l.index l.history))
