@@ -1,4 +1,3 @@
-import java.io.File;
 import java.io.IOException;
 import java.lang.ref.WeakReference;
 import java.lang.reflect.*;
@@ -10,7 +9,7 @@ import java.util.concurrent.ThreadPoolExecutor.*;
 import java.util.concurrent.atomic.AtomicInteger;
 import java.util.concurrent.locks.LockSupport;
 import java.util.function.BooleanSupplier;
-import java.util.logging.*;
+import java.util.logging.Logger;
 
 /**
  * What a recorded pool refuses, and what ends its record and never the pool: {@code FOLDER}, in a process whose files may have 100,000
@@ -18,15 +17,18 @@ import java.util.logging.*;
  */
 public final class RecorderFaults {
     private static final ThreadFactory THREADS = Thread::new;
-    private static final Logger LOGGER = Logger.getLogger("RecordedThreadPoolExecutor"); // which else is collected
+    private static final Logger LOGGER = Logger.getLogger("RecordedThreadPoolExecutor"); // which would be collected otherwise
     private static final List<String> TOLD = Collections.synchronizedList(new ArrayList<>());
     private static Path folder;
 
     private interface Step { void run() throws Exception; }
 
     private static RecordedThreadPoolExecutor open(Path folder, String name, int core, int max, int capacity, int keep) {
-        return new RecordedThreadPoolExecutor(core, max, 1, TimeUnit.MILLISECONDS, capacity, THREADS, new AbortPolicy(), folder, name, keep);
+        return new RecordedThreadPoolExecutor(core, max, 1, TimeUnit.MILLISECONDS, queue(capacity), THREADS, new AbortPolicy(), folder, name, keep, 0);
     }
+
+    private static RecordedThreadPoolExecutor open(String name, int core, int max, int capacity) { return open(folder, name, core, max, capacity, 0); }
+    private static BlockingQueue<Runnable> queue(int capacity) { return capacity == 0 ? new SynchronousQueue<>() : new LinkedBlockingQueue<>(capacity); }
 
     private static void end(ThreadPoolExecutor pool) throws InterruptedException {
         pool.shutdown();
@@ -34,27 +36,23 @@ public final class RecorderFaults {
     }
 
     private static void demand(boolean holds, String told) { if (!holds) throw new IllegalStateException(told); }
+    private static void goesOn(RecordedThreadPoolExecutor pool) { demand(pool.endRecord() == null, "the record ended: " + pool.endRecord()); }
 
     private static void tell(String name, Step step) {
-        try {
-            step.run();
-            System.out.println("passed " + name);
-        } catch (Throwable thrown) {
-            System.out.println("failed " + name + ": " + thrown);
-        }
+        String told = "passed " + name;
+        try { step.run(); } catch (Throwable thrown) { told = "failed " + name + ": " + thrown; }
+        System.out.println(told);
     }
 
     private static void refuses(Class<?> wanted, Step step) {
         tell("refused by " + wanted.getSimpleName(), () -> {
-            try { step.run(); } catch (RuntimeException thrown) {
-                demand(wanted.isInstance(thrown), "it throws " + thrown);
-                return;
-            }
-            throw new IllegalStateException("nothing is thrown");
+            Object found = "nothing";
+            try { step.run(); } catch (RuntimeException thrown) { found = thrown; }
+            demand(wanted.isInstance(found), "it throws " + found);
         });
     }
 
-    /** Runs so many tasks one after the other, and says how many were completed. */
+    /** Runs this many tasks one after the other, and returns how many were completed. */
     private static long runs(ThreadPoolExecutor pool, int tasks) throws Exception {
         for (int i = 0; i < tasks; i++) {
             CountDownLatch ran = new CountDownLatch(1);
@@ -65,76 +63,113 @@ public final class RecorderFaults {
         return pool.getCompletedTaskCount();
     }
 
-    private static List<String> files(String name) {
-        List<String> found = new ArrayList<>();
-        for (String file : new File(folder.toString()).list()) if (file.startsWith(name + "-")) found.add(file);
-        found.sort(null);
-        return found;
+    /** Checks that this many were completed in all, and that the record hasn't ended. */
+    private static void whole(RecordedThreadPoolExecutor pool, int tasks, long all) throws Exception {
+        demand(runs(pool, tasks) == all, "tasks are lost");
+        goesOn(pool);
     }
 
+    private static List<String> files(String name) {
+        String[] found = folder.toFile().list((in, file) -> file.startsWith(name + "-"));
+        Arrays.sort(found);
+        return List.of(found);
+    }
+
+    private static void has(String file, String... texts) throws IOException {
+        for (String text : texts) demand(Files.readString(folder.resolve(file)).contains(text), file + " has no " + text);
+    }
+
+    private static void eventually(BooleanSupplier holds, String told) throws InterruptedException {
+        for (int i = 0; i < 3000 && !holds.getAsBoolean(); i++) Thread.sleep(10);
+        demand(holds.getAsBoolean(), told);
+    }
+
+    private static void eventually(String file, String text) throws InterruptedException {
+        eventually(() -> { try { return Files.readString(folder.resolve(file)).contains(text); } catch (IOException none) { return false; } }, file);
+    }
+
+    private static void hold(CountDownLatch gate) {
+        try { gate.await(); } catch (InterruptedException ended) { Thread.currentThread().interrupt(); }
+    }
+
+    private static RecordedThreadPoolExecutor like(ExecutorService pool, String name) { return RecordedThreadPoolExecutor.like(pool, folder, name); }
+
     private static void refusals() {
-        refuses(IllegalArgumentException.class, () -> open(folder, "none", 0, 1, 1, 0));
-        refuses(IllegalArgumentException.class, () -> open(folder, "none", 1, 65, 1, 0));
-        refuses(IllegalArgumentException.class, () -> open(folder, "none", 2, 1, 1, 0));
-        refuses(IllegalArgumentException.class, () -> open(folder, "none", 1, 1, 0, 0));
-        refuses(IllegalArgumentException.class, () -> open(folder, "../none", 1, 1, 1, 0));
-        RecordedThreadPoolExecutor pool = open(folder, "refused", 1, 64, 65_536, 0);
-        refuses(IllegalArgumentException.class, () -> pool.setCorePoolSize(0));
-        refuses(IllegalArgumentException.class, () -> pool.setCorePoolSize(65));
-        refuses(IllegalArgumentException.class, () -> pool.setMaximumPoolSize(65));
-        refuses(UnsupportedOperationException.class, () -> pool.allowCoreThreadTimeOut(true));
-        refuses(NullPointerException.class, () -> pool.execute(null));
-        refuses(NullPointerException.class, () -> pool.getQueue().put(null));
+        Class<?> illegal = IllegalArgumentException.class;
+        for (int[] sizes : new int[][] {{-1, 1}, {0, 0}, {0, -1}, {2, 1}, {0, 1 << 29}, {6, (1 << 29) + 5}})
+            refuses(illegal, () -> open("none", sizes[0], sizes[1], 1));
+        refuses(illegal, () -> open("../none", 1, 1, 1));
+        for (BlockingQueue<Runnable> queue : List.of(new PriorityBlockingQueue<Runnable>(), new LinkedBlockingDeque<Runnable>(),
+            new LinkedTransferQueue<Runnable>(), new LinkedBlockingQueue<Runnable>(List.of(() -> { })))) 
+            refuses(illegal, () -> new RecordedThreadPoolExecutor(1, 1, 1, TimeUnit.SECONDS, queue, folder, "none"));
+        refuses(NullPointerException.class, () -> new RecordedThreadPoolExecutor(1, 1, 1, TimeUnit.SECONDS, null, folder, "none"));
+        ThreadPoolExecutor used = new ThreadPoolExecutor(1, 1, 0, TimeUnit.SECONDS, queue(1));
+        ExecutorService shut = Executors.newCachedThreadPool();
+        used.prestartCoreThread();
+        shut.shutdown();
+        for (ExecutorService pool : List.of(used, shut, Executors.newSingleThreadExecutor(), Executors.newScheduledThreadPool(1), ForkJoinPool.commonPool()))
+            refuses(illegal, () -> like(pool, "none"));
+        used.shutdown();
+        RecordedThreadPoolExecutor pool = open("refused", 1, Integer.MAX_VALUE, 65_536);
+        for (Step step : List.<Step>of(() -> pool.setCorePoolSize(-1), () -> pool.setMaximumPoolSize(0), () -> pool.setMaximumPoolSize(1 << 29)))
+            refuses(illegal, step);
+        for (Step step : List.<Step>of(() -> pool.execute(null), () -> pool.getQueue().put(null))) refuses(NullPointerException.class, step);
         tell("nothing of a refusal is left", () -> {
-            pool.allowCoreThreadTimeOut(false);
-            demand(runs(pool, 10) == 10 && pool.endRecord() == null, "the record ended");
+            whole(pool, 10, 10);
             demand(files("refused").size() == 1 && files("none").isEmpty(), "files " + files("refused") + files("none"));
+            has("refused-00001.csv", "\nmax = 536870911\nqueue = 65536\n", "\nresize,,,,1,536870911,,");
+        });
+        tell("a pool like another one", () -> {
+            ThreadPoolExecutor one = new ThreadPoolExecutor(2, 3, 9, TimeUnit.DAYS, new ArrayBlockingQueue<>(7), THREADS, new DiscardPolicy());
+            one.allowCoreThreadTimeOut(true);
+            RecordedThreadPoolExecutor cached = like(Executors.newCachedThreadPool(), "cached"), like = like(one, "like");
+            like.setThreadFactory(like.getThreadFactory());
+            demand(like.getThreadFactory() == THREADS && like.getRejectedExecutionHandler() == one.getRejectedExecutionHandler(), "other parts");
+            demand(cached.getMaximumPoolSize() == Integer.MAX_VALUE && like.getQueue().remainingCapacity() == 7, "other sizes");
+            whole(cached, 10, 10);
+            whole(like, 10, 10);
+            has("cached-00001.csv", "\nqueue = 0\nidle_for = 60000000\nmade = 1\n");
+            has("like-00001.csv", "\nqueue = 7\nidle_for = 777600000000\nmade = 1\n", "\ntime_out,,,,,,on,");
         });
     }
 
     private static void faults() {
-        tell("a folder that can't be made", () -> {
+        tell("a folder that can't be made, and one that isn't there", () -> {
             Files.createFile(folder.resolve("a_file"));
-            RecordedThreadPoolExecutor pool = open(folder.resolve("a_file/none"), "none", 1, 2, 4, 0);
-            demand(runs(pool, 100) == 100, "tasks are lost");
-            demand(pool.endRecord() != null, "endRecord doesn't tell");
-        });
-        tell("a folder that isn't there", () -> {
-            RecordedThreadPoolExecutor pool = open(folder.resolve("new/folder"), "made", 1, 2, 4, 0);
-            demand(runs(pool, 10) == 10 && pool.endRecord() == null, "the record ended");
-            demand(Files.exists(folder.resolve("new/folder/made-00001.csv")), "there is no file");
+            RecordedThreadPoolExecutor none = open(folder.resolve("a_file/none"), "none", 1, 2, 4, 0), made = open(folder.resolve("new/folder"), "made", 1, 2, 4, 0);
+            whole(made, 10, 10);
+            demand(runs(none, 100) == 100 && none.endRecord() != null && Files.exists(folder.resolve("new/folder/made-00001.csv")), "endRecord doesn't tell, or there is no file");
         });
         tell("a file that can't grow", () -> {
-            RecordedThreadPoolExecutor pool = open(folder, "limited", 1, 2, 4, 0);
-            demand(runs(pool, 4000) == 4000, "tasks are lost");
-            demand(pool.endRecord() != null, "endRecord doesn't tell");
+            RecordedThreadPoolExecutor pool = open("limited", 1, 2, 4);
+            demand(runs(pool, 4000) == 4000 && pool.endRecord() != null, "tasks are lost, or endRecord doesn't tell");
         });
         tell("a file that is gone", () -> {
-            RecordedThreadPoolExecutor pool = open(folder, "gone", 1, 2, 4, 0);
-            eventually(() -> has("gone-00001.csv", "core"), "there is no file");
+            RecordedThreadPoolExecutor pool = open("gone", 1, 2, 4);
+            eventually("gone-00001.csv", "core");
             Files.delete(folder.resolve("gone-00001.csv"));
             demand(runs(pool, 500) == 500, "tasks are lost");
-            demand(pool.endRecord().contains("isn't as it was left") && files("gone").isEmpty(), "endRecord doesn't tell, or there is a file");
+            demand(pool.endRecord().contains("has changed since") && files("gone").isEmpty(), "endRecord doesn't tell, or there is a file");
         });
-        tell("the end of a pool", () -> {
-            runs(open(folder, "whole", 1, 2, 4, 0), 100);
-            eventually(() -> has("whole-00001.csv", "\nidle"), "the rest isn't written");
-        });
-        tell("the end of a record", () -> {
-            RecordedThreadPoolExecutor pool = open(folder, "ended", 1, 2, 4, 0);
-            pool.execute(() -> { });
-            demand(pool.endRecord() == null && pool.endRecord() != null, "endRecord tells otherwise");
+        tell("the end of a record, and its beginning anew", () -> {
+            RecordedThreadPoolExecutor pool = open("ended", 1, 1, 4);
+            pool.submit(() -> { }).get();
+            pool.beginRecord(); // which has not ended
+            goesOn(pool);
             long size = Files.size(folder.resolve("ended-00001.csv"));
-            demand(runs(pool, 50) == 51 && Files.size(folder.resolve("ended-00001.csv")) == size, "it goes on, or tasks are lost");
+            pool.submit(() -> { }).get();
+            demand(pool.endRecord() != null && Files.size(folder.resolve("ended-00001.csv")) == size, "it goes on");
+            pool.beginRecord();
+            whole(pool, 5, 7);
+            has("ended-00002.csv", ": beginRecord was called.\n");
         });
         tell("why a record ended is told once a pool", () -> {
             eventually(() -> TOLD.stream().anyMatch(line -> line.contains("pool gone in")), "it isn't told");
-            demand(TOLD.stream().filter(line -> line.contains("pool gone in")).count() == 1, "told is " + TOLD);
-            demand(TOLD.stream().noneMatch(line -> line.contains("pool ended in")), "told is " + TOLD);
+            demand(TOLD.stream().filter(line -> line.contains("pool gone in") || line.contains("pool ended in")).count() == 1, "told is " + TOLD);
         });
     }
 
-    /** A pool of one thread that is held, with three tasks in its queue. */
+    /** A pool of one thread, which is blocked, with three tasks in its queue. */
     private static RecordedThreadPoolExecutor held(String name, int keep, CountDownLatch gate, List<Runnable> tasks) {
         RecordedThreadPoolExecutor pool = open(folder, name, 1, 1, 8, keep);
         pool.execute(() -> hold(gate));
@@ -143,14 +178,15 @@ public final class RecorderFaults {
         return pool;
     }
 
+    private static void again(RecordedThreadPoolExecutor pool) { pool.endRecord(); pool.beginRecord(); }
+
     private static void hands() {
         tell("other hands on the queue", () -> {
             CountDownLatch gate = new CountDownLatch(1);
             List<Runnable> tasks = new ArrayList<>(), taken = new ArrayList<>();
             RecordedThreadPoolExecutor pool = held("hands", 0, gate, tasks);
             BlockingQueue<Runnable> queue = pool.getQueue();
-            demand(queue.peek() == tasks.get(0) && queue.contains(tasks.get(2)), "it shows others");
-            demand(queue.size() == 3 && queue.remainingCapacity() == 5, "it has other sizes");
+            demand(queue.peek() == tasks.get(0) && queue.contains(tasks.get(2)) && queue.size() == 3 && queue.remainingCapacity() == 5, "it shows others");
             demand(pool.remove(tasks.get(1)) && !pool.remove(tasks.get(1)) && queue.size() == 2, "remove takes others");
             demand(queue.removeIf(task -> task == tasks.get(2)) && queue.poll() == tasks.get(0) && queue.poll() == null, "others are taken");
             for (Runnable task : tasks) pool.execute(task);
@@ -159,76 +195,58 @@ public final class RecorderFaults {
             for (Runnable task : tasks) pool.execute(task);
             demand(pool.shutdownNow().equals(tasks) && queue.isEmpty(), "shutdownNow hands back others");
             end(pool);
-            demand(pool.getCompletedTaskCount() == 1 && pool.endRecord() == null, "the record ended");
+            goesOn(pool);
+            demand(pool.getCompletedTaskCount() == 1 && files("hands").size() == 1, "a task is run, or a file ended");
         });
         tell("each pool keeps its last files, and takes numbers that are free", () -> {
             for (int round = 0; round < 2; round++) {
                 CountDownLatch gate = new CountDownLatch(1);
                 RecordedThreadPoolExecutor pool = held("kept", 3, gate, new ArrayList<>());
-                for (int i = 0; i < 3; i++) pool.getQueue().poll();
+                for (int i = 0; i < 3; i++) again(pool);
                 gate.countDown();
-                end(pool);
-                demand(pool.endRecord() == null, "the record ended");
+                whole(pool, 0, 4);
             }
-            demand(files("kept").equals(List.of("kept-00002.csv", "kept-00003.csv", "kept-00004.csv", "kept-00005.csv", "kept-00006.csv",
-                "kept-00007.csv")), "there are " + files("kept"));
+            demand(files("kept").toString().matches("\\[(kept-0000[2-7].csv(, )?){6}]"), "there are " + files("kept"));
         });
         tell("more callers than have a number", () -> {
-            RecordedThreadPoolExecutor pool = open(folder, "callers", 1, 1, 2000, 0);
-            for (int i = 0; i < 1100; i++) {
-                Thread thread = new Thread(() -> pool.execute(() -> { }));
-                thread.start();
-                thread.join();
-            }
-            end(pool);
-            demand(pool.getCompletedTaskCount() == 1100 && pool.endRecord() == null, "the record ended");
+            RecordedThreadPoolExecutor pool = open("callers", 1, 1, 2000);
+            ExecutorService threads = Executors.newFixedThreadPool(1100); // one for each task
+            for (int i = 0; i < 1100; i++) threads.execute(() -> pool.execute(() -> { }));
+            end((ThreadPoolExecutor) threads);
+            whole(pool, 0, 1100);
         });
     }
 
-    /** A pool whose thread factory gives a thread where there is a plus, one that can't start where there is a dot, and then threads. */
+    /** A pool whose thread factory returns a thread for each plus, one that can't start for each dot, and then threads. */
     private static RecordedThreadPoolExecutor givenThreads(String name, int core, int max, int capacity, String given) {
-        RecordedThreadPoolExecutor pool = open(folder, name, core, max, capacity, 0);
+        RecordedThreadPoolExecutor pool = open(name, core, max, capacity);
         AtomicInteger asked = new AtomicInteger();
         pool.setThreadFactory(task -> {
             int turn = asked.getAndIncrement();
             char now = turn < given.length() ? given.charAt(turn) : '+';
-            Thread thread = now == '-' ? null : now == '+' ? new Thread(task) : new Thread(task) {
+            return now == '-' ? null : now == '+' ? new Thread(task) : new Thread(task) {
                 @Override public synchronized void start() { throw new OutOfMemoryError("no thread"); }
             };
-            if (thread != null) thread.setUncaughtExceptionHandler((t, thrown) -> { });
-            return thread;
         });
         return pool;
     }
 
-    private static void eventually(BooleanSupplier holds, String told) throws InterruptedException {
-        for (int i = 0; i < 3000 && !holds.getAsBoolean(); i++) Thread.sleep(10);
-        demand(holds.getAsBoolean(), told);
-    }
-
-    private static void hold(CountDownLatch gate) {
-        try { gate.await(); } catch (InterruptedException ended) { Thread.currentThread().interrupt(); }
-    }
-
-    private static boolean has(String file, String text) {
-        try { return Files.readString(folder.resolve(file)).contains(text); } catch (IOException none) { return false; }
-    }
-
     private static void writing() {
+        ThreadFactory usual = RecordedThreadPoolExecutor.writers;
         tell("a pool that no thread can be started for", () -> { // the first pool here
-            ThreadFactory usual = RecordedThreadPoolExecutor.writers;
             RecordedThreadPoolExecutor.writers = work -> { throw new OutOfMemoryError("no thread"); };
-            RecordedThreadPoolExecutor pool = open(folder, "alone", 1, 2, 4, 0);
+            RecordedThreadPoolExecutor pool = open("alone", 1, 2, 4);
             for (int i = 0; i < 300; i++) pool.submit(() -> { }).get();
             demand(Files.size(folder.resolve("alone-00001.csv")) > 8000, "nothing is written");
             RecordedThreadPoolExecutor.writers = usual;
-            demand(runs(pool, 10) == 310 && pool.endRecord() == null, "the record ended");
+            whole(pool, 10, 310);
         });
-        tell("a quiet pool", () -> {
-            RecordedThreadPoolExecutor pool = open(folder, "quiet", 1, 2, 4, 0);
+        tell("a quiet pool, and its end", () -> {
+            RecordedThreadPoolExecutor pool = open("quiet", 1, 2, 4);
             pool.execute(() -> { });
-            eventually(() -> has("quiet-00001.csv", "\nfinish,1,1,"), "it isn't written");
+            eventually("quiet-00001.csv", "\nfinish,1,1,");
             end(pool);
+            eventually("quiet-00001.csv", "\nidle");
         });
         tell("the thread that writes goes, and so can the class", () -> {
             eventually(() -> Thread.getAllStackTraces().keySet().stream().noneMatch(t -> t.getName().equals("RecordedThreadPoolExecutor")), "it stays");
@@ -236,25 +254,18 @@ public final class RecorderFaults {
             URLClassLoader loader = new URLClassLoader(classes, ClassLoader.getPlatformClassLoader());
             WeakReference<ClassLoader> gone = new WeakReference<>(loader);
             ThreadPoolExecutor pool = (ThreadPoolExecutor) loader.loadClass("RecordedThreadPoolExecutor")
-                .getConstructor(int.class, int.class, long.class, TimeUnit.class, int.class, Path.class, String.class)
-                .newInstance(1, 2, 1, TimeUnit.SECONDS, 4, folder, "dropped");
+                .getConstructor(int.class, int.class, long.class, TimeUnit.class, BlockingQueue.class, Path.class, String.class)
+                .newInstance(1, 2, 1, TimeUnit.SECONDS, queue(4), folder, "dropped");
             demand(runs(pool, 100) == 100, "a task isn't run");
             pool = null;
             loader = null;
-            eventually(() -> {
-                System.gc();
-                return gone.get() == null;
-            }, "the class stays");
-            demand(has("dropped-00001.csv", "\nidle"), "the rest isn't written");
+            eventually(() -> { System.gc(); return gone.get() == null; }, "the class stays");
+            has("dropped-00001.csv", "\nidle");
         });
         tell("a disk that is too slow", () -> {
-            ThreadFactory usual = RecordedThreadPoolExecutor.writers;
             CountDownLatch gate = new CountDownLatch(1);
-            RecordedThreadPoolExecutor.writers = work -> new Thread(() -> {
-                hold(gate);
-                work.run();
-            });
-            RecordedThreadPoolExecutor pool = open(folder, "slow", 1, 2, 1, 0);
+            RecordedThreadPoolExecutor.writers = work -> new Thread(() -> { hold(gate); work.run(); });
+            RecordedThreadPoolExecutor pool = open("slow", 1, 2, 1);
             for (int i = 0; i < 150_000; i++) try { pool.execute(() -> { }); } catch (RejectedExecutionException full) { Thread.onSpinWait(); }
             RecordedThreadPoolExecutor.writers = usual;
             gate.countDown();
@@ -263,38 +274,26 @@ public final class RecorderFaults {
         });
         tell("the bytes of its files are bounded, and one stays", () -> {
             for (int bytes : new int[] {2000, 1}) {
-                RecordedThreadPoolExecutor pool = new RecordedThreadPoolExecutor(1, 1, 1, TimeUnit.SECONDS, 9, THREADS, new AbortPolicy(), folder, "bytes" + bytes, 0, bytes);
-                CountDownLatch gate = new CountDownLatch(1);
-                pool.execute(() -> hold(gate));
-                for (int i = 0; i < 30; i++) demand(pool.getQueue().offer(() -> { }) && pool.getQueue().poll() != null, "no place");
-                gate.countDown();
-                end(pool);
-                demand(pool.endRecord() == null, "the record ended");
+                String name = "bytes" + bytes;
+                RecordedThreadPoolExecutor pool = new RecordedThreadPoolExecutor(1, 1, 1, TimeUnit.SECONDS, queue(9), THREADS, new AbortPolicy(), folder, name, 0, bytes);
+                for (int i = 0; i < 30; i++) again(pool);
+                whole(pool, 3, 3);
                 long sum = 0;
-                for (String file : files("bytes" + bytes)) sum += Files.size(folder.resolve(file));
-                demand(bytes == 1 ? files("bytes1").size() == 1 : sum > 1000 && sum <= bytes, "there are " + files("bytes" + bytes) + " with " + sum);
+                for (String file : files(name)) sum += Files.size(folder.resolve(file));
+                demand(bytes == 1 ? files(name).size() == 1 : sum > 1000 && sum <= bytes, "there are " + files(name) + " with " + sum);
             }
         });
         tell("two pools of one name", () -> {
-            RecordedThreadPoolExecutor one = open(folder, "twin", 1, 1, 4, 0), other = open(folder, "twin", 1, 1, 4, 0);
-            demand(runs(one, 10) + runs(other, 10) == 20 && one.endRecord() == null && other.endRecord() == null, "a record ended");
+            RecordedThreadPoolExecutor one = open("twin", 1, 1, 4), other = open("twin", 1, 1, 4);
+            whole(one, 10, 10);
+            whole(other, 10, 10);
             demand(files("twin").equals(List.of("twin-00001.csv", "twin-00002.csv")), "there are " + files("twin"));
-        });
-        tell("a record that begins anew", () -> {
-            RecordedThreadPoolExecutor pool = open(folder, "anew", 1, 1, 4, 0);
-            pool.submit(() -> { }).get();
-            pool.beginRecord();
-            demand(pool.endRecord() == null, "the record ended");
-            pool.submit(() -> { }).get();
-            pool.beginRecord();
-            demand(runs(pool, 5) == 7 && pool.endRecord() == null, "it doesn't go on");
-            demand(files("anew").size() == 2 && has("anew-00002.csv", ": beginRecord was called.\n"), "there are " + files("anew"));
         });
     }
 
     /** Ends the program at once, without a shutdown. */
     private static void exit() throws InterruptedException {
-        RecordedThreadPoolExecutor pool = open(folder, "exit", 1, 2, 400, 0);
+        RecordedThreadPoolExecutor pool = open("exit", 1, 2, 400);
         CountDownLatch ran = new CountDownLatch(300);
         for (int i = 0; i < 300; i++) pool.execute(ran::countDown);
         ran.await();
@@ -305,7 +304,7 @@ public final class RecorderFaults {
         tell("hooks get the callers' own tasks, without the lock", () -> {
             List<Object> seen = Collections.synchronizedList(new ArrayList<>());
             AtomicInteger turn = new AtomicInteger();
-            RecordedThreadPoolExecutor pool = new RecordedThreadPoolExecutor(1, 1, 1, TimeUnit.SECONDS, 9, THREADS, new DiscardPolicy(), folder, "hooks", 0) {
+            RecordedThreadPoolExecutor pool = new RecordedThreadPoolExecutor(1, 1, 1, TimeUnit.SECONDS, queue(9), THREADS, new DiscardPolicy(), folder, "hooks", 0, 0) {
                 private void see(Object what) throws RuntimeException {
                     seen.add(what);
                     Thread other = new Thread(() -> getQueue().peek()); // which takes the lock
@@ -313,25 +312,15 @@ public final class RecorderFaults {
                     try { other.join(20_000); } catch (InterruptedException never) { throw new IllegalStateException(never); }
                     if (other.isAlive()) seen.add("it has the lock");
                 }
-                @Override protected void beforeExecute(Thread thread, Runnable task) {
-                    see(task);
-                    if (turn.incrementAndGet() == 2) throw new IllegalStateException("not this one");
-                }
-                @Override protected void afterExecute(Runnable task, Throwable thrown) {
-                    see(task);
-                    if (turn.get() == 3 && thrown == null) throw new IllegalStateException("a hook that throws");
-                }
+                private void fail(boolean now) { if (now) throw new IllegalStateException("a hook that throws"); }
+                @Override protected void beforeExecute(Thread thread, Runnable task) { see(task); fail(turn.incrementAndGet() == 2); }
+                @Override protected void afterExecute(Runnable task, Throwable thrown) { see(task); fail(turn.get() == 3 && thrown == null); }
                 @Override protected void terminated() { see("terminated"); }
             };
-            pool.setThreadFactory(task -> {
-                Thread thread = new Thread(task);
-                thread.setUncaughtExceptionHandler((t, thrown) -> { });
-                return thread;
-            });
             Runnable task = () -> seen.add("runs");
             for (int i = 0; i < 4; i++) pool.execute(task);
             end(pool);
-            demand(pool.getCompletedTaskCount() == 4 && pool.endRecord() == null, "a task isn't run, or the record ended");
+            goesOn(pool);
             demand(seen.equals(List.of(task, "runs", task, task, task, "runs", task, task, task, "runs", task, "terminated")), "seen is " + seen);
             String text = Files.readString(folder.resolve("hooks-00001.csv"));
             demand(text.split("\nfinish,").length == 5 && text.split("\ntake,").length == 4, "it has " + text);
@@ -345,11 +334,13 @@ public final class RecorderFaults {
     private static void puts() {
         tell("tasks that other hands put", () -> {
             CountDownLatch gate = new CountDownLatch(1);
-            RecordedThreadPoolExecutor pool = open(folder, "puts", 2, 2, 2, 0);
+            RecordedThreadPoolExecutor pool = open("puts", 2, 2, 2);
+            List<Thread> threads = new ArrayList<>();
+            pool.setThreadFactory(task -> { threads.add(new Thread(task)); return threads.get(threads.size() - 1); });
             BlockingQueue<Runnable> queue = pool.getQueue();
-            queue.put(() -> { });                                                             // without a thread the record ends
-            pool.execute(() -> hold(gate));                                                   // and begins anew
-            demand(queue.offer(() -> { }, 1, TimeUnit.MILLISECONDS), "there is a place");      // below the core size: a new file
+            queue.put(() -> { });                                                         // without a thread the record ends
+            pool.execute(() -> hold(gate));                                               // and begins again
+            demand(queue.offer(() -> { }, 1, TimeUnit.MILLISECONDS), "there is a place"); // below the core size: a new file
             pool.execute(() -> hold(gate));
             while (queue.size() < 2) queue.add(() -> { });
             demand(!queue.offer(() -> { }) && !queue.offer(() -> { }, 1, TimeUnit.MILLISECONDS), "there is no place");
@@ -362,29 +353,54 @@ public final class RecorderFaults {
             demand(queue.poll(1, TimeUnit.SECONDS) != null && queue.take() != null && queue.poll(1, TimeUnit.MILLISECONDS) == null, "it gives others");
             gate.countDown();
             end(pool);
+            for (Thread thread : threads) thread.join();
             queue.put(() -> { }); // nobody runs it
             demand("tasks wait, and the pool has no thread".equals(pool.endRecord()), "the record goes on");
-            demand(has("puts-00002.csv", ": a thread came.\n"), "there are " + files("puts"));
+            has("puts-00002.csv", ": a thread came.\n");
         });
-    }
-
-    /** Waits until so many do, or a second. */
-    private static void await(CountDownLatch gate) {
-        gate.countDown();
-        try { gate.await(1, TimeUnit.SECONDS); } catch (InterruptedException ended) { Thread.currentThread().interrupt(); }
+        tell("a thread that doesn't come, for a hand-off", () -> {
+            CountDownLatch gate = new CountDownLatch(1);
+            RecordedThreadPoolExecutor pool = open("late", 1, 3, 0);
+            pool.setThreadFactory(task -> new Thread(() -> { hold(gate); task.run(); }));
+            pool.prestartCoreThread();
+            pool.setThreadFactory(THREADS);
+            Thread.currentThread().interrupt();
+            pool.submit(() -> { });
+            demand(Thread.interrupted() && pool.getPoolSize() == 2, "it waits for ever, or isn't interrupted");
+            gate.countDown();
+            eventually("late-00002.csv", ": a thread came.\n");
+            whole(pool, 3, 4);
+        });
+        tell("what other hands hand over", () -> {
+            CountDownLatch gate = new CountDownLatch(1), ran = new CountDownLatch(3);
+            RecordedThreadPoolExecutor pool = open("handed", 1, 1, 0);
+            BlockingQueue<Runnable> queue = pool.getQueue();
+            pool.setRejectedExecutionHandler((task, to) -> { try { queue.put(task); } catch (InterruptedException ended) { ran.countDown(); } });
+            pool.execute(() -> hold(gate));
+            demand(!queue.offer(ran::countDown) && !queue.offer(ran::countDown, 1, TimeUnit.MILLISECONDS) && queue.poll() == null, "there is a thread");
+            Thread waits = new Thread(() -> pool.execute(() -> { })), other = new Thread(() -> pool.execute(ran::countDown));
+            waits.start();
+            eventually(() -> waits.getState() == Thread.State.WAITING || waits.getState() == Thread.State.TIMED_WAITING, "it doesn't wait");
+            waits.interrupt();
+            other.start();
+            eventually(() -> ran.getCount() == 2, "it isn't interrupted");
+            gate.countDown();
+            queue.put(ran::countDown);
+            demand(ran.await(20, TimeUnit.SECONDS), "it isn't run");
+            end(pool);
+            goesOn(pool);
+            has("handed-00001.csv", ",handed,");
+        });
     }
 
     private static void failingThreads() {
         tell("a factory that gives no thread at times", () -> {
             AtomicInteger asked = new AtomicInteger();
-            RecordedThreadPoolExecutor pool = open(folder, "threads", 2, 4, 5, 0);
+            RecordedThreadPoolExecutor pool = open("threads", 2, 4, 5);
             pool.setThreadFactory(task -> {
                 int turn = asked.incrementAndGet() % 3;
-                if (turn == 1) return null;
                 if (turn == 2) throw new IllegalStateException("no thread");
-                Thread thread = new Thread(task);
-                thread.setUncaughtExceptionHandler((t, thrown) -> { });
-                return thread;
+                return turn == 1 ? null : new Thread(task);
             });
             for (int i = 0; i < 200; i++) {
                 try { pool.execute(() -> { throw new IllegalStateException("a task that throws"); }); }
@@ -398,55 +414,37 @@ public final class RecorderFaults {
         tell("a factory that gives a thread at the second time", () -> {
             demand(runs(givenThreads("second", 1, 1, 2, "-+"), 20) == 20, "a task isn't run");
             RecordedThreadPoolExecutor pool = givenThreads("extra", 2, 4, 1, "+--+");
-            CountDownLatch gate = new CountDownLatch(3);
-            for (int i = 0; i < 3; i++) pool.execute(() -> await(gate));
-            end(pool);
-            demand(pool.getCompletedTaskCount() == 3 && pool.endRecord() == null, "a task isn't run, or the record ended");
+            CyclicBarrier all = new CyclicBarrier(3);
+            for (int i = 0; i < 3; i++) pool.submit(() -> all.await(1, TimeUnit.SECONDS));
+            whole(pool, 0, 3);
         });
         tell("a thread that can't start", () -> {
             RecordedThreadPoolExecutor pool = givenThreads("start", 2, 2, 9, "+.+.-");
             pool.execute(() -> { });
             try { pool.execute(() -> { }); } catch (OutOfMemoryError none) { Thread.yield(); }
             pool.execute(() -> { throw new IllegalStateException("a task that throws"); });
-            demand(runs(pool, 10) >= 12 && pool.endRecord() == null, "a task isn't run, or the record ended");
+            whole(pool, 10, 12);
         });
         tell("a step that throws when it has begun", () -> {
             RecordedThreadPoolExecutor pool = givenThreads("thrown", 1, 4, 9, "+.+.");
             CountDownLatch gate = new CountDownLatch(1);
             pool.execute(() -> hold(gate));
             for (int i = 0; i < 5; i++) pool.execute(() -> { });
-            try { pool.setCorePoolSize(3); } catch (OutOfMemoryError none) { Thread.yield(); }
-            try { pool.prestartAllCoreThreads(); } catch (OutOfMemoryError none) { Thread.yield(); }
+            for (Runnable step : List.<Runnable>of(() -> pool.setCorePoolSize(3), pool::prestartAllCoreThreads))
+                try { step.run(); } catch (OutOfMemoryError none) { Thread.yield(); }
             gate.countDown();
-            end(pool);
-            demand(pool.getCorePoolSize() == 3 && pool.getCompletedTaskCount() == 6, "a size is another, or a task isn't run");
-            demand(pool.endRecord() == null, "the record ended");
-        });
-        tell("the pool's parts are the user's own", () -> {
-            RecordedThreadPoolExecutor pool = open(folder, "parts", 1, 1, 1, 0);
-            AbortPolicy handler = new AbortPolicy();
-            pool.setRejectedExecutionHandler(handler);
-            demand(pool.getThreadFactory() == THREADS && pool.getRejectedExecutionHandler() == handler, "it hands out others");
-            pool.setThreadFactory(pool.getThreadFactory());
-            demand(runs(pool, 20) == 20 && pool.endRecord() == null, "the record ended");
+            demand(pool.getCorePoolSize() == 3, "a size is another");
+            whole(pool, 0, 6);
         });
     }
 
     public static void main(String[] args) throws InterruptedException {
         folder = Path.of(args[0]);
+        Thread.setDefaultUncaughtExceptionHandler((thread, thrown) -> { });
         if (args.length > 1) exit();
-        LOGGER.addHandler(new Handler() {
-            @Override public void publish(LogRecord told) { TOLD.add(told.getMessage()); }
-            @Override public void flush() { TOLD.size(); }
-            @Override public void close() { TOLD.size(); }
-        });
-        writing();
-        puts();
-        hooks();
-        refusals();
-        faults();
-        hands();
-        failingThreads();
-        System.exit(0); // a pool of what failed may have threads left
+        LOGGER.setFilter(told -> { TOLD.add(told.getMessage()); return false; });
+        for (Step each : List.<Step>of(RecorderFaults::writing, RecorderFaults::puts, RecorderFaults::hooks, RecorderFaults::refusals,
+            RecorderFaults::faults, RecorderFaults::hands, RecorderFaults::failingThreads)) tell("all of it", each);
+        System.exit(0); // a failed pool may have threads left
     }
 }

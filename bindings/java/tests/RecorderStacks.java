@@ -1,27 +1,15 @@
 import java.nio.file.Path;
 import java.util.*;
 import java.util.concurrent.*;
-import java.util.concurrent.atomic.AtomicInteger;
 import java.util.concurrent.locks.LockSupport;
+import java.util.function.Function;
 
 /**
  * Callers whose stack overflows inside the pool: {@code FOLDER POOLS} makes that many pools for each of the calls below, and prints a line
  * 'passed ..' or 'failed ..' for each call: afterwards every pool must run what is submitted to it. tools/check_recorder judges the files.
  */
 public final class RecorderStacks {
-    private static final Map<String, Call> CALLS = new LinkedHashMap<>();
-
     private interface Call { void make(ThreadPoolExecutor pool, int turn); }
-
-    static {
-        CALLS.put("execute", (pool, turn) -> pool.execute(() -> { }));
-        CALLS.put("poll", (pool, turn) -> pool.getQueue().poll());
-        CALLS.put("offer", (pool, turn) -> pool.getQueue().offer(() -> { }));
-        CALLS.put("iterator", (pool, turn) -> pool.getQueue().iterator().hasNext());
-        CALLS.put("remove", (pool, turn) -> pool.remove(null));
-        CALLS.put("setter", (pool, turn) -> pool.setMaximumPoolSize(2 + turn % 3));
-        CALLS.put("prestart", (pool, turn) -> pool.prestartAllCoreThreads());
-    }
 
     private static void recurse(Call call, ThreadPoolExecutor pool, int turn) {
         try { call.make(pool, turn); } catch (RejectedExecutionException full) { Thread.onSpinWait(); }
@@ -37,7 +25,7 @@ public final class RecorderStacks {
         return thread;
     }
 
-    /** Callers, some with more stack than others, one after the other; then whether a task is still run. */
+    /** Runs callers, some with more stack than others, one after the other; then returns whether a task still runs. */
     private static boolean isAlive(ThreadPoolExecutor pool, Runnable work, int stack) throws InterruptedException {
         for (int i = 0; i < 4; i++) start(work, stack + i * 40_000).join(20_000);
         CountDownLatch ran = new CountDownLatch(1);
@@ -47,41 +35,33 @@ public final class RecorderStacks {
                 LockSupport.parkNanos(10_000_000);
             }
         }, 1 << 20);
-        boolean alive = ran.await(20, TimeUnit.SECONDS);
-        if (alive) {
-            pool.shutdown();
-            alive = pool.awaitTermination(20, TimeUnit.SECONDS);
+        if (!ran.await(20, TimeUnit.SECONDS)) return false;
+        pool.shutdown();
+        return pool.awaitTermination(20, TimeUnit.SECONDS);
+    }
+
+    /** Every other pool of a call hands over; but none of those that resubmit, since nothing would end that. */
+    private static void run(String[] args, String name, RejectedExecutionHandler handler, Function<ThreadPoolExecutor, Runnable> work) throws InterruptedException {
+        int pools = Integer.parseInt(args[1]), dead = 0;
+        for (int i = 0; i < pools; i++) {
+            BlockingQueue<Runnable> queue = i % 2 == 0 || name.equals("resubmits") ? new ArrayBlockingQueue<>(4) : new SynchronousQueue<>();
+            ThreadPoolExecutor pool = new RecordedThreadPoolExecutor(2, 3, 1, TimeUnit.SECONDS, queue, Executors.defaultThreadFactory(), handler,
+                Path.of(args[0]), name + "-" + i, 3, 0);
+            if (!isAlive(pool, work.apply(pool), 200_000 + 1000 * i)) dead++;
         }
-        return alive;
-    }
-
-    private static ThreadPoolExecutor open(Path folder, String name, int capacity, RejectedExecutionHandler handler) {
-        return folder.toString().equals("bare")
-            ? new ThreadPoolExecutor(2, 3, 1, TimeUnit.SECONDS, new ArrayBlockingQueue<>(capacity), Executors.defaultThreadFactory(), handler)
-            : new RecordedThreadPoolExecutor(2, 3, 1, TimeUnit.SECONDS, capacity, Executors.defaultThreadFactory(), handler, folder, name, 3);
-    }
-
-    private static void tell(String name, int dead, int pools) {
         System.out.println((dead == 0 ? "passed " : "failed ") + name + ": " + dead + " of " + pools + " pools are dead");
     }
 
     public static void main(String[] args) throws InterruptedException {
-        int pools = Integer.parseInt(args[1]);
-        for (Map.Entry<String, Call> call : CALLS.entrySet()) {
-            int dead = 0;
-            for (int i = 0; i < pools; i++) {
-                ThreadPoolExecutor pool = open(Path.of(args[0]), call.getKey() + "-" + i, 4, new ThreadPoolExecutor.DiscardPolicy());
-                if (!isAlive(pool, () -> recurse(call.getValue(), pool, 0), 200_000 + 1000 * i)) dead++;
-            }
-            tell(call.getKey(), dead, pools);
-        }
-        int dead = 0;
-        for (int i = 0; i < pools; i++) {
-            ThreadPoolExecutor pool = open(Path.of(args[0]), "resubmits-" + i, 4, (task, to) -> to.execute(task));
+        Map<String, Call> calls = Map.of("execute", (pool, turn) -> pool.execute(() -> { }), "poll", (pool, turn) -> pool.getQueue().poll(),
+            "offer", (pool, turn) -> pool.getQueue().offer(() -> { }), "iterator", (pool, turn) -> pool.getQueue().iterator().hasNext(),
+            "remove", (pool, turn) -> pool.remove(null), "setter", (pool, turn) -> pool.setMaximumPoolSize(2 + turn % 3),
+            "time-out", (pool, turn) -> pool.allowCoreThreadTimeOut(turn % 2 == 0), "prestart", (pool, turn) -> pool.prestartAllCoreThreads());
+        for (String name : calls.keySet()) run(args, name, new ThreadPoolExecutor.DiscardPolicy(), pool -> () -> recurse(calls.get(name), pool, 0));
+        run(args, "resubmits", (task, to) -> to.execute(task), pool -> {
             for (int busy = 0; busy < 3 + 4; busy++) pool.execute(() -> LockSupport.parkNanos(100_000_000));
-            if (!isAlive(pool, () -> pool.execute(() -> { }), 200_000 + 1000 * i)) dead++;
-        }
-        tell("resubmits", dead, pools);
+            return () -> pool.execute(() -> { });
+        });
         System.exit(0);
     }
 }
