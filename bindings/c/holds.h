@@ -1,4 +1,4 @@
-/* How the programs here tell what doesn't hold. */
+/* How these programs report what doesn't hold. */
 #include <stdbool.h>
 #include <stdio.h>
 

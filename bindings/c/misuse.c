@@ -1,12 +1,13 @@
-/* Each misuse that the headers name: what is answered, and that nothing is written then. Built with AddressSanitizer it
- * is told too that nothing is read or written but what is a call's, and that nothing is lost but what was overwritten. */
+/* Every misuse that the headers name: what is returned, and that nothing is written. AddressSanitizer also checks
+ * that nothing outside a call's own memory is read or written, and that only what was overwritten is lost. */
 #include "resil_permit.h"
 #include "resil_pool.h"
 #include "resil_retry.h"
 
 #include "holds.h"
 
-/* Each call of an empty pool, or with a null pointer, answers RESIL_EMPTY or 0, and leaves all as it was. */
+/* Every function called with an empty pool or a null pointer returns RESIL_EMPTY or 0, and leaves everything
+ * unchanged. */
 static void of_no_pool(resil_pool pool, resil_pool *back) {
     resil_pool_job job = {1, 2, 3, 4};
     resil_pool_entry event = {1, 2, 3, 4, 5, 6};
@@ -44,7 +45,7 @@ static void of_no_pass(resil_permit_pass pass, resil_permit_pass *back) {
     holds(!resil_permit_exit(back), "exit");
 }
 
-/* The calls without the functions of the header that look at pointers, as another language has them. */
+/* The functions without the header's checks of pointers, as another language calls them. */
 #undef resil_pool_close
 #undef resil_pool_lost
 #undef resil_permit_leave
@@ -65,7 +66,7 @@ static void empty_handles(void) {
     resil_permit_free(pass);
 }
 
-/* A null pointer: the pool still has what it had, and is still the caller's. */
+/* Null pointers: the pool still has what it had, and still belongs to the caller. */
 static void null_pointers(void) {
     resil_pool pool = {0};
     resil_permit_pass pass = {0};
@@ -87,7 +88,8 @@ static void null_pointers(void) {
     resil_permit_free(pass);
 }
 
-/* What is freed while it holds: a pool with jobs that wait and run, a pass with a permit, which is never given back. */
+/* Freed while in use: a pool with waiting and running jobs, and a pass that holds a permit, which is never given
+ * back. */
 static void freed_while_it_holds(void) {
     resil_pool pool = {0};
     resil_permit_pass first = {0}, second = {0};
@@ -105,7 +107,7 @@ static void freed_while_it_holds(void) {
     resil_permit_free(first);
 }
 
-/* A second pool into one handle: the first one is lost, unless a copy was kept to free it by. */
+/* A second pool in the same handle: the first one is lost, unless a copy of the handle was kept to free it. */
 static void new_twice(void) {
     resil_pool pool = {0}, kept;
     resil_pool_counts counts;
@@ -119,7 +121,7 @@ static void new_twice(void) {
     resil_pool_free(kept);
 }
 
-/* What is no interval, since no call has made it, or lies nowhere; and what is to be written to nowhere. */
+/* Intervals that no function has made, or that are nowhere, and null pointers to write to. */
 static void no_intervals(void) {
     resil_retry_interval interval = {0};
     uint64_t wait = 77;

@@ -1,4 +1,4 @@
-/* Each answer, reply and kind of event that the headers have, by its text; and what is none of them. */
+/* Every returned value, reply and kind of event in the headers, with its name; and a value that is none of them. */
 #include "resil_permit.h"
 #include "resil_pool.h"
 #include "resil_retry.h"

@@ -1,5 +1,5 @@
-/* Four threads go in and out of two permits, while an operator retires one and raises it again. There are never more
- * inside than are in use, and all permits come back. With a number behind the program they do so for as many seconds. */
+/* Four threads enter and leave two permits, while an operator retires one and raises it again. There are never more
+ * inside than are in use, and all permits come back. An argument says how many seconds this runs. */
 #define _POSIX_C_SOURCE 200809L /* for pthread_barrier_t */
 
 #include "resil_permit.h"
@@ -22,7 +22,7 @@ static _Atomic long crowded;
 static pthread_barrier_t start;
 static time_t end;
 
-/* Whether a thread goes on, behind so many rounds of those that it makes at least. */
+/* Whether a thread continues after this many rounds; it makes at least a minimum number of them. */
 static bool goes_on(long rounds, long least) {
     return rounds < least || (end != 0 && time(0) < end);
 }

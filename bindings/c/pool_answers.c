@@ -1,4 +1,4 @@
-/* Each answer of a pool that is a refusal, and that the numbers stay what they are then. */
+/* Every reply and error of a pool that refuses something; the numbers stay the same in each case. */
 #include "resil_pool.h"
 
 #include "holds.h"
@@ -13,16 +13,40 @@ static resil_pool_counts numbers(resil_pool *pool) {
 static void ranges(void) {
     resil_pool pool = {0};
     holds(resil_pool_new(0, 1, 1, 1, 0, &pool) == RESIL_POOL_CORE_RANGE, "a core size of 0");
-    holds(resil_pool_new(65, 65, 1, 1, 0, &pool) == RESIL_POOL_CORE_RANGE, "a core size of 65");
-    holds(resil_pool_new(2, 1, 1, 1, 0, &pool) == RESIL_POOL_MAX_RANGE, "a greatest size below the core size");
-    holds(resil_pool_new(1, 65, 1, 1, 0, &pool) == RESIL_POOL_MAX_RANGE, "a greatest size of 65");
+    holds(resil_pool_new(1025, 1025, 1, 1, 0, &pool) == RESIL_POOL_CORE_RANGE, "a core size of 1,025");
+    holds(resil_pool_new(2, 1, 1, 1, 0, &pool) == RESIL_POOL_MAX_RANGE, "a maximum size below the core size");
+    holds(resil_pool_new(1, 1025, 1, 1, 0, &pool) == RESIL_POOL_MAX_RANGE, "a maximum size of 1,025");
     holds(resil_pool_new(1, 1, 0, 1, 0, &pool) == RESIL_POOL_QUEUE_RANGE, "a queue of 0");
     holds(resil_pool_new(1, 1, 65537, 1, 0, &pool) == RESIL_POOL_QUEUE_RANGE, "a queue of 65,537");
     holds(resil_pool_new(1, 1, 1, 0, 0, &pool) == RESIL_POOL_CALLERS_RANGE, "no caller");
     holds(resil_pool_new(1, 1, 1, 65536, 0, &pool) == RESIL_POOL_CALLERS_RANGE, "65,536 callers");
     holds(pool.at == 0, "a pool was written");
-    holds(resil_pool_new(64, 64, 65536, 65535, 0, &pool) == RESIL_POOL_MADE, "the largest pool");
+    holds(resil_pool_new(1024, 1024, 65536, 65535, 0, &pool) == RESIL_POOL_MADE, "the largest pool");
     holds(resil_pool_submit(pool, &pool, 65535, 1, 0) == RESIL_POOL_CORE, "its last caller");
+    resil_pool_free(pool);
+}
+
+/* The largest pool: each of its 1,024 jobs has a worker and a place of its own, and the next one waits. */
+static void many(void) {
+    enum { WORKERS = 1024 };
+    static resil_pool_job jobs[WORKERS];
+    static unsigned char taken[WORKERS];
+    resil_pool pool = {0};
+    resil_pool_job none;
+    holds(resil_pool_new(1, WORKERS, 1, 1, 0, &pool) == RESIL_POOL_MADE, "a pool of up to 1,024");
+    holds(resil_pool_resize(pool, &pool, WORKERS + 1, WORKERS + 1) == RESIL_POOL_RESIZE_CORE_RANGE, "resized to 1,025");
+    holds(resil_pool_resize(pool, &pool, WORKERS, WORKERS) == RESIL_POOL_RESIZED_NOW, "resized to 1,024");
+    for (unsigned number = 1; number <= WORKERS; number++)
+        holds(resil_pool_submit(pool, &pool, 1, number, number) == RESIL_POOL_CORE, "a worker of its own");
+    holds(resil_pool_submit(pool, &pool, 1, WORKERS + 1, 0) == RESIL_POOL_QUEUED, "one more");
+    for (unsigned index = 0; index < WORKERS; index++) {
+        holds(resil_pool_pick(pool, &pool, &jobs[index]) == RESIL_POOL_PICKED_OWN, "it is picked");
+        holds(jobs[index].place < WORKERS && !taken[jobs[index].place]++, "a place of its own");
+    }
+    holds(resil_pool_pick(pool, &pool, &none) == RESIL_POOL_NONE, "no more run");
+    for (unsigned index = 0; index < WORKERS; index++)
+        holds(resil_pool_finish(pool, &pool, 1, jobs[index].number, jobs[index].place) == RESIL_POOL_FINISHED, "it ends");
+    holds(numbers(&pool).finished == WORKERS && numbers(&pool).workers == WORKERS, "all are finished");
     resil_pool_free(pool);
 }
 
@@ -68,13 +92,13 @@ static void ends(resil_pool *pool) {
     holds(numbers(pool).closed == 1 && numbers(pool).workers == 0 && numbers(pool).refused == 2, "the last numbers");
 }
 
-/* Whether a submission is answered so, and told this number. */
+/* Whether a submission gets this reply and this number. */
 static int is_next(resil_pool *pool, uint16_t caller, uint8_t reply, uint64_t number) {
     uint64_t told = 77;
     return resil_pool_submit_next(*pool, pool, caller, 0, &told) == reply && told == number;
 }
 
-/* A number is spent by each answer of the rule, and by no other. */
+/* Each reply of the rule uses up a number, and no other result does. */
 static void next_numbers(void) {
     resil_pool pool = {0};
     holds(resil_pool_new(1, 1, 1, 2, 0, &pool) == RESIL_POOL_MADE, "a pool that counts");
@@ -87,7 +111,7 @@ static void next_numbers(void) {
     resil_pool_free(pool);
 }
 
-/* A pool that keeps no event, and one that keeps two. */
+/* A pool that keeps no events, and one that keeps two. */
 static void last_events(void) {
     resil_pool none = {0}, two = {0};
     resil_pool_entry event;
@@ -112,6 +136,7 @@ static void last_events(void) {
 int main(void) {
     resil_pool pool = {0};
     ranges();
+    many();
     holds(resil_pool_new(1, 1, 1, 2, 0, &pool) == RESIL_POOL_MADE, "a pool");
     submissions(&pool);
     runs(&pool);

@@ -1,13 +1,13 @@
-/* A million jobs through one pool, in the memory that it began with: no call but resil_pool_new takes any. */
+/* A million jobs in one pool, in the memory that it began with: only resil_pool_new allocates any. */
 #include "resil_pool.h"
 
 #include <stdio.h>
 #include <unistd.h>
 
-/* An emulator round the program takes some pages of its own; a byte lost by each job would take 219. */
+/* An emulator around the program takes some pages of its own; a byte lost by each job would take 219. */
 enum { JOBS = 1000000, CALLERS = 8, PAGES_OF_OTHERS = 16 };
 
-/* The pages that are resident, or -1 where the system doesn't tell. */
+/* The number of resident pages, or -1 if the system doesn't say. */
 static long resident_pages(void) {
     long size = 0, resident = -1;
     FILE *file = fopen("/proc/self/statm", "r");

@@ -1,5 +1,5 @@
-/* The pool of examples/pool_threads.c where some threads, or all, can't be started: what was accepted is run and answered all
- * the same, and the numbers are those of a pool that has its threads. */
+/* The pool of examples/pool_threads.c when some threads, or all, can't be started: accepted jobs are run and
+ * answered all the same, and the numbers are those of a pool that has its threads. */
 #include <errno.h>
 #include <pthread.h>
 
@@ -13,7 +13,7 @@ static int start_some(pthread_t *thread, const pthread_attr_t *how, void *(*work
 
 enum { CALLERS = 4, ROUNDS = 200 };
 
-/* A start fails where its bit of these is set, the first bit for the first of eight. Starts are made under the pool's lock. */
+/* A start fails if its bit is set here, the first bit for the first of eight. Starts are made with the pool's lock. */
 static unsigned refused_starts, starts;
 static _Atomic int failed;
 
@@ -34,7 +34,7 @@ static void open_pool(struct pool *pool, uint32_t core, uint32_t max, uint32_t q
     holds(resil_pool_new(core, max, queue, 1, 0, &pool->rule) == RESIL_POOL_MADE, "no pool");
 }
 
-/* Closes a pool, whose last numbers are these. */
+/* Closes a pool, whose last numbers must be these. */
 static void end_pool(struct pool *pool, uint64_t accepted, uint64_t refused) {
     resil_pool_counts counts = {0};
     close_pool(pool);
@@ -57,14 +57,15 @@ static uint64_t third(uint64_t asked) {
     return next(asked);
 }
 
-/* While the first job runs, its worker is busy, though it is no thread: the second job waits, and the third is an extra. */
+/* While the first job runs, its worker is busy, though it isn't a thread: the second job waits, and the third is an
+ * extra. */
 static uint64_t first(uint64_t asked) {
     holds(submit(&pool, &jobs[2]) == RESIL_POOL_QUEUED && !jobs[2].is_answered, "the second");
     holds(submit(&pool, &jobs[3]) == RESIL_POOL_EXTRA && jobs[3].is_answered && jobs[2].is_answered, "the third");
     return next(asked);
 }
 
-/* No thread at all at first; then the worker that is owed gets one at the next job that is queued. */
+/* At first no thread at all; then the worker that is owed gets one with the next queued job. */
 static void no_thread(void) {
     open_pool(&pool, 1, 2, 1, 0x0f);
     for (uint64_t number = 1; number <= 6; number++) jobs[number] = (struct job){.run = next, .asked = number};
@@ -79,7 +80,7 @@ static void no_thread(void) {
     end_pool(&pool, 5, 1);
 }
 
-/* A thread of the test's own: how many of its jobs were accepted. */
+/* A thread of the test's own. Returns how many of its jobs were accepted. */
 static void *submits(void *at) {
     uint64_t *accepted = at;
     for (uint64_t number = 0; number < ROUNDS; number++) {

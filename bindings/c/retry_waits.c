@@ -1,9 +1,9 @@
-/* The waits of a retry: what is made and what is refused, and the waits after each attempt. */
+/* The waits of a retry: which intervals are made and which refused, and the wait after each attempt. */
 #include "resil_retry.h"
 
 #include "holds.h"
 
-/* What is refused, the first refusal where there are several; nothing is written then. */
+/* What is refused, with the first error if there are several; nothing is written. */
 static void refusals(void) {
     const uint64_t most = RESIL_RETRY_MAX_WAIT;
     resil_retry_interval interval = {1, 2, 3, 4, 5};

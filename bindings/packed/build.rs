@@ -1,16 +1,16 @@
-//! Links the static library of the target, which lies in a folder of this crate's folder `lib`.
+//! Links the static library of the target, which is in a folder of this crate's folder `lib`.
 use std::env;
 use std::path::Path;
 
 fn main() {
     let lib = Path::new(env!("CARGO_MANIFEST_DIR")).join("lib");
     let target = env::var("TARGET").expect("cargo sets it");
-    // Of the C library it takes malloc, realloc, free and memset alone, which musl has too.
+    // Of the C library it uses only malloc, realloc, free and memset, which musl has too.
     let folder = lib.join(target.replace("-musl", "-gnu"));
     println!("cargo::rerun-if-changed={}", lib.display());
     if !folder.is_dir() {
         println!(
-            "cargo::error=resil has no library for {target}: its README.md names the targets that it has"
+            "cargo::error=resil has no library for {target}: its README.md lists the supported targets"
         );
         return;
     }

@@ -1,6 +1,6 @@
-//! Finds the static library of cargo's target. Of x86-64 Linux it is two archives, in the folders of `RESIL_LIBRARIES`,
-//! separated by `:`, or else in those of this repository and of the toolchain whose `rt` is on the path; of any other target
-//! what `tools/targets` of the repository has made.
+//! Finds the static library for cargo's target. For x86-64 Linux this is two archives, in the folders of `RESIL_LIBRARIES` (separated by
+//! `:`), or else in those of this repository and of the toolchain whose `rt` is on the path; for any other target, what the repository's
+//! `tools/targets` has made.
 use std::env;
 use std::path::{Path, PathBuf};
 
@@ -8,7 +8,7 @@ fn main() {
     println!("cargo::rerun-if-env-changed=RESIL_LIBRARIES");
     println!("cargo::rerun-if-env-changed=PATH");
     let target = env::var("TARGET").expect("cargo sets it");
-    // Of the C library they take malloc, realloc, free and memset alone, which musl has too.
+    // Of the C library they use only malloc, realloc, free and memset, which musl has too.
     let target = target.replace("-musl", "-gnu");
     if target == "x86_64-unknown-linux-gnu" {
         link_two();
@@ -26,7 +26,7 @@ fn link_one(target: &str) {
         println!("cargo::rustc-link-lib=static=resil");
     } else {
         println!(
-            "cargo::error=resil has no library for {target}: `tools/targets` of the repository makes those that there are"
+            "cargo::error=resil has no library for {target}: the repository's `tools/targets` makes those of the supported targets"
         );
     }
 }
@@ -41,12 +41,12 @@ fn link_two() {
             .find(|archive| archive.is_file());
         let Some(archive) = found else {
             println!(
-                "cargo::error={file} isn't there: `tools/check_bindings` of the repository makes it, and RESIL_LIBRARIES \
+                "cargo::error={file} not found: the repository's `tools/check_bindings` makes it, and RESIL_LIBRARIES \
                  names the folders of libresil_c.a and liblibc_c.a"
             );
             return;
         };
-        // Cargo doesn't look by itself whether a library was built anew.
+        // Cargo doesn't check by itself whether a library was rebuilt.
         println!("cargo::rerun-if-changed={}", archive.display());
         println!("cargo::rustc-link-lib=static={name}");
     }
@@ -65,7 +65,7 @@ fn folders() -> Vec<PathBuf> {
     folders
 }
 
-// The toolchain's folder: `rt` lies in its folder `bin`.
+// The toolchain's folder: `rt` is in its folder `bin`.
 fn toolchain() -> Option<PathBuf> {
     let path = env::var_os("PATH")?;
     let rt = env::split_paths(&path)

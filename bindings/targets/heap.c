@@ -1,5 +1,5 @@
-/* The three functions of C that the library calls, for targets for which the toolchain has none, as it has them for x86-64 Linux.
- * It includes no header, and gives a pair back as two words, so that any target compiles it. */
+/* The three C functions that the library calls, for targets for which the toolchain doesn't have them, as it does for x86-64 Linux. It
+ * includes no header and returns a pair as two words, so that any target compiles it. */
 typedef __SIZE_TYPE__ word;
 typedef struct tried {
     word is_there;
@@ -10,7 +10,7 @@ void *malloc(word);
 void *realloc(void *, word);
 void free(void *);
 
-/* What a refused call points at: nothing is read or written there. */
+/* What a failed call points to: nothing is read or written there. */
 static char nothing;
 
 static tried told(void *at) { return (tried){at != 0, (word)(at ? at : &nothing)}; }

@@ -1,5 +1,5 @@
-/* Drops the answer of each call that says whether there is a permit, a handle or a job. A compiler warns at each: tools/check_bindings
- * counts that, and no program is made of this. */
+/* Ignores the value returned by each function that says whether there is a permit, a handle or a job. A compiler warns about
+ * each: tools/check_bindings counts the warnings. No program is built from this file. */
 #include "resil_permit.h"
 #include "resil_pool.h"
 
@@ -16,7 +16,7 @@ void drop_all(resil_permit_pass *pass, resil_permit_pass *other, resil_pool *poo
     resil_pool_submit(*pool, pool, 1, 1, 7);
     resil_pool_submit_next(*pool, pool, 1, 7, &number);
     resil_pool_pick(*pool, pool, &job);
-    /* These need no look. */
+    /* These may be ignored. */
     resil_permit_exit(pass);
     resil_permit_available(*pass, pass);
     resil_pool_close(*pool, pool);

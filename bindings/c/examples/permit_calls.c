@@ -1,5 +1,6 @@
-/* At most two calls at a time to a neighbour: each call is made under a permit, and refused where there is none. Three
- * threads call it at once, each with a pass of its own, and no call ends before all three have asked for their permit. */
+/* At most two concurrent calls to a backend: each call is made under a permit, and refused if there is none. Three
+ * threads call it at the same time, each with its own pass, and no call ends before all three have asked for a
+ * permit. */
 #define _POSIX_C_SOURCE 200809L /* for pthread_barrier_t */
 
 #include "resil_permit.h"
@@ -9,7 +10,7 @@
 
 enum { PERMITS = 2, CALLERS = 3 };
 
-/* Who calls: a pass of the neighbour's permits, and whether the call was made. */
+/* A caller: a pass of the backend's permits, and whether its call was made. */
 struct caller {
     resil_permit_pass pass;
     bool is_answered;
@@ -17,12 +18,12 @@ struct caller {
 
 static pthread_barrier_t all_have_asked;
 
-/* The neighbour, which is slow. */
+/* The backend, which is slow. */
 static void call(void) {
     pthread_barrier_wait(&all_have_asked);
 }
 
-/* Whether the call was made: it is refused at once where all permits are held. */
+/* Returns whether the call was made: it is refused at once if all permits are held. */
 static bool call_under_permit(resil_permit_pass *pass) {
     if (!resil_permit_enter(pass)) return false;
     call();

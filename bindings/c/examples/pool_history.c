@@ -1,6 +1,6 @@
-/* What happened to a pool, as a text that the program judges: ./pool_history | ../bin/resil audit
+/* What happened to a pool, as text for the program to judge: ./pool_history | ../bin/resil audit
  *
- * Its core size is 1, its greatest size 2, and its queue has one place. It keeps all its events, of which there are few. */
+ * The pool has core size 1, maximum size 2, and one place in its queue. It keeps all its events, which are few. */
 #include "resil_pool.h"
 
 #include <inttypes.h>
@@ -14,7 +14,8 @@ static bool submit(resil_pool *pool, uint64_t work) {
     return resil_pool_submit_next(*pool, pool, CALLER, work, &number) <= RESIL_POOL_CLOSED;
 }
 
-/* Picks and finishes one job after the other, and ends the workers that may end; whether each job was out. */
+/* Picks and finishes one job after the other, and ends the workers that may end. Returns whether each finish was
+ * accepted. */
 static bool run_all(resil_pool *pool) {
     resil_pool_job job;
     while (resil_pool_pick(*pool, pool, &job) <= RESIL_POOL_PICKED_QUEUE)
@@ -23,7 +24,7 @@ static bool run_all(resil_pool *pool) {
     return true;
 }
 
-/* Four jobs, one more after a resize, and one after the closing. */
+/* Four jobs, one more after a resize, and one after the pool is closed. */
 static bool live(resil_pool *pool) {
     for (uint64_t work = 1; work <= 4; work++)
         if (!submit(pool, work)) return false;
@@ -32,7 +33,7 @@ static bool live(resil_pool *pool) {
     return submit(pool, 6) && run_all(pool);
 }
 
-/* One line: the event, and of a job its caller and number, of a submission its reply, of a resize the new sizes. */
+/* One line: the event; a job's caller and number; a submission's reply; a resize's new sizes. */
 static void tell(const resil_pool_entry *event) {
     printf("%s,", resil_pool_kind_name(event->kind));
     if (event->number > 0) printf("%u", (unsigned)event->caller);

@@ -1,5 +1,5 @@
-/* A pool of threads over the rule: jobs run on threads of the program's own, and each answer is waited for. Where a thread
- * can't be started, who submits does its work. */
+/* A pool of threads built on the rule: jobs run on the program's own threads, and the program waits for each answer.
+ * If a thread can't be started, the submitter does its work. */
 #include "resil_pool.h"
 
 #include <inttypes.h>
@@ -7,20 +7,20 @@
 #include <stdbool.h>
 #include <stdio.h>
 
-/* A job: a function with what it is asked, and its answer. It stays where it is until it is answered. */
+/* A job: a function, its argument, and its answer. It must not move until it is answered. */
 struct job {
     uint64_t (*run)(uint64_t asked);
     uint64_t asked, answer;
     bool is_answered;
 };
 
-/* The rule under its lock. No job runs while it is locked, and each change of anything here is told to all who wait. */
+/* The rule and its lock. No job runs while it is locked, and each change here is signalled to all waiters. */
 struct pool {
     resil_pool rule;
     pthread_mutex_t lock;
     pthread_cond_t changed;
-    unsigned threads; /* threads that do a worker's part */
-    unsigned owed;    /* workers of the rule for which no thread was started */
+    unsigned threads; /* threads that act as workers */
+    unsigned owed;    /* workers of the rule without a thread */
 };
 
 /* Picks, runs and finishes one job after the other until there is none to pick. The pool is locked before and after. */
@@ -38,7 +38,7 @@ static void run_jobs(struct pool *pool) {
     }
 }
 
-/* A thread of the pool: it ends where its worker may. */
+/* A thread of the pool. It exits when its worker may end. */
 static void *work(void *at) {
     struct pool *pool = at;
     pthread_mutex_lock(&pool->lock);
@@ -53,7 +53,7 @@ static void *work(void *at) {
     return 0;
 }
 
-/* Starts the threads that are owed. Where one can't be started, this thread does what its worker would. */
+/* Starts the threads that are owed. If one can't be started, this thread does its worker's part. */
 static void see_to_workers(struct pool *pool) {
     pthread_t thread;
     while (pool->owed > 0 && pthread_create(&thread, 0, work, pool) == 0) {
@@ -70,7 +70,7 @@ static void see_to_workers(struct pool *pool) {
     pthread_cond_broadcast(&pool->changed);
 }
 
-/* Submits a job, and answers as the rule. All callers are caller 1. */
+/* Submits a job, and returns the rule's reply. All callers are caller 1. */
 static uint8_t submit(struct pool *pool, struct job *job) {
     uint64_t number;
     pthread_mutex_lock(&pool->lock);
@@ -88,7 +88,7 @@ static uint64_t wait_for(struct pool *pool, struct job *job) {
     return job->answer;
 }
 
-/* Closes the pool, and waits until all that was accepted is done and no thread is left. */
+/* Closes the pool, and waits until every accepted job is done and no thread is left. */
 static void close_pool(struct pool *pool) {
     pthread_mutex_lock(&pool->lock);
     resil_pool_close(pool->rule, &pool->rule);
@@ -107,7 +107,7 @@ static uint64_t primes_below(uint64_t limit) {
     return count;
 }
 
-/* Two threads, up to ten jobs, and one that comes too late. */
+/* Two threads, up to ten jobs, and one job that comes too late. */
 int main(void) {
     static struct pool pool = {.lock = PTHREAD_MUTEX_INITIALIZER, .changed = PTHREAD_COND_INITIALIZER};
     static struct job jobs[10], late = {.run = primes_below, .asked = 2};

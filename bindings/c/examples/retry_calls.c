@@ -1,5 +1,5 @@
-/* A call that is tried up to four times: 20 ms lie behind the first attempt, and behind each next one three halves of the
- * wait before. */
+/* A call that is tried up to four times: the wait after the first attempt is 20 ms, and each later one is one and a
+ * half times the wait before. */
 #define _POSIX_C_SOURCE 200809L /* for nanosleep */
 
 #include "resil_retry.h"
@@ -12,7 +12,7 @@
 
 enum { ATTEMPTS = 4 };
 
-/* The neighbour, which answers the third call. */
+/* The backend, which answers the third call. */
 static bool call(uint64_t *answer) {
     static int calls;
     *answer = 42;
@@ -26,7 +26,7 @@ static bool sleep_for(uint64_t ms) {
     return true;
 }
 
-/* Calls until there is an answer, or no attempt is left. */
+/* Calls until there is an answer or no attempt is left. */
 static bool call_with_retry(const resil_retry_interval *interval, uint64_t *answer) {
     for (uint32_t attempt = 1; !call(answer); attempt++) {
         uint64_t wait;

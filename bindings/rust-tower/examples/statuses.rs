@@ -1,4 +1,4 @@
-//! What a server answers to a call that had no permit: 503 at once where too many wait already, and 504 after a wait in vain.
+//! What a server answers to a call without a permit: 503 at once if too many already wait, and 504 if the wait times out.
 use resil::Bulkhead;
 use resil_tower::{BulkheadLayer, CallError};
 use std::error::Error;
@@ -25,7 +25,7 @@ pub async fn main() -> Result<(), Box<dyn Error>> {
     let mut service = layer.layer(service_fn(async |number: u32| Ok(number + 1)));
     let service = service.ready().await.map_err(|error| error.to_string())?;
     let permit = backend.enter()?;
-    // The first waits for 20 ms, and nobody may wait behind it.
+    // The first waits for 20 ms, and nobody may wait after it.
     let (first, second) = tokio::join!(service.call(41), service.call(41));
     println!("{} and {}", status(&first), status(&second));
     assert_eq!((status(&first), status(&second)), (504, 503));

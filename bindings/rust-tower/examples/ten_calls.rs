@@ -1,5 +1,5 @@
-//! A backend that takes three calls at a time, and ten calls of it at once: all are made where calls wait for a permit, and three
-//! where they are refused.
+//! A backend that takes three calls at a time, and ten concurrent calls: all are made if calls wait for a permit, and three if they are
+//! refused.
 use resil::Bulkhead;
 use resil_tower::{BulkheadLayer, CallError};
 use std::convert::Infallible;
@@ -51,7 +51,7 @@ pub async fn main() -> Result<(), Box<dyn Error>> {
     }
     assert_eq!(counts(calls).await?, (3, 7));
 
-    // Who gives up drops the call, and its permit is free again.
+    // Giving up drops the call, and its permit is free again.
     let call = service.ready().await?.call(Duration::MAX);
     let late = tokio::time::timeout(Duration::from_millis(1), call).await;
     assert!(late.is_err());

@@ -7,7 +7,7 @@ use std::pin::Pin;
 use std::task::{Context, Poll, ready};
 
 pin_project! {
-    /// The answer of a call, or why there is none.
+    /// A call's answer, or why there is none.
     ///
     /// It holds the permit from `call` on, polled or not, and gives it back before it is ready, or when it is dropped.
     #[derive(Debug)]
@@ -25,7 +25,7 @@ pin_project! {
         Refused {
             refused: NoPermit,
         },
-        // Dropped in this order, so that all of the call is over when its permit is free.
+        // Fields are dropped in this order, so that the call is completely over when its permit is free.
         Running {
             #[pin]
             call: F,
@@ -59,7 +59,7 @@ where
 
     /// # Panics
     ///
-    /// Where it is polled once more after it was ready.
+    /// If it is polled again after it was ready.
     #[inline]
     fn poll(self: Pin<&mut Self>, context: &mut Context<'_>) -> Poll<Self::Output> {
         let mut state = self.project().state;
@@ -68,7 +68,7 @@ where
             Projected::Running { call, .. } => {
                 ready!(call.poll(context)).map_err(CallError::Failed)
             }
-            Projected::Over => panic!("a call was polled after its answer"),
+            Projected::Over => panic!("a call's future was polled after completion"),
         };
         state.set(State::Over);
         Poll::Ready(answer)

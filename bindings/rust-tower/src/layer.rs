@@ -1,22 +1,22 @@
-//! The layer.
+//! The layer that refuses calls, or takes permits before them.
 use crate::BulkheadService;
 use resil::Bulkhead;
 use std::sync::Arc;
 use tower_layer::Layer;
 
-/// Puts a bulkhead round a service. All services of a layer and of its copies share the bulkhead's permits.
+/// Puts a bulkhead around a service. All services of a layer and its clones share the bulkhead's permits.
 ///
-/// Of the three that there are, [`queueing`](BulkheadLayer::queueing) makes calls wait, [`new`](BulkheadLayer::new) refuses what finds
-/// no permit, and [`waiting`](BulkheadLayer::waiting) takes a permit before a call is there.
+/// There are three kinds: [`queueing`](BulkheadLayer::queueing) makes calls wait for a permit, [`new`](BulkheadLayer::new) refuses calls
+/// that find none, and [`waiting`](BulkheadLayer::waiting) takes a permit before there is a call.
 #[derive(Debug, Clone)]
-#[must_use = "a layer does nothing before it is put round a service"]
+#[must_use = "a layer does nothing before it is put around a service"]
 pub struct BulkheadLayer {
     bulkhead: Arc<Bulkhead>,
     waits: bool,
 }
 
 impl BulkheadLayer {
-    /// A layer over this bulkhead, which may also be used elsewhere.
+    /// Makes a layer over this bulkhead, which may also be used elsewhere.
     ///
     /// ```
     /// # use {resil::Bulkhead, resil_tower::BulkheadLayer, std::sync::Arc};
@@ -32,12 +32,12 @@ impl BulkheadLayer {
         }
     }
 
-    /// A layer over this bulkhead whose services are ready once they have a permit for the next call, as tower's
-    /// `ConcurrencyLimit` is: so nothing is refused. Those who wait stand in the bulkhead's row.
+    /// Makes a layer over this bulkhead whose services are ready once they have a permit for the next call, like tower's
+    /// `ConcurrencyLimit`: so nothing is refused. Services wait in the bulkhead's queue.
     ///
-    /// **What is ready keeps its permit, whether a call follows or not.** A server of hyper asks whether its service is ready before
-    /// it reads a request, so that idle connections take all permits, and nobody else is served; and tower's `Timeout` outside
-    /// doesn't bound this wait. Behind a server [`queueing`](BulkheadLayer::queueing) is the one to take.
+    /// **A service that is ready keeps its permit, whether a call follows or not.** A hyper server polls its service for readiness before
+    /// it reads a request, so idle connections take all the permits, and nobody else is served. tower's `Timeout` around it doesn't bound
+    /// this wait either. In a server, use [`queueing`](BulkheadLayer::queueing).
     ///
     /// ```
     /// # use {resil::Bulkhead, resil_tower::BulkheadLayer, std::sync::Arc};

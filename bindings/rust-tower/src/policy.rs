@@ -1,4 +1,4 @@
-//! A retry as a policy of tower.
+//! A retry as a tower policy.
 use pin_project_lite::pin_project;
 use resil::{Attempts, ErrorTest, EveryError, NoValue, Retry, ValueTest};
 use std::fmt;
@@ -8,14 +8,14 @@ use std::sync::Arc;
 use std::task::{Context, Poll, ready};
 use std::time::Duration;
 
-/// A [`Retry`] as a policy of tower's `Retry`, which waits by the futures that a function gives, as `tokio::time::sleep`.
+/// A [`Retry`] as a policy for tower's `Retry`. It waits by awaiting the futures that a function such as `tokio::time::sleep` returns.
 ///
-/// Each call of the service begins anew, as a copy of the policy does; all share the retry, with its jitter and its observer. A
-/// request is copied for the next attempt, which waits until the service is ready, by its `Clone` or as [`cloning`](RetryPolicy::cloning)
-/// says. A service may be dropped, and a call at any time:
-/// what is under way then is dropped, and no other attempt follows.
+/// Each call of the service starts anew, with a clone of the policy; all clones share the retry, its jitter and its observer. A request
+/// is copied for the next attempt, with its `Clone` or with the function passed to [`cloning`](RetryPolicy::cloning), and that attempt
+/// waits until the service is ready. You can drop a service or a call at any time: what is in progress is dropped, and no other attempt
+/// follows.
 ///
-/// With the feature `retry` it is a policy of tower 0.4:
+/// With the feature `retry` it implements the policy of tower 0.4:
 ///
 /// ```
 /// # #[cfg(not(feature = "retry"))]
@@ -30,7 +30,7 @@ use std::time::Duration;
 ///
 /// let backend = Arc::new(Bulkhead::new("backend", 25)?);
 /// let retry = Retry::new().interval(Interval::fixed(Duration::from_millis(1)));
-/// // A permit is taken for each attempt.
+/// // Each attempt takes a permit.
 /// let mut fails = ServiceBuilder::new()
 ///     .retry(RetryPolicy::new(retry, tokio::time::sleep))
 ///     .layer(BulkheadLayer::new(backend))
@@ -40,7 +40,7 @@ use std::time::Duration;
 /// # }
 /// ```
 ///
-/// For another version of tower a type of one's own around it has the trait by [`again`](RetryPolicy::again).
+/// For other versions of tower, implement their trait for a wrapper of your own, using [`again`](RetryPolicy::again).
 pub struct RetryPolicy<
     S,
     Errors = EveryError,
@@ -55,7 +55,7 @@ pub struct RetryPolicy<
 }
 
 impl<S, Errors, Values, Pause> RetryPolicy<S, Errors, Values, Pause> {
-    /// A policy of this retry, with what gives a future that is ready after a while.
+    /// Makes a policy of this retry. `sleep` returns a future that is ready after the given time.
     pub fn new<F>(retry: Retry<Errors, Values, Pause>, sleep: S) -> Self
     where
         S: Fn(Duration) -> F + Clone,
@@ -71,7 +71,7 @@ impl<S, Errors, Values, Pause> RetryPolicy<S, Errors, Values, Pause> {
 }
 
 impl<S, Errors, Values, Pause, Cloning> RetryPolicy<S, Errors, Values, Pause, Cloning> {
-    /// The same, which copies requests by this function, also those that aren't `Clone`. One that it doesn't copy is sent once.
+    /// Copies requests with this function, even those that aren't `Clone`. A request that it doesn't copy is sent only once.
     ///
     /// ```
     /// # use {resil::Retry, resil_tower::RetryPolicy};
@@ -91,12 +91,12 @@ impl<S, Errors, Values, Pause, Cloning> RetryPolicy<S, Errors, Values, Pause, Cl
         }
     }
 
-    /// The wait before the next attempt of this call; none where the outcome is the answer.
+    /// The wait before the next attempt of this call, or `None` if the outcome is the answer.
     ///
     /// ```
     /// # use {resil::Retry, resil_tower::RetryPolicy};
     /// let mut policy = RetryPolicy::new(Retry::new(), tokio::time::sleep);
-    /// // What succeeds is the answer.
+    /// // A success is the answer.
     /// assert!(policy.again(Ok::<_, &()>(&42)).is_none());
     /// ```
     pub fn again<T, E, F>(&mut self, outcome: Result<&T, &E>) -> Option<F>
@@ -109,7 +109,7 @@ impl<S, Errors, Values, Pause, Cloning> RetryPolicy<S, Errors, Values, Pause, Cl
         Some((self.sleep)(wait))
     }
 
-    // The same call further on.
+    // The same call, continued.
     fn same(&self) -> Self
     where
         S: Clone,
@@ -123,7 +123,7 @@ impl<S, Errors, Values, Pause, Cloning> RetryPolicy<S, Errors, Values, Pause, Cl
     }
 }
 
-/// A copy is for another call, which begins here.
+/// A clone is for another call, which begins with it.
 impl<S: Clone, Errors, Values, Pause, Cloning> Clone
     for RetryPolicy<S, Errors, Values, Pause, Cloning>
 {
@@ -146,14 +146,14 @@ impl<S, Errors, Values, Pause, Cloning> fmt::Debug
     }
 }
 
-/// How the requests of a type are copied for the next attempt. Functions of a reference to the request do it:
-/// [`RetryPolicy::cloning`] takes them.
+/// How requests of a type are copied for the next attempt. Functions of a reference to the request implement it: pass one to
+/// [`RetryPolicy::cloning`].
 pub trait CloneRequest<Request> {
-    /// A copy; none where it isn't to be sent again.
+    /// Returns a copy, or `None` if the request isn't to be sent again.
     fn cloned(&self, request: &Request) -> Option<Request>;
 }
 
-/// Copies each request by its `Clone`.
+/// Copies each request with its `Clone`.
 #[derive(Debug, Clone, Copy)]
 pub struct EveryClone;
 
@@ -170,7 +170,7 @@ impl<Request, F: Fn(&Request) -> Option<Request>> CloneRequest<Request> for F {
 }
 
 pin_project! {
-    /// The wait of a [`RetryPolicy`] before the next attempt, which gives the policy back.
+    /// The wait of a [`RetryPolicy`] before the next attempt. Its output is the policy.
     #[derive(Debug)]
     #[must_use = "a future that isn't polled does nothing"]
     pub struct Wait<F, P> {
@@ -185,7 +185,7 @@ impl<F: Future<Output = ()>, P> Future for Wait<F, P> {
 
     /// # Panics
     ///
-    /// Where it is polled once more after it was ready.
+    /// If it is polled again after it was ready.
     fn poll(self: Pin<&mut Self>, context: &mut Context<'_>) -> Poll<P> {
         let this = self.project();
         ready!(this.sleep.poll(context));

@@ -12,12 +12,13 @@ use tower_layer::Layer;
 use tower_service::Service;
 
 impl BulkheadLayer {
-    /// A layer over this bulkhead whose services are ready at once, and whose calls wait for a permit, first come, first served by
-    /// their first polls. While nobody calls, nothing is held: an idle connection has neither a permit nor a place in the row.
+    /// Makes a layer over this bulkhead whose services are always ready, and whose calls wait for a permit, first come, first served, in
+    /// the order of their first polls. Nothing is held between calls: an idle connection has neither a permit nor a place in the queue.
     ///
-    /// A call waits as long as there is no permit and the inner service isn't ready, unless its future is dropped, as by tower's `Timeout` outside, or the layer is
-    /// told [how long](QueueingLayer::longest) a call may wait, or [how many](QueueingLayer::most_waiting). The inner service is
-    /// asked whether it is ready once there is a permit, so each call has a copy of it.
+    /// A call waits until there is a permit and the inner service is ready. The wait ends early if its future is dropped (by a tower
+    /// `Timeout` around it, for example), or if the layer limits [how long](QueueingLayer::longest) or [how
+    /// many](QueueingLayer::most_waiting) calls may wait. The inner service is polled for readiness once there is a permit, so each call
+    /// has its own clone of it.
     ///
     /// ```
     /// # use {resil::Bulkhead, resil_tower::BulkheadLayer, std::sync::Arc};
@@ -35,9 +36,9 @@ impl BulkheadLayer {
     }
 }
 
-/// Puts a bulkhead round a service whose calls wait for its permits. [`BulkheadLayer::queueing`] makes it.
+/// Puts a bulkhead around a service whose calls wait for its permits. Made by [`BulkheadLayer::queueing`].
 #[derive(Clone)]
-#[must_use = "a layer does nothing before it is put round a service"]
+#[must_use = "a layer does nothing before it is put around a service"]
 pub struct QueueingLayer<P = fn(Duration) -> Pending<()>> {
     bulkhead: Arc<Bulkhead>,
     most_waiting: usize,
@@ -46,10 +47,10 @@ pub struct QueueingLayer<P = fn(Duration) -> Pending<()>> {
 }
 
 impl<P> QueueingLayer<P> {
-    /// The same, but a call ends by [`CallError::TimedOut`] if it hasn't begun after so long, which is Resilience4j's
-    /// `maxWaitDuration`: it has no permit, or the inner service isn't ready then. In the second case the permit is given back, and the
-    /// bulkhead's observer is told by `call_timed_out`. Once the inner service is called there is no limit. The function gives a future
-    /// that is ready after a while, as `tokio::time::sleep` does.
+    /// Limits how long a call may wait, as Resilience4j's `maxWaitDuration` does: it ends with [`CallError::TimedOut`] if it hasn't begun
+    /// by then, because it has no permit or because the inner service isn't ready. In the second case the permit is given back, and this
+    /// is reported to the bulkhead's observer with `call_timed_out`. There is no limit once the inner service has been called. `sleep`
+    /// returns a future that is ready after the given time, as `tokio::time::sleep` does.
     ///
     /// ```
     /// # use {resil::Bulkhead, resil_tower::BulkheadLayer, std::sync::Arc, std::time::Duration};
@@ -71,8 +72,8 @@ impl<P> QueueingLayer<P> {
         }
     }
 
-    /// The same, but a call is refused by [`CallError::Full`] at once where it would have to wait and so many wait for the bulkhead
-    /// already, by this layer or otherwise.
+    /// Limits how many calls may wait: one that would have to wait is refused at once with [`CallError::Full`] if `most` calls already
+    /// wait for the bulkhead, through this layer or otherwise.
     ///
     /// ```
     /// # use {resil::Bulkhead, resil_tower::BulkheadLayer, std::sync::Arc};
@@ -98,7 +99,7 @@ impl<S, P: Clone> Layer<S> for QueueingLayer<P> {
     }
 }
 
-// By hand, since a function such as `tokio::time::sleep` isn't `Debug`.
+// Written by hand, since a function such as `tokio::time::sleep` isn't `Debug`.
 impl<P> fmt::Debug for QueueingLayer<P> {
     fn fmt(&self, f: &mut fmt::Formatter<'_>) -> fmt::Result {
         f.debug_struct("QueueingLayer")
@@ -109,7 +110,7 @@ impl<P> fmt::Debug for QueueingLayer<P> {
     }
 }
 
-/// Calls copies of a service under permits of a bulkhead, for which the calls wait. It is always ready. A [`QueueingLayer`] makes it.
+/// Calls clones of a service under permits of a bulkhead, which the calls wait for. It is always ready. Made by a [`QueueingLayer`].
 #[derive(Clone)]
 pub struct QueueingService<S, P = fn(Duration) -> Pending<()>> {
     inner: S,
@@ -161,9 +162,9 @@ where
 }
 
 pin_project! {
-    /// The answer of a call that waits for its permit first, or why there is none.
+    /// The answer of a call that first waits for its permit, or why there is none.
     ///
-    /// It stands in the bulkhead's row from its first poll on. It gives the permit back before it is ready, or when it is dropped.
+    /// It is in the bulkhead's queue from its first poll on. It gives the permit back before it is ready, or when it is dropped.
     #[must_use = "a future that isn't polled makes no call"]
     pub struct QueueingFuture<S, Request, P, F>
     where
@@ -172,12 +173,12 @@ pin_project! {
         acquire: Acquire,
         longest: Duration,
         sleep: P,
-        // From the first look on that finds no permit, or an inner service that isn't ready.
+        // Set from the first poll that finds no permit, or an inner service that isn't ready.
         #[pin]
         timer: Option<F>,
-        // Until it is called: the service, and what it is asked.
+        // The service and the request, until the service is called.
         next: Option<(S, Request)>,
-        // While the service isn't ready yet.
+        // Set while the service isn't ready yet.
         permit: Option<OwnedPermit>,
         #[pin]
         call: Option<ResponseFuture<S::Future>>,
@@ -190,7 +191,7 @@ where
     P: Fn(Duration) -> F,
     F: Future<Output = ()>,
 {
-    // Whether there is a permit and the inner service is ready, both within the call's time limit.
+    // Waits for a permit and for the inner service to be ready, both within the call's time limit.
     #[inline]
     fn poll_begin(
         self: Pin<&mut Self>,
@@ -234,12 +235,12 @@ where
         }
         let mut this = self.project();
         if let Some(((mut inner, request), permit)) = this.next.take().zip(this.permit.take()) {
-            // Where the inner service panics, the permit is dropped.
+            // If the inner service panics, the permit is dropped.
             let call = ResponseFuture::running(inner.call(request), permit);
             this.call.set(Some(call));
         }
         let call = this.call.as_pin_mut();
-        call.expect("a call was polled after its answer")
+        call.expect("a call's future was polled after completion")
             .poll(context)
     }
 }
@@ -254,7 +255,7 @@ where
 
     /// # Panics
     ///
-    /// Where it is polled once more after it was ready.
+    /// If it is polled again after it was ready.
     #[inline]
     fn poll(mut self: Pin<&mut Self>, context: &mut Context<'_>) -> Poll<Self::Output> {
         let answer = ready!(self.as_mut().poll_answer(context));

@@ -8,11 +8,11 @@ use std::sync::Arc;
 use std::task::{Context, Poll, ready};
 use tower_service::Service;
 
-/// Calls a service under permits of a bulkhead. Its copies share them. A [`BulkheadLayer`](crate::BulkheadLayer) makes it.
+/// Calls a service under permits of a bulkhead, which its clones share. Made by a [`BulkheadLayer`](crate::BulkheadLayer).
 ///
-/// One of [`BulkheadLayer::new`](crate::BulkheadLayer::new) is ready whenever the inner service is, also while all permits are
-/// held: a call is refused at once then, by [`CallError::Full`]. So a caller never waits for a permit, and tower's `LoadShed` isn't needed. The inner service isn't
-/// called by a refused call, and stays ready for the next one.
+/// A service of [`BulkheadLayer::new`](crate::BulkheadLayer::new) is ready whenever the inner service is, even while all permits are
+/// held: then a call is refused at once, with [`CallError::Full`]. So a caller never waits for a permit, and needs no `LoadShed` of
+/// tower. A refused call doesn't call the inner service, which stays ready for the next one.
 ///
 /// ```
 /// use resil_tower::{BulkheadLayer, CallError};
@@ -30,9 +30,8 @@ use tower_service::Service;
 /// # }
 /// ```
 ///
-/// One that [`BulkheadLayer::waiting`](crate::BulkheadLayer::waiting) has made is ready once it has a permit for the next
-/// call, and once the inner service is. A copy of it has no permit yet. Where it is dropped before the call, the permit is
-/// given back, or its place in the row is left.
+/// A service of [`BulkheadLayer::waiting`](crate::BulkheadLayer::waiting) is ready once it has a permit for the next call and the inner
+/// service is ready. A clone has no permit yet. If it is dropped before the call, it gives back the permit, or leaves the queue.
 #[derive(Debug)]
 pub struct BulkheadService<S> {
     inner: S,
@@ -40,12 +39,12 @@ pub struct BulkheadService<S> {
     next: Next,
 }
 
-/// What the next call has.
+/// What there is for the next call.
 #[derive(Debug)]
 enum Next {
-    // It takes a permit, or is refused.
+    // The call takes a permit, or is refused.
     Asks,
-    // It waits for one.
+    // The service waits for one.
     Waits(Acquire),
     Has(OwnedPermit),
 }
@@ -96,7 +95,7 @@ where
 
     /// # Panics
     ///
-    /// Where the service waits for permits and wasn't ready.
+    /// If the service waits for permits and wasn't ready.
     #[inline]
     fn call(&mut self, request: Request) -> Self::Future {
         let permit = match &self.next {
@@ -111,7 +110,7 @@ where
             }
         };
         match permit {
-            // Where the inner service panics, the permit is dropped.
+            // If the inner service panics, the permit is dropped.
             Ok(permit) => ResponseFuture::running(self.inner.call(request), permit),
             Err(refused) => ResponseFuture::refused(refused),
         }

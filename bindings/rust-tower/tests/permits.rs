@@ -1,5 +1,5 @@
-//! What the service answers, and that each permit is given back once: by an answer, by a future that is dropped at whichever step, and
-//! by a panic.
+//! What the service returns, and that each permit is given back just once: with an answer, with a future that is dropped at any step, and
+//! after a panic.
 mod common;
 
 use common::{Answers, context, polled};
@@ -23,7 +23,7 @@ enum Panics {
     InDrop,
 }
 
-// Each call is pending so many times, and then answers 42. A future that is dropped tells how many permits were free.
+// Each call is pending this many times, and then answers 42. A future that is dropped records how many permits were free.
 #[derive(Clone)]
 struct Backend<'a> {
     panics: Panics,
@@ -75,7 +75,7 @@ impl Drop for Answer<'_> {
 
 type Guarded<'a> = BulkheadService<Backend<'a>>;
 
-// Plays with a service that panics there, over a bulkhead of one permit; it must be free in the end, and just once.
+// Runs with a service that panics there, over a bulkhead of one permit, which must be free in the end, and just once.
 fn play(panics: Panics, played: impl FnOnce(&Bulkhead, Guarded<'_>)) -> Result<(), BulkheadError> {
     let bulkhead = Arc::new(Bulkhead::new("backend", 1)?);
     let free_at_drop = Cell::new(None);
@@ -165,7 +165,7 @@ fn the_inner_future_panics_while_it_is_dropped() -> Result<(), BulkheadError> {
         let call = service.call(0);
         assert!(has_panicked(|| drop(call)));
         assert_eq!(bulkhead.available(), 1);
-        // A call that has its answer drops the inner future too.
+        // A call that has its answer also drops the inner future.
         let mut call = Box::pin(service.call(0));
         assert!(has_panicked(|| call.as_mut().poll(&mut context())));
         assert_eq!(bulkhead.available(), 1);
@@ -173,7 +173,7 @@ fn the_inner_future_panics_while_it_is_dropped() -> Result<(), BulkheadError> {
 }
 
 #[test]
-#[should_panic(expected = "a call was polled after its answer")]
+#[should_panic(expected = "a call's future was polled after completion")]
 fn a_future_is_polled_after_its_answer() {
     let bulkhead = Arc::new(Bulkhead::new("backend", 0).expect("it has its memory"));
     let hangs = service_fn(|_: ()| future::pending::<Result<(), ()>>());
@@ -204,7 +204,7 @@ fn a_refused_call_does_not_reach_the_inner_service() -> Result<(), Box<dyn std::
     let permits = [bulkhead.enter()?, bulkhead.enter()?];
     // The inner service would panic.
     let refused = service.call(1);
-    // It was refused when it was made: a permit that is given back later doesn't change it.
+    // It was refused when it was made: a permit that is given back later doesn't change that.
     drop(permits);
     assert_eq!(polled(refused), Poll::Ready(Err(CallError::Full)));
     assert_eq!(bulkhead.available(), 2);
@@ -214,7 +214,7 @@ fn a_refused_call_does_not_reach_the_inner_service() -> Result<(), Box<dyn std::
     Ok(())
 }
 
-// The clock stands still while something can be done.
+// The clock is paused while there is something to do.
 #[tokio::test(start_paused = true)]
 async fn it_stands_between_layers_of_tower() -> Result<(), BoxError> {
     let bulkhead = Arc::new(Bulkhead::new("backend", 1)?);

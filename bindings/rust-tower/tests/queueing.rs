@@ -1,4 +1,4 @@
-//! The layer whose calls wait: nothing is held before a call, and at each step of one its future may be dropped.
+//! The layer whose calls wait: nothing is held before a call, and its future may be dropped at each step.
 mod common;
 
 use common::{Answers, Checked, all_are_made, is_idle, polled};
@@ -40,7 +40,7 @@ fn calls_are_served_in_order() -> Checked {
 #[test]
 fn a_call_is_dropped_at_each_step() -> Checked {
     let (backend, mut service) = queueing(2)?;
-    // While it waits, and with a permit that it was given and hasn't seen.
+    // While it waits, and with a permit that it was given but hasn't seen.
     for is_given in [false, true] {
         let permit = backend.enter()?;
         let mut call = Box::pin(service.call(7));
@@ -52,7 +52,7 @@ fn a_call_is_dropped_at_each_step() -> Checked {
         drop(held);
         assert!(is_idle(&backend));
     }
-    // While the inner service isn't ready, with the permit, and while it answers.
+    // While the inner service isn't ready but there is a permit, and during the call.
     for polls in 1..=2 {
         let mut call = Box::pin(service.call(0));
         for _ in 0..polls {
@@ -85,7 +85,7 @@ fn no_permit_is_left_where_there_is_no_call() -> Checked {
     let mut call = Box::pin(service.call(1));
     let panics = AssertUnwindSafe(|| polled(&mut call));
     assert!(catch_unwind(panics).is_err() && is_idle(&backend));
-    // The bulkhead is closed, while it waits and before it asks.
+    // The bulkhead is closed, while a call waits and before one asks.
     let permit = backend.enter()?;
     let mut call = Box::pin(service.call(7));
     assert!(polled(&mut call).is_pending());
@@ -118,7 +118,7 @@ impl Observer for Refusals {
 }
 
 impl Refusals {
-    // How the waits ended that were told since the last look.
+    // How the waits ended that were reported since the last call.
     fn waits(&self) -> Vec<WaitEnd> {
         let mut waits = self.2.lock().expect("nobody panics with it");
         waits.drain(..).map(|(end, _)| end).collect()
@@ -143,7 +143,7 @@ async fn an_inner_service_that_is_never_ready_keeps_no_permit() -> Checked {
         counts.1.load(Ordering::SeqCst),
     );
     assert_eq!((counts, refusals.waits()), ((0, 1), vec![WaitEnd::Granted]));
-    // Half of the time goes by for the permit, and the rest for the inner service.
+    // Half of the time passes while it waits for the permit, and the rest for the inner service.
     let permit = backend.enter_owned()?;
     let gives_back = async {
         tokio::time::sleep(limit / 2).await;
@@ -181,7 +181,7 @@ async fn a_client_that_goes_away_is_told_once() -> Checked {
 fn a_layer_with_a_limit_is_shown() -> Checked {
     let backend = Arc::new(Bulkhead::new("backend", 1)?);
     let layer = BulkheadLayer::queueing(backend).longest(Duration::ZERO, tokio::time::sleep);
-    // With a sleep that can't be shown itself.
+    // With a sleep that has no `Debug` itself.
     let shown = format!("{:?}", layer.layer(Answers { looks: 0 }));
     assert!(shown.starts_with("QueueingService { inner: Answers"));
     assert!(shown.contains("longest: 0ns"));
@@ -199,14 +199,14 @@ fn few_may_wait() -> Checked {
     assert!(calls.iter_mut().all(|call| polled(call).is_pending()));
     let full = Poll::Ready(Err(CallError::Full));
     assert_eq!(polled(&mut Box::pin(service.call(9))), full);
-    // Who gives up makes room for another one.
+    // A call that gives up makes room for another one.
     let [first, second] = calls;
     drop(first);
     let mut third = Box::pin(service.call(9));
     assert!(polled(&mut third).is_pending());
     drop((second, third, permit));
     assert!(is_idle(&backend));
-    // Nobody waits where a permit is free.
+    // Nobody waits if a permit is free.
     let mut service = BulkheadLayer::queueing(Arc::clone(&backend))
         .most_waiting(0)
         .layer(Answers { looks: 0 });
@@ -229,14 +229,14 @@ async fn a_call_waits_for_so_long() -> Checked {
     assert!((limit..2 * limit).contains(&begun.elapsed()));
     assert_eq!(backend.numbers().waiting, 0);
     assert_eq!(refusals.0.load(Ordering::SeqCst), 1);
-    // One that is given a permit meanwhile has its answer, and by no time then.
+    // A call that is given a permit in time gets its answer, with no limit after that.
     let gives_back = async {
         tokio::time::sleep(limit / 2).await;
         drop(permit);
     };
     let (answer, ()) = tokio::join!(service.call(7), gives_back);
     assert_eq!((answer, refusals.0.load(Ordering::SeqCst)), (Ok(7), 1));
-    // A timeout outside bounds it too.
+    // A timeout around it also bounds the wait.
     let permit = backend.enter()?;
     let mut service = ServiceBuilder::new()
         .timeout(limit)

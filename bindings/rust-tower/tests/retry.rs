@@ -1,4 +1,4 @@
-//! A retry as a policy of tower: what is called again, after which waits, and what is left where it is dropped.
+//! A retry as a tower policy: what is called again, after which waits, and what is left when it is dropped.
 #![cfg(feature = "retry")]
 mod common;
 
@@ -16,10 +16,10 @@ use tower::{Service, ServiceBuilder, ServiceExt};
 
 type Answer = Result<u32, &'static str>;
 
-/// What each attempt of a call comes to, first to last; the last one again where there are more. Without an answer it hangs.
+/// The result of each attempt of a call, first to last; the last one is repeated. Without an answer it hangs.
 type Step = Option<Answer>;
 
-/// Goes through the steps, and counts its attempts, also those that are under way.
+/// Goes through the steps, and counts its attempts, including those in progress.
 #[derive(Clone)]
 struct Backend {
     steps: &'static [Step],
@@ -42,7 +42,7 @@ impl Backend {
     }
 }
 
-// One attempt, counted out also where it is dropped.
+// One attempt, counted as over even if it is dropped.
 struct UnderWay(Arc<AtomicU32>);
 
 impl Drop for UnderWay {
@@ -83,7 +83,7 @@ fn retry() -> Retry {
     Retry::new().interval(Interval::fixed(WAIT))
 }
 
-// The clock stands still while something can be done, so the waits are told exactly.
+// The clock is paused while there is something to do, so the waits are exact.
 #[tokio::test(start_paused = true)]
 async fn it_calls_again_after_each_wait() -> Checked {
     let doubled = Interval::exponential(WAIT, (2, 1), Interval::LONGEST)?;
@@ -108,7 +108,7 @@ async fn it_calls_again_after_each_wait() -> Checked {
         let answer = service.ready().await?.call(1).await;
         assert_eq!(answer, wanted, "{steps:?}");
         assert_eq!(backend.counts(), (attempts, 0), "{steps:?}");
-        // Tokio's timer goes by whole milliseconds, and rounds up.
+        // Tokio's timer counts whole milliseconds, and rounds up.
         let ms = (began.elapsed() - WAIT * waited).as_millis();
         assert!(ms <= 3, "{steps:?}: {ms} ms more");
     }
@@ -124,11 +124,11 @@ async fn each_call_has_its_own_attempts_and_its_own_end() -> Checked {
         assert_eq!(service.ready().await?.call(1).await, Err("busy"));
         assert_eq!(backend.counts(), (3 * call, 0));
     }
-    // Two at once, by copies.
+    // Two at once, by clones.
     let (first, second) = (service.clone().oneshot(1), service.clone().oneshot(1));
     assert_eq!(tokio::join!(first, second), (Err("busy"), Err("busy")));
     assert_eq!(backend.counts(), (15, 0));
-    // A wait that would go beyond the end isn't begun.
+    // A wait that would end after the limit isn't begun.
     let backend = Backend::new(&[BUSY]);
     let late = RetryPolicy::new(retry().attempts(9).within(WAIT * 5 / 2), tokio::time::sleep);
     let mut service = ServiceBuilder::new().retry(late).service(backend.clone());
@@ -159,7 +159,7 @@ async fn a_permit_is_taken_for_each_attempt() -> Checked {
         assert_eq!((answer, looked), (Ok(42), (1, (1, 0))));
         assert_eq!(backend.counts(), (3, 0));
     }
-    // A refusal is an error as any other, and is retried.
+    // A refusal is an error like any other, and is retried.
     let refused = |error: &CallError<&str>| *error == CallError::Full;
     let policy = RetryPolicy::new(retry().retry_if(refused), tokio::time::sleep);
     let mut service = ServiceBuilder::new()
@@ -236,7 +236,7 @@ async fn a_call_is_dropped_at_each_step() -> Checked {
             assert!(is_free());
         }
 
-        // With a permit that it was given, and hasn't seen.
+        // With a permit that it was given but hasn't seen.
         let (backend, mut service) = made(&[BUSY, HANGS]);
         let mut call = Box::pin(service.ready().await?.call(1));
         assert!(polled(&mut call).is_pending());

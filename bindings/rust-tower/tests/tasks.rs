@@ -11,8 +11,8 @@ const PERMITS: u32 = 8;
 const TASKS: u64 = 64;
 const CALLS: u64 = 500;
 
-// Calls the service many times, and counts what was answered, refused and given up. Each fifth call is given up after so many steps of
-// others as its number says.
+// Calls the service many times, and counts the calls that were answered, refused and given up. Each fifth call is given up after as many
+// steps of others as its number says.
 async fn calls<S>(mut service: S) -> Result<[u64; 3], CallError<Infallible>>
 where
     S: Service<u64, Response = u64, Error = CallError<Infallible>>,
@@ -43,7 +43,7 @@ where
     Ok(counts)
 }
 
-// One call inside, counted out also where it is dropped.
+// One call inside, counted as over even if it is dropped.
 struct Inside(Arc<AtomicU32>);
 
 impl Drop for Inside {

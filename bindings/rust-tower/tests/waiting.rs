@@ -30,12 +30,12 @@ fn a_service_is_ready_once_it_has_a_permit() -> Checked {
     assert_eq!(backend.available(), 1);
     assert!(is_ready(&mut first) && is_ready(&mut first));
     assert_eq!(backend.available(), 0);
-    // A copy has no permit.
+    // A clone has no permit.
     assert!(!is_ready(&mut second) && !is_ready(&mut first.clone()));
     let answer = first.call(7);
     assert!(!is_ready(&mut first) && !is_ready(&mut second));
     assert!(matches!(polled(answer), Poll::Ready(Ok(7))));
-    // The second one stands before the first one now.
+    // The second one is now before the first one.
     assert!(!is_ready(&mut first) && is_ready(&mut second));
     drop(second);
     assert!(is_ready(&mut first));
@@ -55,7 +55,7 @@ fn a_call_is_dropped_at_each_step() -> Checked {
     assert!(is_ready(&mut ready));
     drop(ready);
     assert!(is_free());
-    // While it waits, and with a permit that it was given and hasn't seen.
+    // While it waits, and with a permit that it was given but hasn't seen.
     let permit = backend.enter()?;
     let mut waits = service.clone();
     assert!(!is_ready(&mut waits));
@@ -88,7 +88,7 @@ fn a_call_is_dropped_at_each_step() -> Checked {
 #[test]
 fn a_permit_is_kept_while_the_inner_service_is_not_ready() -> Checked {
     let backend = Arc::new(Bulkhead::new("backend", 1)?);
-    // Dropped while it isn't ready, once it has failed, and behind a panic.
+    // Dropped while it isn't ready, once it has failed, and after a panic.
     for looks in [4, 3, Answers::PANICS + 2] {
         let mut service = BulkheadLayer::waiting(Arc::clone(&backend)).layer(Answers { looks });
         assert!(service.poll_ready(&mut context()).is_pending());
@@ -99,7 +99,7 @@ fn a_permit_is_kept_while_the_inner_service_is_not_ready() -> Checked {
         drop(service);
         assert!(is_idle(&backend));
     }
-    // A task that awaits it and is given up: `oneshot` has the service.
+    // A task that awaits it and gives up: `oneshot` owns the service.
     let service = BulkheadLayer::waiting(Arc::clone(&backend)).layer(Answers { looks: 2 });
     let mut call = Box::pin(service.oneshot(7));
     assert!(polled(call.as_mut()).is_pending() && backend.available() == 0);

@@ -1,4 +1,4 @@
-//! At most two calls of a backend at a time; a third one is refused at once.
+//! At most two concurrent calls of a backend; a third one is refused at once.
 use resil::{Bulkhead, Full};
 
 pub fn main() -> Result<(), Box<dyn std::error::Error>> {

@@ -1,4 +1,4 @@
-//! A retry round a bulkhead, and a fallback round both.
+//! A retry around a bulkhead, and a fallback around both.
 use resil::{Bulkhead, CallError, Decorators, Interval, Refusal, Retry, ThreadPool};
 use std::error::Error;
 use std::fmt;
@@ -24,7 +24,7 @@ impl Error for PriceError {}
 
 pub fn main() -> Result<(), Box<dyn Error>> {
     let backend = Bulkhead::new("prices", 2)?;
-    // A refusal is an error as any other, and retried here; so is what is busy.
+    // A refusal is an error like any other, and is retried here; so is `Busy`.
     let retry = Retry::new()
         .interval(Interval::fixed(Duration::from_millis(1)))
         .retry_if(|error: &CallError<PriceError>| *error != CallError::Failed(PriceError::Unknown));
@@ -48,7 +48,7 @@ pub fn main() -> Result<(), Box<dyn Error>> {
     assert_eq!(price(|| Ok(42))?, 0);
     drop(permits);
 
-    // A chain whose function takes an argument is kept, and called by reference, by many threads at once.
+    // A chain whose function takes an argument is kept and called by reference, from many threads at once.
     let by_id = Decorators::of(|id: u32| id.checked_sub(7).ok_or(PriceError::Unknown))
         .inside(&backend)
         .retried(&retry);
@@ -56,7 +56,7 @@ pub fn main() -> Result<(), Box<dyn Error>> {
     let id = 6;
     assert_eq!(by_id.call(id), Err(CallError::Failed(PriceError::Unknown)));
 
-    // Each attempt may be a job of a pool: a refused one is an error of the function.
+    // Each attempt may be a job of a pool: a refused job is an error of the function.
     let pool = ThreadPool::builder(1, 1).queue(1).open()?;
     let unless_closed = Retry::new()
         .retry_if(|error: &CallError<Refusal>| *error == CallError::Failed(Refusal::Full));

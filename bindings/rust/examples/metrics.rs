@@ -1,7 +1,7 @@
-//! A service whose numbers a dashboard reads, at `/metrics`, and that logs what its retry does.
+//! A service whose numbers a dashboard reads at `/metrics`, and which logs what its retry does.
 //!
-//! With an address as its argument, as in `cargo run --example metrics 127.0.0.1:9464`, it serves there until it is ended; else
-//! on a free port, for one request of its own.
+//! Given an address as its argument, as in `cargo run --example metrics 127.0.0.1:9464`, it serves there until it is stopped. Otherwise
+//! it serves on a free port, for one request of its own.
 use resil::metrics::Metrics;
 use resil::{BulkheadRegistry, Interval, Observer, Retry, ThreadPool};
 use std::env;
@@ -39,7 +39,7 @@ impl Service {
         })
     }
 
-    // What the service does: a price that comes at the second attempt, a call that is refused, and a letter.
+    // What the service does: a price that comes with the second attempt, a call that is refused, and a letter.
     fn work(&self) -> Result<(), Box<dyn Error>> {
         let prices = self.neighbours.bulkhead("prices")?;
         let both: [Arc<dyn Observer>; 2] = [Arc::new(Log), self.metrics.clone()];
@@ -88,7 +88,7 @@ pub fn main() -> Result<(), Box<dyn Error>> {
     let address = given.unwrap_or(SocketAddr::from((Ipv4Addr::LOCALHOST, 0)));
     let listener = TcpListener::bind(address)?;
     while given.is_some() {
-        // A caller that is gone is no failure of the service.
+        // A caller that has gone away is no failure of the service.
         let _gone = service.serve(&listener);
     }
     let mut stream = TcpStream::connect(listener.local_addr()?)?;

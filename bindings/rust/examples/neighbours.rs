@@ -1,10 +1,10 @@
-//! A server that asks two neighbours, of which one hangs: without bulkheads, and with them.
+//! A server with two backends, one of which hangs: without bulkheads, and with them.
 //!
-//! Its eight threads answer calls by what one of the two neighbours says. Sixteen callers ask for the slow one first, then others
-//! ask for the good one. All of it is in this program, and ends within seconds.
+//! Its eight threads answer each call with what one of the two backends says. Sixteen callers ask for the slow one first, then others ask
+//! for the good one. Everything is in this program, and ends within seconds.
 //!
-//! With the word `picture` it plays six seconds of each half instead, of which the slow neighbour hangs for two, and writes
-//! what the callers met with as an SVG.
+//! With the argument `picture` it runs each half for six seconds instead, in which the slow backend hangs for two, and writes how the
+//! callers fared as an SVG.
 #[path = "neighbours/picture.rs"]
 mod picture;
 
@@ -14,41 +14,40 @@ use std::sync::{Arc, Condvar, Mutex, PoisonError};
 use std::thread::{self, JoinHandle};
 use std::time::{Duration, Instant};
 
-/// The threads of the server.
+/// The server's threads.
 const THREADS: u32 = 8;
-/// How many calls of a neighbour its bulkhead lets in at once.
+/// How many concurrent calls of a backend its bulkhead allows.
 const PERMITS: u32 = 4;
 const SLOW_CALLERS: u32 = 16;
 const GOOD_CALLERS: usize = 4;
-/// How many calls of the good neighbour each of its callers makes, one after the other, while it is answered.
+/// How many calls of the good backend each of its callers makes, one after the other, as long as they are answered.
 const GOOD_CALLS: usize = 50;
-/// How long a caller of the good neighbour waits for an answer, where there are no bulkheads.
+/// How long a caller of the good backend waits for an answer if there are no bulkheads.
 const PATIENCE: Duration = Duration::from_secs(1);
-/// After so long any wait is given up: something else went wrong.
+/// After this time any wait is given up: something else went wrong.
 const LIMIT: Duration = Duration::from_secs(60);
-/// How long a half of the picture is, and when the slow neighbour begins and ends to hang in it.
+/// How long a half of the chart is, and when the slow backend starts and stops hanging in it.
 const LENGTH: Duration = Duration::from_secs(6);
 const HANGS: [Duration; 2] = [Duration::from_secs(2), Duration::from_secs(4)];
-/// The callers of a half of the picture: whether they ask for the slow neighbour, how many they are, and how long each pauses
-/// behind a call.
+/// The callers in a half of the chart: whether they ask for the slow backend, how many there are, and how long each pauses after a call.
 const STEADY: [(bool, u32, Duration); 2] = [
     (false, 4, Duration::from_millis(20)),
     (true, 8, Duration::from_millis(40)),
 ];
 const STEADY_PATIENCE: Duration = Duration::from_millis(500);
 
-/// What one call met with.
+/// The result of one call.
 #[derive(Clone, Copy, Debug)]
 pub struct Met {
-    /// When it had its answer, or was given up.
+    /// When it had its answer or was given up.
     at: Duration,
-    /// Whether it was for the slow neighbour.
+    /// Whether it was for the slow backend.
     slow: bool,
-    /// The status of the answer, where one came.
+    /// The status of the answer, if there was one.
     status: Option<u16>,
 }
 
-/// How many calls of a neighbour were answered by it, refused by its bulkhead, and given up by their callers.
+/// How many calls of a backend were answered by it, refused by its bulkhead, and given up by their callers.
 #[must_use]
 pub fn counts(all: &[Met], slow: bool) -> [usize; 3] {
     let mut counts = [0; 3];
@@ -62,7 +61,7 @@ pub fn counts(all: &[Met], slow: bool) -> [usize; 3] {
     counts
 }
 
-/// What a neighbour does with calls.
+/// How a backend treats calls.
 #[derive(Clone, Copy, PartialEq)]
 enum Mood {
     Answers,
@@ -70,7 +69,7 @@ enum Mood {
     Gone,
 }
 
-/// A neighbour, and the bulkhead round it where there is one.
+/// A backend, and its bulkhead if it has one.
 struct Neighbour {
     bulkhead: Option<Bulkhead>,
     // With the number of calls that it has taken and not answered.
@@ -88,7 +87,7 @@ impl Neighbour {
         })
     }
 
-    // Has it answer, hang or be gone from here on.
+    // Makes it answer, hang or go away from now on.
     fn set(&self, mood: Mood) {
         self.mood.lock().unwrap_or_else(PoisonError::into_inner).0 = mood;
         self.changed.notify_all();
@@ -98,7 +97,7 @@ impl Neighbour {
         self.mood.lock().unwrap_or_else(PoisonError::into_inner).1
     }
 
-    // Asks it, for as long as it hangs, and says whether it has answered.
+    // Asks it, for as long as it hangs, and returns whether it has answered.
     fn ask(&self) -> bool {
         let mut state = self.mood.lock().unwrap_or_else(PoisonError::into_inner);
         state.1 += 1;
@@ -109,7 +108,7 @@ impl Neighbour {
         state.0 == Mood::Answers
     }
 
-    // The status by which the server answers a call.
+    // The status with which the server answers a call.
     fn status(&self) -> u16 {
         let answer = match &self.bulkhead {
             Some(bulkhead) => bulkhead.call(|| self.ask()),
@@ -123,7 +122,7 @@ impl Neighbour {
     }
 }
 
-/// The server: its threads, the good neighbour and the slow one, and when it was opened.
+/// The server: its threads, the good backend and the slow one, and when it was opened.
 struct Server {
     threads: ThreadPool,
     neighbours: [Arc<Neighbour>; 2],
@@ -145,7 +144,7 @@ impl Server {
         &self.neighbours[1]
     }
 
-    // Calls it for a neighbour, and gives up after a while.
+    // Calls it for a backend, and gives up after a while.
     fn call(&self, slow: bool, patience: Duration) -> Met {
         let neighbour = Arc::clone(&self.neighbours[usize::from(slow)]);
         let job = self.threads.submit(move || neighbour.status()).ok();
@@ -155,7 +154,7 @@ impl Server {
         Met { at, slow, status }
     }
 
-    // A caller that calls so often, one call after the other, while it is answered.
+    // A caller that makes this many calls, one after the other, as long as they are answered.
     fn call_often(self: &Arc<Self>, slow: bool, patience: Duration, count: usize) -> Caller {
         let server = Arc::clone(self);
         thread::spawn(move || {
@@ -167,7 +166,7 @@ impl Server {
         })
     }
 
-    // One that calls until the end of a half of the picture, and begins so late.
+    // A caller that starts this late and calls until the end of a half of the chart.
     fn call_steadily(self: &Arc<Self>, slow: bool, pause: Duration, begins: Duration) -> Caller {
         let server = Arc::clone(self);
         thread::spawn(move || {
@@ -204,16 +203,16 @@ fn until(is_so: impl Fn() -> bool) -> Result<(), Box<dyn Error>> {
     Ok(())
 }
 
-/// Plays one half.
+/// Runs one half.
 ///
 /// # Errors
 ///
-/// Whatever the threads or the bulkheads are refused by.
+/// Any error of the threads or the bulkheads.
 pub fn play(bulkheads: bool) -> Result<Vec<Met>, Box<dyn Error>> {
     let server = Server::open(bulkheads)?;
     server.slow().set(Mood::Hangs);
     let slow = [(); SLOW_CALLERS as usize].map(|()| server.call_often(true, LIMIT, 1));
-    // The good one's callers come once each slow call hangs, is refused or waits for a thread.
+    // The good backend's callers come once each slow call hangs, is refused or waits for a thread.
     let (hang, refused, wait) = if bulkheads {
         (PERMITS, SLOW_CALLERS - PERMITS, 0)
     } else {
@@ -230,16 +229,16 @@ pub fn play(bulkheads: bool) -> Result<Vec<Met>, Box<dyn Error>> {
     Ok(all)
 }
 
-/// Plays a half of the picture: both neighbours are called all the time, and the slow one hangs for a while.
+/// Runs a half of the chart: both backends are called all the time, and the slow one hangs for a while.
 ///
 /// # Errors
 ///
-/// As of [`play`].
+/// Those of [`play`].
 pub fn play_steadily(bulkheads: bool) -> Result<Vec<Met>, Box<dyn Error>> {
     let server = Server::open(bulkheads)?;
     let mut callers = Vec::new();
     for (slow, count, pause) in STEADY {
-        // They don't all begin at once.
+        // They don't all start at once.
         let call = |index| server.call_steadily(slow, pause, pause * index / count);
         callers.extend((0..count).map(call));
     }

@@ -1,4 +1,4 @@
-//! A permit that goes into a thread, one that is waited for, and fewer permits for a while.
+//! A permit that moves into a thread, one that is waited for, and fewer permits for a while.
 use resil::{Bulkhead, Full};
 use std::error::Error;
 use std::sync::Arc;
@@ -12,13 +12,13 @@ pub fn main() -> Result<(), Box<dyn Error>> {
         let _permit = permit;
         "answer"
     });
-    // Who has no permit at once may wait for one, asleep.
+    // A caller that finds no permit may block until there is one.
     let permit = backend.enter_within(Duration::from_secs(10))?;
     assert_eq!(backend.enter_within(Duration::ZERO).err(), Some(Full));
     drop(permit);
     assert_eq!(call.join().map_err(|_| "the call panicked")?, "answer");
 
-    // While the neighbour is ill no call goes to it.
+    // While the backend has problems, no call goes to it.
     assert_eq!(backend.retire(1), 1);
     assert_eq!(backend.call(|| "answer"), Err(Full));
     assert_eq!(backend.raise(1), 1);

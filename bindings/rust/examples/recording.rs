@@ -1,5 +1,5 @@
-//! A pool that records what happens, and the text of its history, which `judge`, `stats` and `timeline` of the program read:
-//! `cargo run --example recording >load.csv`.
+//! A pool that records what happens, and the text of its history for the program's `judge`, `stats` and `timeline`: `cargo run --example
+//! recording >load.csv`.
 use resil::ThreadPool;
 use std::error::Error;
 use std::thread;
@@ -7,7 +7,7 @@ use std::time::Duration;
 
 pub fn main() -> Result<(), Box<dyn Error>> {
     let pool = ThreadPool::builder(2, 5).queue(10).record(25_000).open()?;
-    // Jobs come slowly, then in a burst, and slowly again. What is refused stands in the history.
+    // Jobs come slowly, then in a burst, and slowly again. Refused jobs are in the history too.
     for number in 0..120 {
         drop(pool.submit(|| thread::sleep(Duration::from_millis(10))));
         let is_burst = (50..100).contains(&number);

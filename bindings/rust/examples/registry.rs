@@ -1,4 +1,4 @@
-//! Bulkheads by name: whoever asks for one gets the same one.
+//! Bulkheads by name: everyone who asks for a name gets the same one.
 use resil::{BulkheadRegistry, RegistryError};
 use std::error::Error;
 use std::sync::Arc;
@@ -10,7 +10,7 @@ pub fn main() -> Result<(), Box<dyn Error>> {
     let letters = registry.bulkhead_with("letters", "small")?;
     assert_eq!((prices.max(), letters.max()), (25, 2));
 
-    // A name that is known keeps its bulkhead, whatever configuration is named beside it.
+    // A known name keeps its bulkhead, whichever configuration is passed with it.
     assert!(Arc::ptr_eq(
         &prices,
         &registry.bulkhead_with("prices", "small")?

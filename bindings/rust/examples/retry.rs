@@ -6,7 +6,7 @@ use std::io::{self, ErrorKind};
 use std::time::Duration;
 
 pub fn main() -> Result<(), Box<dyn Error>> {
-    // Three attempts, and 500 ms between two of them, is what nothing else is said of.
+    // The defaults are three attempts, with 500 ms between two of them.
     let defaults = Retry::new();
     assert_eq!(defaults.call(|| "42".parse()), Ok(42));
 
@@ -29,7 +29,7 @@ pub fn main() -> Result<(), Box<dyn Error>> {
     let shrinks = Interval::exponential(ms(2), (1, 2), ms(1_000));
     assert_eq!(shrinks, Err(IntervalError::BadMultiplier));
 
-    // Values are retried too where that is said; the last one is the answer, and the caller's to judge.
+    // Values are retried too if you say so; the last one is returned, and the caller judges it.
     let is_empty = |page: &&str| page.is_empty();
     let patient = Retry::new()
         .interval(Interval::fixed(ms(1)))
@@ -38,7 +38,7 @@ pub fn main() -> Result<(), Box<dyn Error>> {
     let exceeded = is_empty(&page);
     assert!(exceeded);
 
-    // Waits between half and the whole of these, from a seed, and written down in place of slept.
+    // Random waits between half of these and all of it, from a seed; they are written down instead of slept.
     let waits = RefCell::new(Vec::new());
     let spread = Retry::new()
         .interval(Interval::fixed(ms(100)))
@@ -51,13 +51,13 @@ pub fn main() -> Result<(), Box<dyn Error>> {
             .iter()
             .all(|wait| ms(50) <= *wait && *wait <= ms(100))
     );
-    // Without a seed they are others each time.
+    // Without a seed they differ each time.
     let spread = Retry::new()
         .jitter()
         .pause_by(|wait| assert!(wait >= ms(250)));
     assert_eq!(spread.call(|| Err::<u32, _>("busy")), Err("busy"));
 
-    // An error may say when to come again. A wait that would end later than the limit isn't begun.
+    // An error may say when to try again. A wait that would end after the limit isn't begun.
     let polite = Retry::new()
         .attempts(9)
         .wait_by(|busy: &Duration, _attempt| Some(*busy))

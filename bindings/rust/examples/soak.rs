@@ -1,6 +1,6 @@
-//! A soak: threads and tasks call at random, an operator takes permits out of use, pools are opened, resized and closed, and names made
-//! and removed, all at once. An atomic counts who is inside, and a bulkhead of one permit is the only lock of a plain number. What isn't
-//! as promised ends it by a panic. `cargo run --release --example soak 60` takes a minute.
+//! A soak test: threads and tasks call at random, an operator takes permits out of use, pools are opened, resized and closed, and names
+//! made and removed, all at the same time. An atomic counts who is inside, and a bulkhead of one permit is the only lock of a plain
+//! number. A broken promise ends it with a panic. `cargo run --release --example soak 60` takes a minute.
 use resil::{Bulkhead, BulkheadRegistry, CallError, Decorators, Interval, JobHandle, NoPermit};
 use resil::{Retry, ThreadPool, ThreadPoolBuilder};
 use std::cell::UnsafeCell;
@@ -23,7 +23,7 @@ const PATIENCE: Duration = Duration::from_secs(60);
 
 static INSIDE: AtomicU32 = AtomicU32::new(0);
 
-/// What is counted: the ends of calls, and what the others did.
+/// What is counted: how calls end, and what the others do.
 #[derive(Clone, Copy)]
 enum Event {
     Served,
@@ -47,7 +47,7 @@ fn count(event: Event) {
     COUNTS[event as usize].fetch_add(1, SeqCst);
 }
 
-/// Numbers by a seed, as xorshift64* makes them.
+/// Numbers from a seed, made by xorshift64*.
 struct Random(u64);
 
 impl Random {
@@ -84,7 +84,7 @@ fn block_on<F: Future>(future: F) -> F::Output {
     }
 }
 
-// Looks at a future once, which is dropped with this where it isn't ready.
+// Polls a future once, and drops it if it isn't ready.
 fn polled<F: Future + Unpin>(mut future: F) -> Option<F::Output> {
     match Pin::new(&mut future).poll(&mut Context::from_waker(Waker::noop())) {
         Poll::Ready(answer) => Some(answer),
@@ -92,7 +92,7 @@ fn polled<F: Future + Unpin>(mut future: F) -> Option<F::Output> {
     }
 }
 
-// A sleep that asks again and again, as a runtime on one thread may.
+// A sleep that polls again and again, as a runtime on one thread may.
 async fn sleep(time: Duration) {
     let begun = Instant::now();
     let is_over = |context: &mut Context<'_>| {
@@ -107,7 +107,7 @@ async fn sleep(time: Duration) {
     poll_fn(is_over).await;
 }
 
-// Where calls go that have permits.
+// Where calls with permits go.
 fn go_in(permits: u32) {
     let inside = INSIDE.fetch_add(permits, SeqCst) + permits;
     assert!(inside <= MAX, "{inside} are inside");
@@ -124,7 +124,7 @@ struct Soak {
     end: Instant,
 }
 
-// SAFETY: only who has the permit of `one` reaches the number.
+// SAFETY: only the holder of the permit of `one` accesses the number.
 unsafe impl Sync for Soak {}
 
 impl Soak {
@@ -177,11 +177,11 @@ impl Soak {
 
     fn add(&self) {
         count(Event::Added);
-        // SAFETY: this call has the permit of `one`.
+        // SAFETY: this call holds the permit of `one`.
         unsafe { *self.number.get() += 1 };
     }
 
-    // A chain of futures, which fail at each attempt where the time is odd.
+    // A chain of futures, which fail at each attempt if the time is odd.
     fn retry(&self, time: Duration) -> Result<(), NoPermit> {
         let retry = Retry::new()
             .attempts(3)
@@ -227,7 +227,7 @@ impl Soak {
         Ok(())
     }
 
-    // One of few names, which is closed and removed now and then.
+    // One of a few names, which is closed and removed now and then.
     fn call_name(&self, random: &mut Random) -> Result<(), NoPermit> {
         let name = ["a", "b", "c"][random.below(3) as usize];
         let backend = self.names.bulkhead(name).expect("the name is one");
@@ -292,7 +292,7 @@ impl Soak {
     }
 }
 
-// Each job that is accepted runs once or comes back, whatever becomes of its handle; and times of a record don't go back.
+// Each accepted job runs once or comes back, whatever happens to its handle; and the times of a record don't go back.
 fn manage_pool(builder: ThreadPoolBuilder, random: &mut Random) -> Checked {
     let is_recorded = random.below(2) == 0;
     let pool = if is_recorded {

@@ -1,4 +1,4 @@
-//! Tasks that await: permits in a row, a job's answer, and the wait before another attempt. On any runtime; here on a thread.
+//! Tasks that await permits in a queue, a job's answer, and the wait before another attempt. They work on any runtime; here on a thread.
 use resil::{Bulkhead, Interval, Retry, ThreadPool};
 use std::error::Error;
 use std::future;
@@ -8,7 +8,7 @@ use std::task::{Context, Poll, Wake, Waker};
 use std::thread::{self, Thread};
 use std::time::Duration;
 
-// What a runtime does for a task: it looks at it whenever it is woken.
+// What a runtime does for a task: it polls the task whenever it is woken.
 struct Caller(Thread);
 
 impl Wake for Caller {
@@ -32,7 +32,7 @@ pub fn main() -> Result<(), Box<dyn Error>> {
     let backend = Arc::new(Bulkhead::new("backend", 1)?);
     let permit = backend.enter_owned()?;
 
-    // Two tasks stand in a row: the permit goes to the one that came first.
+    // Two tasks wait in a queue: the permit goes to the one that came first.
     let mut first = backend.acquire_owned();
     let mut second = backend.acquire_owned();
     let context = &mut Context::from_waker(Waker::noop());
@@ -48,7 +48,7 @@ pub fn main() -> Result<(), Box<dyn Error>> {
     let handle = pool.submit(|| 6 * 7)?;
     assert_eq!(block_on(handle)?, 42);
 
-    // A retry awaits the call, and the wait as the runtime sleeps.
+    // A retry awaits the call, and the wait in the runtime's own sleep.
     let retry = Retry::new()
         .attempts(3)
         .interval(Interval::fixed(Duration::ZERO));

@@ -1,4 +1,4 @@
-//! A pool that hands answers back, and what it does with a panic, a close and a refused job.
+//! A pool that returns answers, and what it does with a panic, a close and a refused job.
 use resil::{JobError, Refusal, ThreadPool};
 use std::error::Error;
 use std::time::Duration;

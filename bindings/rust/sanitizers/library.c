@@ -1,8 +1,8 @@
-/* A stand-in for the static library, which sanitizers can't look into, since Rattle compiles it: the calls that the crate for rustc makes,
- * without their checks of words. Nothing is proved of it.
+/* A stand-in for the static library, which sanitizers can't look into, since Rattle compiles it: the functions that the crate for rustc
+ * calls, without their checks of words. It isn't proved.
  *
- * A pass and a pool are plain memory under no lock, and each call writes to it first and last. So two threads that reach one without an
- * order between them are found. The number of free permits is atomic, since passes share it. */
+ * A pass and a pool are plain memory without a lock, and each function writes to it first and last. So two threads that access one
+ * without an order between them are found. The number of free permits is atomic, since passes share it. */
 #include <stdatomic.h>
 #include <stddef.h>
 #include <stdint.h>
@@ -66,7 +66,7 @@ uint8_t resil_permit_try_once(handle h, handle *back) {
     return end(h, back, 0);
 }
 
-/* Takes one from a count of a pass, and adds it to another or to those that are free. */
+/* Takes one from a pass's count, and adds it to another count or to the free permits. */
 static uint8_t move(handle h, handle *back, uint32_t *from, uint32_t *to) {
     pass *own = begin(h);
     if (*from == 0) return end(h, back, 1);
@@ -108,7 +108,7 @@ void resil_permit_free(handle h) {
 
 /* A pool: the rule of a thread pool, and a book of its jobs. */
 
-enum { CORE, QUEUED, EXTRA, FULL, CLOSED, MOST = 64 };
+enum { CORE, QUEUED, EXTRA, FULL, CLOSED, MOST = 1024 };
 
 typedef struct {
     uint64_t work, number;

@@ -1,5 +1,5 @@
-//! The locks of a copy of the crate that ThreadSanitizer watches. It can't see into std, so each lock tells it that whoever has the lock
-//! comes after all who had it.
+//! Locks for a copy of the crate that ThreadSanitizer watches. It can't see into std, so each lock reports to it that each owner comes
+//! after all earlier owners.
 pub(crate) use std::sync::{Arc, OnceLock, PoisonError, TryLockError};
 
 use std::env;
@@ -14,7 +14,7 @@ unsafe extern "C" {
     safe fn __tsan_release(lock: *const ());
 }
 
-/// This ordering, but the weakest where `WEAKENED` names the place: ThreadSanitizer is to find that.
+/// Returns this ordering, or the weakest one if `WEAKENED` names the place: ThreadSanitizer must find that.
 pub(crate) fn ordering(place: &str, own: Ordering) -> Ordering {
     if env::var_os("WEAKENED").is_some_and(|name| name == place) { Ordering::Relaxed } else { own }
 }
@@ -44,7 +44,7 @@ impl<T> Mutex<T> {
 
 pub(crate) struct MutexGuard<'a, T> {
     lock: *const (),
-    // None once it has given up the lock.
+    // None after it has given up the lock.
     inner: Option<sync::MutexGuard<'a, T>>,
 }
 

@@ -1,4 +1,4 @@
-//! A bulkhead that threads share, by reference or in an `Arc`.
+//! A bulkhead that threads share by reference or in an `Arc`.
 mod call;
 mod error;
 mod many;
@@ -30,17 +30,17 @@ pub use wait::Acquire;
 /// The longest name, in bytes.
 const MAX_NAME_LEN: usize = 64;
 
-/// A name, and permits for the calls to one neighbour.
+/// A named limit on concurrent calls to one dependency: each call holds a permit.
 ///
 /// For users of tokio's `Semaphore`:
 ///
-/// | there | here |
+/// | tokio's | this crate's |
 /// |---|---|
 /// | `try_acquire`, `try_acquire_owned` | [`enter`](Bulkhead::enter), [`enter_owned`](Bulkhead::enter_owned) |
-/// | `acquire`, `acquire_owned` | [`acquire_owned`](Bulkhead::acquire_owned); threads wait by [`enter_within`](Bulkhead::enter_within) |
-/// | `try_acquire_many`, `acquire_many_owned` | [`enter_many_owned`](Bulkhead::enter_many_owned), [`acquire_many_owned`](Bulkhead::acquire_many_owned), with `split` and `merge` as there; for few, since each costs what one does |
+/// | `acquire`, `acquire_owned` | [`acquire_owned`](Bulkhead::acquire_owned); threads block in [`enter_within`](Bulkhead::enter_within) |
+/// | `try_acquire_many`, `acquire_many_owned` | [`enter_many_owned`](Bulkhead::enter_many_owned), [`acquire_many_owned`](Bulkhead::acquire_many_owned), with `split` and `merge` as in tokio; meant for a few permits, since each costs as much as a single one |
 /// | `forget` of a permit | [`OwnedPermit::forget`] |
-/// | `forget_permits`, `add_permits` | [`retire`](Bulkhead::retire), or [`shrink`](Bulkhead::shrink) while others wait, and [`raise`](Bulkhead::raise) up to the number at the making |
+/// | `forget_permits`, `add_permits` | [`retire`](Bulkhead::retire), or [`shrink`](Bulkhead::shrink) while others wait, and [`raise`](Bulkhead::raise) up to the number it was made with |
 /// | `available_permits` | [`available`](Bulkhead::available) |
 /// | `close`, `is_closed` | [`close`](Bulkhead::close), [`is_closed`](Bulkhead::is_closed) |
 ///
@@ -56,30 +56,30 @@ pub struct Bulkhead {
     name: String,
     max: u32,
     seats: Seats,
-    // What tells how many permits are free.
+    // Reads how many permits are free.
     watch: Mutex<Pass>,
-    // How many threads and tasks wait for a permit, and how many permits are owed. The library's steps on the permits are
-    // sequentially consistent, and so are those on this number: one that waits counts itself before it looks for a permit, and one
-    // that gives a permit back looks here afterwards. So one of the two sees the other.
+    // The number of waiting threads and tasks plus the number of owed permits. The library's operations on permits are sequentially
+    // consistent, and so are those on this number: a waiter counts itself before it looks for a permit, and a caller that gives a permit
+    // back reads the number afterwards. So one of the two sees the other.
     wanted: AtomicUsize,
     gate: Mutex<Row>,
     freed: Condvar,
-    // Of who takes several permits, one after the other.
+    // Serializes callers that take several permits.
     alone: Mutex<()>,
-    // Turns true under the gate's lock.
+    // Set to true under the gate's lock.
     is_closed: AtomicBool,
-    // None where nobody observes it: then no step of a seat looks here.
+    // None if nobody observes it: then no operation on a seat reads this.
     observer: Option<Box<Watch>>,
 }
 
 impl Bulkhead {
-    /// A bulkhead of this name with `max` permits, all free.
+    /// Makes a bulkhead of this name with `max` permits, all free.
     ///
     /// # Errors
     ///
-    /// In this order: `BadName` where the name isn't 1 to 64 bytes of ASCII letters, digits, `-`, `_` and `.`;
-    /// `TooManyPermits` where `max` is above 65,535; `Memory` where there is none for the library's permits or their
-    /// seats. The name is taken as everywhere in Rust: the process ends where there is no memory for it.
+    /// In this order: `BadName` if the name isn't 1 to 64 bytes of ASCII letters, digits, `-`, `_` and `.`; `TooManyPermits` if `max` is
+    /// above 65,535; `Memory` if out of memory for the library's permits or their seats. The name is allocated as usual in Rust: the
+    /// process aborts if there is no memory for it.
     ///
     /// ```
     /// let backend = resil::Bulkhead::new("backend", 25)?;
@@ -107,8 +107,8 @@ impl Bulkhead {
         })
     }
 
-    /// The same bulkhead, of whose calls this observer is told: of each permit that is taken, whichever way, when it is given
-    /// back, and of each refusal. It takes the place of an earlier one.
+    /// Returns the same bulkhead, which reports its calls to this observer: each permit taken, by any method, each permit given back, and
+    /// each refusal. It replaces an earlier observer.
     #[must_use]
     pub fn observed(mut self, observer: Arc<dyn Observer>) -> Bulkhead {
         let own = observer.of_bulkhead(&self.name);
@@ -119,26 +119,26 @@ impl Bulkhead {
         self
     }
 
-    /// The name.
+    /// The bulkhead's name.
     pub fn name(&self) -> &str {
         &self.name
     }
 
-    /// The number of permits at the making: free, held or retired.
+    /// The number of permits it was made with: free, held or retired.
     pub fn max(&self) -> u32 {
         self.max
     }
 
-    /// The number of free permits at this point: those in use that nobody holds. One that is [owed](Bulkhead::owed) is held still.
+    /// The number of free permits at this moment: those in use that nobody holds. An [owed](Bulkhead::owed) permit still counts as held.
     pub fn available(&self) -> u32 {
         locked(&self.watch).available()
     }
 
-    /// Takes a permit, which is given back when it is dropped.
+    /// Takes a permit and returns it. Dropping it gives it back.
     ///
     /// # Errors
     ///
-    /// `Closed` where the bulkhead is [closed](Bulkhead::close); `Full` where all permits in use are held.
+    /// `Closed` if the bulkhead is [closed](Bulkhead::close); `Full` if all permits in use are held.
     ///
     /// ```
     /// # let backend = resil::Bulkhead::new("backend", 1)?;
@@ -154,14 +154,14 @@ impl Bulkhead {
         Ok(Permit::new(self, place))
     }
 
-    /// Takes a permit, and waits for one, asleep, for as long as this; `Duration::MAX` is a wait without an end.
+    /// Takes a permit, blocking this thread for at most `limit` until one is free. `Duration::MAX` waits without a limit.
     ///
-    /// Permits that are given back wake those that wait. These don't stand in a row: who comes meanwhile may be first.
+    /// A permit that is given back wakes a waiter. Waiting isn't fair: a newer caller may get the permit first.
     ///
     /// # Errors
     ///
-    /// `Closed` where the bulkhead is closed, or is closed meanwhile; `TimedOut` where all permits in use are held until then; `Full`,
-    /// at once, where the duration is zero.
+    /// `Closed` if the bulkhead is closed, before or during the wait; `TimedOut` if all permits in use are held until the limit; `Full`,
+    /// at once, if all are held and the limit is zero.
     ///
     /// ```
     /// # use std::time::Duration;
@@ -176,11 +176,11 @@ impl Bulkhead {
         Ok(Permit::new(self, place))
     }
 
-    /// Takes a permit that keeps the bulkhead, for a thread, a future or a service of its own.
+    /// Takes a permit that keeps the bulkhead alive, so that it can move into a thread, a future or a service.
     ///
     /// # Errors
     ///
-    /// `Closed` where the bulkhead is [closed](Bulkhead::close); `Full` where all permits in use are held.
+    /// `Closed` if the bulkhead is [closed](Bulkhead::close); `Full` if all permits in use are held.
     ///
     /// ```
     /// # use std::sync::Arc;
@@ -196,12 +196,12 @@ impl Bulkhead {
         Ok(OwnedPermit::new(Arc::clone(self), place))
     }
 
-    /// Takes a permit that keeps the bulkhead, and waits for one as [`enter_within`](Bulkhead::enter_within) does.
+    /// Takes a permit that keeps the bulkhead alive, and waits for one as [`enter_within`](Bulkhead::enter_within) does.
     ///
     /// # Errors
     ///
-    /// `Closed` where the bulkhead is closed, or is closed meanwhile; `TimedOut` where all permits in use are held until then; `Full`,
-    /// at once, where the duration is zero.
+    /// `Closed` if the bulkhead is closed, before or during the wait; `TimedOut` if all permits in use are held until the limit; `Full`,
+    /// at once, if all are held and the limit is zero.
     ///
     /// ```
     /// # use std::{sync::Arc, time::Duration};
@@ -216,19 +216,19 @@ impl Bulkhead {
         Ok(OwnedPermit::new(Arc::clone(self), place))
     }
 
-    /// A permit that keeps the bulkhead, to be awaited on any runtime. Tasks that wait are served first come, first served, in the
-    /// order of their first polls. A caller that takes a permit in another way may still be before them.
+    /// Returns a future of a permit that keeps the bulkhead alive, for any runtime. Waiting tasks are served first come, first served, in
+    /// the order of their first polls. A caller that takes a permit by another method may still get ahead of them.
     ///
-    /// **The future gives a `Result`: write `?`. `let _permit = backend.acquire_owned().await;` compiles without a warning, and runs
-    /// without a permit once the bulkhead is closed.**
+    /// **The future's output is a `Result`: write `?`. `let _permit = backend.acquire_owned().await;` compiles without a warning, and
+    /// runs without a permit once the bulkhead is closed.**
     ///
-    /// It has no time limit of its own: wrap it in your runtime's timeout, such as `tokio::time::timeout`. It may be dropped at any
-    /// time, and a permit that it was given then goes to the next task.
+    /// The future has no time limit of its own: wrap it in your runtime's timeout, such as `tokio::time::timeout`. You can drop it at any
+    /// time; if it had been given a permit, that goes to the next task.
     ///
     /// # Errors
     ///
-    /// `Closed` if the bulkhead is [closed](Bulkhead::close), now or while it waits; `Full` if it has no permits at all, in use or not, or
-    /// if [as many wait](Acquire::most_waiting) as are allowed to.
+    /// `Closed` if the bulkhead is [closed](Bulkhead::close), before or during the wait; `Full` if it has no permits at all, in use or
+    /// not, or if [as many calls already wait](Acquire::most_waiting) as may wait.
     ///
     /// ```
     /// use resil::{Bulkhead, NoPermit};
@@ -244,8 +244,8 @@ impl Bulkhead {
         Acquire::new(Arc::clone(self))
     }
 
-    /// [`acquire_owned`](Bulkhead::acquire_owned) under the name that it had until 0.5.0. Version 0.4.0 gave the permit itself, so a line
-    /// of that time compiles still, **and runs without a permit once the bulkhead is closed**:
+    /// The name that [`acquire_owned`](Bulkhead::acquire_owned) had until 0.5.0. In version 0.4.0 the output was the permit itself, so
+    /// code written for it still compiles, **and runs without a permit once the bulkhead is closed**:
     ///
     /// ```compile_fail
     /// #![deny(deprecated)]
@@ -264,14 +264,14 @@ impl Bulkhead {
         self.acquire_owned()
     }
 
-    /// Calls the function under a permit, which is given back when the call ends or panics.
+    /// Calls the function under a permit, which is given back when the call returns or panics.
     ///
-    /// The call of an async function ends at once, and gives the permit back before its future runs: a future is called by
-    /// [`call_async`](Bulkhead::call_async).
+    /// A call of an async function returns at once, so its permit is given back before its future runs: use
+    /// [`call_async`](Bulkhead::call_async) for functions that return futures.
     ///
     /// # Errors
     ///
-    /// `Closed` where the bulkhead is closed, `Full` where all permits in use are held; the function wasn't called.
+    /// `Closed` if the bulkhead is closed, `Full` if all permits in use are held. In both cases the function wasn't called.
     ///
     /// ```
     /// # let backend = resil::Bulkhead::new("backend", 1)?;
@@ -286,7 +286,7 @@ impl Bulkhead {
         Ok(function())
     }
 
-    /// The numbers of about this moment: each is read for itself.
+    /// The bulkhead's numbers at about this moment: each is read on its own.
     ///
     /// ```
     /// # let backend = resil::Bulkhead::new("backend", 3)?;
@@ -309,16 +309,16 @@ impl Bulkhead {
         }
     }
 
-    /// Closes the bulkhead for good. Who waits for a permit is told so at once, and so is whoever asks later: `Closed`. Who has a
-    /// permit, or was given one already, gives it back as ever.
+    /// Closes the bulkhead for good. Waiters are refused at once with `Closed`, and so is every later caller. A permit that is held, or
+    /// was already given to a waiter, is given back as usual.
     ///
-    /// **From here on a caller that ignores this error isn't limited any more**: it runs without a permit.
+    /// **From now on a caller that ignores this error isn't limited any more**: it runs without a permit.
     ///
     /// ```
     /// # let backend = resil::Bulkhead::new("backend", 1)?;
     /// backend.close();
     /// assert_eq!(backend.enter().err(), Some(resil::Closed));
-    /// // This one goes on without a permit.
+    /// // This caller continues without a permit.
     /// let _no_permit = backend.enter();
     /// # Ok::<(), Box<dyn std::error::Error>>(())
     /// ```
@@ -332,13 +332,13 @@ impl Bulkhead {
         self.dismiss(tasks);
     }
 
-    /// Whether it is closed.
+    /// Whether the bulkhead is closed.
     #[inline]
     pub fn is_closed(&self) -> bool {
         self.is_closed.load(Ordering::Acquire)
     }
 
-    // Takes a permit, or waits for one, and tells of it.
+    // Takes a permit, or waits for one, and reports it to the observer.
     fn acquire_within(&self, limit: Duration) -> Result<Place, NoPermit> {
         let mut since = None;
         let acquired = if self.is_closed() {
@@ -361,16 +361,16 @@ impl Bulkhead {
         let (mut row, acquired) = self.wait(row, Instant::now().checked_add(limit));
         row.threads -= 1;
         self.wanted.fetch_sub(1, Ordering::SeqCst);
-        // It may have been woken for more permits than one.
+        // This thread may have been woken for more than one permit.
         let tasks = self.hand_on_all(&mut row);
         drop(row);
-        // Given back where a waker panics.
+        // Given back if a waker panics.
         let held = acquired.map(|place| Held(self, place));
         wake_all(tasks);
         held.map(Held::keep)
     }
 
-    // Tries at each permit that is given back, until the deadline or the closing.
+    // Tries again each time a permit is given back, until the deadline or until the bulkhead is closed.
     fn wait<'a>(
         &self,
         mut gate: MutexGuard<'a, Row>,
@@ -389,7 +389,8 @@ impl Bulkhead {
         }
     }
 
-    // Gives a permit back, and wakes one that waits; to a task it goes without becoming free, and so it is retired where one is owed.
+    // Gives a permit back and wakes a waiter. If a task waits, the permit goes to it without becoming free; if one is owed, it is
+    // retired.
     #[inline]
     fn release(&self, place: Place) {
         if self.wanted.load(Ordering::SeqCst) > 0 {
@@ -402,31 +403,31 @@ impl Bulkhead {
     }
 }
 
-/// Whether a bulkhead may have this name.
+/// Whether this is a valid name for a bulkhead.
 pub(crate) fn is_name(name: &str) -> bool {
     let is_plain = |byte: u8| byte.is_ascii_alphanumeric() || b"-_.".contains(&byte);
     (1..=MAX_NAME_LEN).contains(&name.len()) && name.bytes().all(is_plain)
 }
 
-/// The numbers of a [`Bulkhead`], as a page of numbers shows them.
+/// The numbers of a [`Bulkhead`], as a metrics page shows them.
 #[derive(Debug, Clone, Copy, PartialEq, Eq, Hash)]
 #[non_exhaustive]
 pub struct BulkheadNumbers {
-    /// The number of permits at the making: free, held or retired.
+    /// The number of permits it was made with: free, held or retired.
     pub max: u32,
-    /// How many permits are free.
+    /// The number of free permits.
     pub available: u32,
-    /// How many permits are retired.
+    /// The number of retired permits.
     pub retired: u32,
-    /// How many permits are owed: they are retired as they are given back.
+    /// The number of owed permits: each is retired when it is given back.
     pub owed: u32,
-    /// How many permits were [written off](Bulkhead::write_off).
+    /// The number of permits that were [written off](Bulkhead::write_off).
     pub written_off: u32,
-    /// How many calls wait for a permit.
+    /// The number of calls that wait for a permit.
     pub waiting: usize,
 }
 
-// So that a chain takes a bulkhead by reference or in an `Arc`.
+// Lets a chain take a bulkhead by reference or in an `Arc`.
 impl AsRef<Bulkhead> for Bulkhead {
     fn as_ref(&self) -> &Bulkhead {
         self

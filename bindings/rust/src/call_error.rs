@@ -1,4 +1,4 @@
-//! The error of a call that has a bulkhead around it.
+//! The error of a call through a bulkhead.
 use crate::bulkhead::NoPermit;
 use std::any::Any;
 use std::error::Error;
@@ -11,20 +11,20 @@ use std::fmt;
 /// use std::error::Error;
 /// use std::num::ParseIntError;
 ///
-/// // Who is handed the error without its type finds in a boxed one what has failed.
+/// // Code that gets the error without its type can find what failed inside the box.
 /// let failed: CallError<Box<dyn Error>> = CallError::Failed("x".parse::<u32>().unwrap_err().into());
 /// assert!(failed.source().is_some_and(|source| source.is::<ParseIntError>()));
 /// ```
 #[derive(Debug, Clone, Copy, PartialEq, Eq, Hash)]
 #[non_exhaustive]
 pub enum CallError<E> {
-    /// All permits of a bulkhead were held, and the function wasn't called.
+    /// All permits of a bulkhead were held. The function wasn't called.
     Full,
-    /// A bulkhead was closed, and the function wasn't called.
+    /// A bulkhead was closed. The function wasn't called.
     Closed,
-    /// There was no permit within the call's time limit, or what it was to call wasn't ready by then; it wasn't called.
+    /// There was no permit within the call's time limit, or what it was about to call wasn't ready by then. The function wasn't called.
     TimedOut,
-    /// The function was called, and gave this error.
+    /// The function was called, and returned this error.
     Failed(E),
 }
 
@@ -49,8 +49,8 @@ impl<E: fmt::Display> fmt::Display for CallError<E> {
     }
 }
 
-/// The source is the error that the function gave, where that is a boxed one: `Box<dyn Error>`, or the same with `Send + Sync`.
-// Any other needn't be an `Error` itself, so it has none to tell.
+/// The source is the error that the function returned, if that is boxed: `Box<dyn Error>`, or the same with `Send + Sync`.
+// Any other type needn't be an `Error` itself, so it has no source to return.
 impl<E: fmt::Debug + fmt::Display + 'static> Error for CallError<E> {
     fn source(&self) -> Option<&(dyn Error + 'static)> {
         let CallError::Failed(error) = self else {

@@ -13,9 +13,9 @@ use std::time::Duration;
 pub use awaited::{AsyncDecorators, AsyncLayer};
 pub use layer::{KeptLayer, Layer};
 
-/// A function with layers around it, innermost first: each one wraps what stands so far, and the last is the outermost.
+/// A function with layers around it, innermost first: each layer wraps what has been built so far, and the last is the outermost.
 ///
-/// A bulkhead inside a retry is asked once for each attempt; outside of it, once for a call.
+/// A bulkhead inside a retry gives a permit for each attempt; outside of it, one for the whole call.
 ///
 /// ```
 /// use resil::{Bulkhead, CallError, Decorators, Retry};
@@ -33,8 +33,8 @@ pub use layer::{KeptLayer, Layer};
 /// # Ok::<(), resil::BulkheadError>(())
 /// ```
 ///
-/// The chain of a function that takes an argument is kept, and called by reference, by many threads at once. So it is best
-/// given what it owns: an `Arc` of a bulkhead, or a retry by value. Its function and its fallbacks are called by reference too.
+/// The chain of a function that takes an argument is kept and called by reference, from many threads at once. So let it own what it
+/// needs: an `Arc` of a bulkhead, or a retry by value. Its function and its fallbacks are called by reference too.
 #[must_use = "nothing is called before `call`"]
 pub struct Decorators<L, Arguments = ()> {
     layers: L,
@@ -42,7 +42,7 @@ pub struct Decorators<L, Arguments = ()> {
 }
 
 impl<F> Decorators<Function<F>> {
-    /// The function alone, which takes no argument, or one. Its errors are [`CallError::Failed`].
+    /// Starts a chain with the function alone, which takes one argument or none. Its errors become [`CallError::Failed`].
     ///
     /// ```
     /// let mut chain = resil::Decorators::of(|| "42".parse::<u32>());
@@ -66,8 +66,8 @@ impl<L, Arguments> Decorators<L, Arguments> {
 }
 
 impl<L: Layer<Arguments>, Arguments> Decorators<L, Arguments> {
-    /// What stands so far, under a permit of this bulkhead, which is given back when it ends or panics. Where all are
-    /// held, nothing is called, and the error is [`CallError::Full`]. The bulkhead is taken by reference, or in an `Arc`.
+    /// Runs the chain so far under a permit of this bulkhead, which is given back when the chain returns or panics. If all permits are
+    /// held, nothing is called, and the error is [`CallError::Full`]. The bulkhead is passed by reference or in an `Arc`.
     ///
     /// ```
     /// # use resil::{CallError, Decorators};
@@ -84,8 +84,8 @@ impl<L: Layer<Arguments>, Arguments> Decorators<L, Arguments> {
         })
     }
 
-    /// What stands so far, called again by this retry, which is taken by reference, by value or in an `Arc`. A refusal of a
-    /// bulkhead inside is an error as any other, so a test of errors is one of [`CallError`].
+    /// Repeats the chain so far with this retry, which is passed by reference, by value or in an `Arc`. A refusal of a bulkhead inside is
+    /// an error like any other, so a test of errors gets a [`CallError`].
     ///
     /// ```
     /// # use resil::{Decorators, Retry};
@@ -113,8 +113,8 @@ impl<L: Layer<Arguments>, Arguments> Decorators<L, Arguments> {
 }
 
 impl<L: Layer> Decorators<L> {
-    /// What stands so far, and where that gives an error, what this function makes of it: a value, or an error, which may
-    /// be the same one.
+    /// Calls this function if the chain so far returns an error, and returns its result instead: a value, or an error, possibly the same
+    /// one.
     ///
     /// ```
     /// let mut chain = resil::Decorators::of(|| "none".parse()).or_else(|_error| Ok(0));
@@ -134,16 +134,16 @@ impl<L: Layer> Decorators<L> {
     ///
     /// # Errors
     ///
-    /// `Failed` with the function's error, `Full` where a bulkhead refused, or what a fallback makes of these.
+    /// `Failed` with the function's error, `Full` if a bulkhead refused, or what a fallback makes of these.
     #[inline]
     pub fn call(&mut self) -> Result<L::Value, CallError<L::Error>> {
         self.layers.call(())
     }
 }
 
-/// Of a function that takes an argument.
+/// For a function that takes an argument.
 impl<L: Layer<(A,)>, A> Decorators<L, (A,)> {
-    /// As the one of a function without arguments; the chain is kept, so the fallback is called by reference.
+    /// Like `or_else` of a function without arguments. The chain is kept, so the fallback is called by reference.
     pub fn or_else<G>(self, fallback: G) -> Decorators<OrElse<L, G>, (A,)>
     where
         G: Fn(CallError<L::Error>) -> Result<L::Value, CallError<L::Error>>,
@@ -154,11 +154,11 @@ impl<L: Layer<(A,)>, A> Decorators<L, (A,)> {
         })
     }
 
-    /// Calls the function with this through its layers, from the outermost in. Each attempt of a retry is given a copy.
+    /// Calls the function with this argument through its layers, from the outermost in. Each attempt of a retry gets a copy.
     ///
     /// # Errors
     ///
-    /// As of a function without arguments.
+    /// Those of a function without arguments.
     #[inline]
     pub fn call(&self, argument: A) -> Result<L::Value, CallError<L::Error>>
     where

@@ -1,4 +1,4 @@
-//! How long a retry waits: the static library's intervals, behind a safe surface.
+//! How long a retry waits: a safe interface to the static library's intervals.
 use crate::texts::error_texts;
 use std::fmt;
 use std::time::Duration;
@@ -26,13 +26,13 @@ unsafe extern "C" {
     fn resil_retry_wait(interval: *const RetryInterval, attempt: u32, wait: *mut u64) -> u8;
 }
 
-/// Why there is no interval.
+/// Why an interval couldn't be made.
 #[derive(Debug, Clone, Copy, PartialEq, Eq, Hash)]
 #[non_exhaustive]
 pub enum IntervalError {
     /// A wait is longer than [`Interval::LONGEST`].
     IntervalTooLong,
-    /// The multiplier doesn't keep to `1 <= denominator <= numerator <= 1000`.
+    /// The multiplier doesn't satisfy `1 <= denominator <= numerator <= 1000`.
     BadMultiplier,
     /// The cap is shorter than the first wait.
     CapBelowInitial,
@@ -62,14 +62,14 @@ pub struct Interval {
 }
 
 impl Interval {
-    /// The longest wait, 365 days, which is the usual cap.
+    /// The longest wait, 365 days. It is also the usual cap.
     pub const LONGEST: Duration = Duration::from_secs(31_536_000);
 
-    /// This wait after each attempt, truncated to whole milliseconds. Zero is allowed.
+    /// The same wait after each attempt, truncated to whole milliseconds. Zero is allowed.
     ///
     /// # Panics
     ///
-    /// Where the wait is longer than [`Interval::LONGEST`].
+    /// If the wait is longer than [`Interval::LONGEST`].
     ///
     /// ```
     /// # use std::time::Duration;
@@ -80,7 +80,7 @@ impl Interval {
     #[must_use]
     pub fn fixed(wait: Duration) -> Interval {
         let mut told = RetryInterval::default();
-        // SAFETY: `told` is this call's alone.
+        // SAFETY: only this call has `told`.
         let answer = unsafe { resil_retry_fixed(milliseconds(wait), &raw mut told) };
         assert!(
             answer == 0,
@@ -89,14 +89,13 @@ impl Interval {
         Interval { told }
     }
 
-    /// The wait `first` after the first attempt, and then each time the one before times
-    /// `numerator / denominator`, truncated to whole milliseconds, and at most `cap`. Both durations are truncated to
-    /// whole milliseconds too.
+    /// Waits `first` after the first attempt; each later wait is the previous one times `numerator / denominator`, truncated to whole
+    /// milliseconds, and at most `cap`. Both durations are truncated to whole milliseconds too.
     ///
     /// # Errors
     ///
-    /// In this order: `IntervalTooLong` where `first` or `cap` is longer than [`Interval::LONGEST`]; `BadMultiplier`
-    /// unless `1 <= denominator <= numerator <= 1000`; `CapBelowInitial` where `cap` is shorter than `first`.
+    /// In this order: `IntervalTooLong` if `first` or `cap` is longer than [`Interval::LONGEST`]; `BadMultiplier` unless `1 <=
+    /// denominator <= numerator <= 1000`; `CapBelowInitial` if `cap` is shorter than `first`.
     ///
     /// ```
     /// # use {resil::Interval, std::time::Duration};
@@ -122,23 +121,23 @@ impl Interval {
         }
     }
 
-    /// The wait after an attempt. Attempts are numbered from 1.
+    /// The wait after this attempt. Attempts are numbered from 1.
     ///
     /// # Panics
     ///
-    /// Where the attempt is 0.
+    /// If the attempt is 0.
     #[track_caller]
     #[must_use]
     pub fn after(&self, attempt: u32) -> Duration {
         let mut wait = 0;
-        // SAFETY: the interval was made by one of the calls above, and `wait` is this call's alone.
+        // SAFETY: one of the calls above made the interval, and only this call has `wait`.
         let answer = unsafe { resil_retry_wait(&raw const self.told, attempt, &raw mut wait) };
         assert!(answer == 0, "attempts are numbered from 1");
         Duration::from_millis(wait)
     }
 }
 
-// As it was made.
+// Shown as it was made.
 impl fmt::Debug for Interval {
     fn fmt(&self, f: &mut fmt::Formatter<'_>) -> fmt::Result {
         let ms = Duration::from_millis;
@@ -160,7 +159,7 @@ impl fmt::Debug for Interval {
     }
 }
 
-// Whole milliseconds. What is above 64 bits is above the longest wait in any case.
+// Whole milliseconds. More than 64 bits would exceed the longest wait in any case.
 pub(crate) fn milliseconds(duration: Duration) -> u64 {
     u64::try_from(duration.as_millis()).unwrap_or(u64::MAX)
 }

@@ -41,7 +41,7 @@ pub use thread_pool::{
     JobError, JobHandle, JobPanic, Refusal, Refused, ThreadPool, ThreadPoolBuilder, Unstarted,
 };
 
-// Where version 0.3 had them.
+// Names from version 0.3.
 #[doc(hidden)]
 pub use pass::{Pass, PassPermit};
 #[doc(hidden)]

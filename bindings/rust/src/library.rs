@@ -1,4 +1,4 @@
-//! The declarations of the static library's permits and of its pool, which is the rule of a thread pool as a book of jobs.
+//! Declarations of the static library: its permits, and its pool, which is a thread pool's rule as a book of jobs.
 use std::ffi::c_void;
 use std::ptr;
 

@@ -1,4 +1,4 @@
-//! Locks. No code of others runs while one of this crate is held, so a poisoned one is as any other.
+//! Locks. No foreign code runs while one of this crate's locks is held, so a poisoned lock is as good as any other.
 use std::sync::{Condvar, Mutex, MutexGuard, PoisonError};
 use std::time::Duration;
 
@@ -6,7 +6,7 @@ pub(crate) fn locked<T>(mutex: &Mutex<T>) -> MutexGuard<'_, T> {
     mutex.lock().unwrap_or_else(PoisonError::into_inner)
 }
 
-/// Sleeps without the lock until the bell is rung, at most for as long as this.
+/// Releases the lock and sleeps until the condition variable is notified, for at most `limit`.
 pub(crate) fn sleep<'a, T>(
     bell: &Condvar,
     guard: MutexGuard<'a, T>,

@@ -1,35 +1,35 @@
-//! Numbers for a dashboard: an [`Observer`] that counts, and writes what it has counted as Prometheus reads it.
+//! Numbers for a dashboard: an [`Observer`] that counts, and writes its counts in Prometheus' text format.
 //!
-//! What Resilience4j's exporter to Micrometer has is told under its names and labels, so that a dashboard for it shows this:
+//! What Resilience4j's Micrometer exporter has is written under its names and labels, so its dashboards work with these metrics:
 //!
-//! - of bulkheads, with the label `name`, the gauges `resilience4j_bulkhead_available_concurrent_calls` and
+//! - bulkheads, with the label `name`: the gauges `resilience4j_bulkhead_available_concurrent_calls` and
 //!   `resilience4j_bulkhead_max_allowed_concurrent_calls`;
-//! - of retries the counter `resilience4j_retry_calls_total`, with `name` and with `kind`: `successful_without_retry`,
+//! - retries: the counter `resilience4j_retry_calls_total`, with `name` and with `kind`: `successful_without_retry`,
 //!   `successful_with_retry`, `failed_without_retry`, `failed_with_retry`;
-//! - of pools, with `name`, the gauges `resilience4j_bulkhead_queue_depth`, `_queue_capacity`, `_thread_pool_size`,
-//!   `_core_thread_pool_size`, `_max_thread_pool_size`, `_active_thread_count` and `_available_thread_count`; `promtool` has a word to say
-//!   of the last two, since its gauges don't end in `_count`.
+//! - pools, with `name`: the gauges `resilience4j_bulkhead_queue_depth`, `_queue_capacity`, `_thread_pool_size`,
+//!   `_core_thread_pool_size`, `_max_thread_pool_size`, `_active_thread_count` and `_available_thread_count`. `promtool` complains about
+//!   the last two, since it wants no gauge to end in `_count`.
 //!
-//! For what it hasn't the names begin with `resil_`:
+//! The other names begin with `resil_`:
 //!
 //! | Name | Labels | Of |
 //! |---|---|---|
 //! | `resil_bulkhead_calls_total` | `kind`: `permitted`, `refused`; `name` | bulkheads |
 //! | `resil_bulkhead_call_seconds`, a histogram | `name` | calls, from the permit to its end |
-//! | `resil_bulkhead_waits_total` | `kind`: `granted`, `full`, `queue_full`, `timed_out`, `closed`, `abandoned`, after [`WaitEnd`](crate::WaitEnd); `name` | calls that may wait for a permit |
-//! | `resil_bulkhead_wait_seconds`, a histogram | `name` | the same calls, from their first look for a permit to that end; 0 where they don't wait |
+//! | `resil_bulkhead_waits_total` | `kind`: `granted`, `full`, `queue_full`, `timed_out`, `closed`, `abandoned`, from [`WaitEnd`](crate::WaitEnd); `name` | calls that may wait for a permit |
+//! | `resil_bulkhead_wait_seconds`, a histogram | `name` | the same calls, from when they first ask for a permit to that end; 0 if they don't wait |
 //! | `resil_bulkhead_timed_out_calls_total` | `name` | calls that gave their permit back unused, out of time |
 //! | `resil_bulkhead_retired_permits`, `resil_bulkhead_owed_permits`, `resil_bulkhead_waiting_calls` | `name` | bulkheads |
-//! | `resil_retry_events_total` | `kind`, after its events: `retry`, `success`, `error`, `ignored_error`, and `out_of_time`; `name` | retries |
+//! | `resil_retry_events_total` | `kind`, from Resilience4j's events: `retry`, `success`, `error`, `ignored_error`, and also `out_of_time`; `name` | retries |
 //! | `resil_pool_jobs_total` | `kind`, the reply: `core`, `queued`, `extra`, `full`, `closed`; `name` | submissions |
 //! | `resil_pool_panics_total` | `name` | jobs that panicked |
 //! | `resil_pool_wait_seconds`, `resil_pool_run_seconds`, histograms | `name` | jobs, from the submission to the start, and from there to the end |
 //!
-//! The buckets of each histogram end at 0.001, 0.0025, 0.005, 0.01, 0.025, 0.05, 0.1, 0.25, 0.5, 1, 2.5, 5 and 10 seconds, and at
+//! The upper ends of each histogram's buckets are 0.001, 0.0025, 0.005, 0.01, 0.025, 0.05, 0.1, 0.25, 0.5, 1, 2.5, 5 and 10 seconds, and
 //! infinity.
 //!
-//! As there, a call that ends by its last attempt or by its limit is `failed_with_retry`, and one that ends by an error that isn't
-//! retried is `failed_without_retry`.
+//! As in Resilience4j, a call that ends with its last attempt, or at its limit, is `failed_with_retry`, and one that ends with an error
+//! that isn't retried is `failed_without_retry`.
 mod counts;
 mod page;
 
@@ -43,19 +43,19 @@ use std::collections::BTreeMap;
 use std::fmt;
 use std::sync::{Arc, Mutex};
 
-/// Counts what it is told, by the names of bulkheads, retries and pools, and writes it as Prometheus' text.
+/// Counts the events reported to it, by the name of the bulkhead, retry or pool, and writes the counts in Prometheus' text format.
 ///
-/// Of those that bear one name it tells the sums. No lock is held while it counts, and threads count the calls of bulkheads apart.
+/// Counts of the same name are added up. Counting takes no lock, and threads count the calls of bulkheads separately.
 ///
-/// What was counted stays until its name is [removed](Metrics::remove): some KiB for each name of a bulkhead, and a kilobyte of each
-/// page. So names are for neighbours, of which there are few, and not for whoever calls.
+/// A count is kept until its name is [removed](Metrics::remove). Each name of a bulkhead takes a few KiB of memory and about 1 KB of each
+/// page. So use names for dependencies, which are few, not for individual callers.
 #[derive(Default)]
 pub struct Metrics {
     is_untimed: bool,
     all: Mutex<All>,
 }
 
-// What is counted, by the names.
+// The counts, by name.
 #[derive(Default)]
 struct All {
     calls: BTreeMap<String, Arc<Calls>>,
@@ -64,16 +64,16 @@ struct All {
 }
 
 impl Metrics {
-    /// The type of the text, as a server tells it.
+    /// The media type of the text, for a server's `Content-Type` header.
     pub const CONTENT_TYPE: &str = "text/plain; version=0.0.4; charset=utf-8";
 
-    /// Metrics of nothing so far, with all times.
+    /// Makes metrics without any counts, which also measure times.
     #[must_use]
     pub fn new() -> Metrics {
         Metrics::default()
     }
 
-    /// Metrics that only count, so that the clock isn't read for them: there are no histograms.
+    /// Makes metrics that only count: the clock isn't read for them, and there are no histograms.
     ///
     /// ```
     /// use std::sync::Arc;
@@ -92,8 +92,8 @@ impl Metrics {
         }
     }
 
-    /// Forgets what was counted under this name of bulkheads, retries and pools, and says whether there was any. What still bears it
-    /// counts on untold; what is observed under it from here on begins anew.
+    /// Forgets the counts of all bulkheads, retries and pools with this name, and returns whether there were any. Whatever still has the
+    /// name continues counting, but that is no longer written. What is observed under the name from now on starts at zero.
     pub fn remove(&self, name: &str) -> bool {
         let mut all = locked(&self.all);
         let calls = all.calls.remove(name).is_some();
@@ -101,7 +101,7 @@ impl Metrics {
         all.jobs.remove(name).is_some() || calls || retries
     }
 
-    /// All that was counted, and the numbers of these bulkheads and pools at this moment, as Prometheus' text. If two have one
+    /// Returns all counts, and the numbers of these bulkheads and pools at this moment, in Prometheus' text format. If two have the same
     /// name, the text has the numbers of the last.
     ///
     /// ```
@@ -144,7 +144,7 @@ impl Observer for Metrics {
     }
 }
 
-// What counts for this name, which is made where it isn't there.
+// The counter for this name, which is made if there is none.
 fn own<C: Observer + 'static>(
     all: &mut BTreeMap<String, Arc<C>>,
     name: &str,

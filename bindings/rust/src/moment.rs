@@ -1,18 +1,18 @@
-//! Moments of the calendar, as the head of a record names them.
+//! Calendar times for the head of a record.
 use std::fmt;
 use std::time::Duration;
 
 const DAY: u64 = 86_400;
 
-/// The first second of the year 10,000: a year has four digits.
+/// The first second of the year 10,000, since years have four digits.
 const END: u64 = 253_402_300_800;
 
-/// A moment of UTC to the microsecond, shown as an offset date-time of RFC 3339 and TOML.
+/// A time in UTC, to the microsecond, shown as an offset date-time of RFC 3339 and TOML.
 #[derive(Clone, Copy)]
 pub(crate) struct Moment(Duration);
 
 impl Moment {
-    /// The moment this long after the beginning of 1970; none after the year 9999.
+    /// The moment this long after the beginning of 1970. None after the year 9999.
     pub(crate) fn after_1970(time: Duration) -> Option<Moment> {
         (time.as_secs() < END).then_some(Moment(time))
     }
@@ -29,15 +29,15 @@ impl fmt::Display for Moment {
     }
 }
 
-// The year, month and day so many days after 1970-01-01. Years are counted from March on, so a leap day is the last day of one, and by
-// eras of 400 years, which have 146,097 days each.
+// The year, month and day, this many days after 1970-01-01. Years are counted from March, so that a leap day is the last day of one, and
+// in eras of 400 years, which have 146,097 days each.
 fn date_of(days: u64) -> (u64, u64, u64) {
-    // From 0000-03-01 on.
+    // Days since 0000-03-01.
     let days = days + 719_468;
     let (era, day) = (days / 146_097, days % 146_097);
     let year = (day - day / 1_460 + day / 36_524 - day / 146_096) / 365;
     let day = day - (365 * year + year / 4 - year / 100);
-    // From March on, five months have 153 days: 31, 30, 31, 30 and 31.
+    // Starting in March, five months have 153 days: 31, 30, 31, 30 and 31.
     let month = (5 * day + 2) / 153;
     let day = day - (153 * month + 2) / 5 + 1;
     let is_next_year = month >= 10;

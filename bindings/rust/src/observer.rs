@@ -1,4 +1,4 @@
-//! What is told of bulkheads, retries and pools while it happens.
+//! Observers, which hear what happens in bulkheads, retries and pools.
 use crate::rule::Reply;
 use crate::thread_pool::Refusal;
 use std::fmt;
@@ -6,38 +6,38 @@ use std::panic::{RefUnwindSafe, UnwindSafe};
 use std::sync::Arc;
 use std::time::{Duration, Instant};
 
-/// How the wait of a call for a permit ended.
+/// How a call's wait for a permit ended.
 #[derive(Debug, Clone, Copy, PartialEq, Eq, PartialOrd, Ord, Hash)]
 #[non_exhaustive]
 pub enum WaitEnd {
-    /// The call has its permit.
+    /// The call got its permit.
     Granted,
-    /// It was refused at once: no permit was free, and it may not wait, or the bulkhead has fewer permits than it asks for.
+    /// It was refused at once: no permit was free and it may not wait, or the bulkhead has fewer permits than it asks for.
     Full,
-    /// It was refused at once: [as many calls](crate::Acquire::most_waiting) wait already as are allowed to.
+    /// It was refused at once: [as many calls already wait](crate::Acquire::most_waiting) as may wait.
     QueueFull,
-    /// There was no permit within its time limit.
+    /// It got no permit within its time limit.
     TimedOut,
-    /// The bulkhead is closed, or was closed meanwhile.
+    /// The bulkhead was closed, before or during the wait.
     Closed,
-    /// Its future was dropped while it waited.
+    /// Its future was dropped during the wait.
     Abandoned,
 }
 
-/// Is told what happens to calls of bulkheads and retries and to jobs of pools, as Resilience4j's event consumers are.
+/// Receives what happens to the calls of bulkheads and retries and to the jobs of pools, like Resilience4j's event consumers.
 ///
-/// It is set at the making of a [`Bulkhead`](crate::Bulkhead::observed), a [`Retry`](crate::Retry::observed), a
-/// [`ThreadPool`](crate::ThreadPoolBuilder::observed) or a [`BulkheadRegistry`](crate::BulkheadRegistry::observed). Each method
-/// does nothing where it isn't written, and is called outside of every lock, by the thread that does what is told; each call waits
-/// for it. Threads tell it at once, in no order among them: a job may be told to have begun before it is told to be accepted.
+/// Set it when you make a [`Bulkhead`](crate::Bulkhead::observed), a [`Retry`](crate::Retry::observed), a
+/// [`ThreadPool`](crate::ThreadPoolBuilder::observed) or a [`BulkheadRegistry`](crate::BulkheadRegistry::observed). Each method does
+/// nothing by default. It is called outside all locks, by the thread that causes the event, and that thread waits for it to return.
+/// Threads report concurrently and in no order relative to each other: a job's start may be reported before its acceptance.
 ///
-/// It may call what it observes, with a care: that is told to it too. One that enters a bulkhead in
-/// [`call_finished`](Observer::call_finished) of that very bulkhead, or submits a job in [`job_accepted`](Observer::job_accepted) of
-/// that pool, calls itself until the stack is full.
+/// A method may use what it observes, but with care: that is reported too. One that enters a bulkhead in
+/// [`call_finished`](Observer::call_finished) of the same bulkhead, or submits a job in [`job_accepted`](Observer::job_accepted) of the
+/// same pool, recurses until the stack overflows.
 ///
-/// Where it panics, so does the call that tells it, whose permits are given back; a panic in the end of a call that panics itself ends
-/// the process, as each panic in a drop does. A job's panic is its answer. A panic of `job_accepted` or `job_refused` goes no further:
-/// the submitter has its handle, or its function.
+/// If a method panics, so does the call that reports to it, whose permits are given back. If the call was panicking already, a panic in
+/// its end aborts the process, as any panic in a drop does. In a job a panic becomes its answer. A panic of `job_accepted` or
+/// `job_refused` goes no further: the submitter still gets its handle, or its function back.
 ///
 /// ```
 /// use resil::{Bulkhead, Observer};
@@ -56,63 +56,63 @@ pub enum WaitEnd {
 /// # Ok::<(), resil::BulkheadError>(())
 /// ```
 pub trait Observer: Send + Sync {
-    /// The observer of the bulkhead of this name; none where it is this one. It is asked once, when it is set, so that it needn't
-    /// look a name up at each event.
+    /// Returns the observer to use for the bulkhead of this name, or `None` to use this one. It is called once, when the observer is set,
+    /// so that an observer needn't look up a name at each event.
     fn of_bulkhead(&self, _name: &str) -> Option<Arc<dyn Observer>> {
         None
     }
 
-    /// The observer of the retry of this name, as [`of_bulkhead`](Observer::of_bulkhead).
+    /// Returns the observer to use for the retry of this name, as [`of_bulkhead`](Observer::of_bulkhead) does.
     fn of_retry(&self, _name: &str) -> Option<Arc<dyn Observer>> {
         None
     }
 
-    /// The observer of the pool of this name, as [`of_bulkhead`](Observer::of_bulkhead).
+    /// Returns the observer to use for the pool of this name, as [`of_bulkhead`](Observer::of_bulkhead) does.
     fn of_pool(&self, _name: &str) -> Option<Arc<dyn Observer>> {
         None
     }
 
-    /// Whether it wants times. It is asked once, when it is set; where it doesn't, the clock isn't read, and all times that it
-    /// is told are zero.
+    /// Whether it wants times. It is called once, when the observer is set. If it returns false, the clock isn't read, and all times
+    /// reported to it are zero.
     fn wants_times(&self) -> bool {
         true
     }
 
-    /// A call has a permit of this bulkhead: by whatever way, also by one that waits.
+    /// A call got a permit of this bulkhead, by any method, waiting or not.
     fn call_permitted(&self, _bulkhead: &str) {}
 
-    /// A call was refused by this bulkhead: at once, or after a wait.
+    /// This bulkhead refused a call, at once or after a wait.
     fn call_refused(&self, _bulkhead: &str) {}
 
-    /// A wait for a permit of this bulkhead is over: it took so long, and ended so.
+    /// A wait for a permit of this bulkhead is over: how long it took, and how it ended.
     ///
-    /// It is told exactly once for each call that may wait, by whatever way: [`enter_within`](crate::Bulkhead::enter_within),
-    /// [`acquire_owned`](crate::Bulkhead::acquire_owned) and their like, and a layer of tower that waits. The time of one that has its
-    /// permit or its refusal at once is zero. It is told before [`call_permitted`](Observer::call_permitted) or
-    /// [`call_refused`](Observer::call_refused) of the same call, of which an abandoned one has neither. A future that was never polled
-    /// hasn't waited.
+    /// Reported exactly once for each call that may wait, by any method: [`enter_within`](crate::Bulkhead::enter_within),
+    /// [`acquire_owned`](crate::Bulkhead::acquire_owned), others like them, and a tower layer that waits. The time is zero if the call
+    /// gets its permit or its refusal at once. This is reported before [`call_permitted`](Observer::call_permitted) or
+    /// [`call_refused`](Observer::call_refused) of the same call; an abandoned call has neither. A future that was never polled hasn't
+    /// waited.
     fn call_waited(&self, _bulkhead: &str, _time: Duration, _end: WaitEnd) {}
 
-    /// A call gave its permit back unused, since what it was to call wasn't ready within the call's time limit. It is told after
+    /// A call gave its permit back unused, because what it was about to call wasn't ready within the call's time limit. Reported after
     /// [`call_finished`](Observer::call_finished) of the same call.
     fn call_timed_out(&self, _bulkhead: &str) {}
 
-    /// A permit of this bulkhead was given back so long after it was taken. One that is forgotten isn't told.
+    /// A permit of this bulkhead was given back, this long after it was taken. Forgotten permits aren't reported.
     fn call_finished(&self, _bulkhead: &str, _time: Duration) {}
 
-    /// An attempt failed, counted from 1, and the next one follows after this wait.
+    /// An attempt failed (counted from 1), and the next one follows after this wait.
     fn attempt_failed(&self, _retry: &str, _attempt: u32, _wait: Duration) {}
 
-    /// A call ended with a value that isn't retried, after so many attempts.
+    /// A call ended with a value that isn't retried, after this many attempts.
     fn retry_succeeded(&self, _retry: &str, _attempts: u32) {}
 
-    /// A call ended, since its last attempt gave what is to be retried.
+    /// A call ended because its last attempt still had an outcome to retry.
     fn retry_exhausted(&self, _retry: &str, _attempts: u32) {}
 
-    /// A call ended with an error that isn't retried, after so many attempts.
+    /// A call ended with an error that isn't retried, after this many attempts.
     fn error_ignored(&self, _retry: &str, _attempts: u32) {}
 
-    /// A call ended, since the wait after this attempt would go beyond its [limit](crate::Retry::within).
+    /// A call ended because the wait after this attempt would exceed its [limit](crate::Retry::within).
     fn retry_out_of_time(&self, _retry: &str, _attempts: u32) {}
 
     /// A job was accepted with this reply: `Core`, `Queued` or `Extra`.
@@ -121,17 +121,17 @@ pub trait Observer: Send + Sync {
     /// A job was refused.
     fn job_refused(&self, _pool: &str, _reason: Refusal) {}
 
-    /// A job began so long after its submission.
+    /// A job began, this long after it was submitted.
     fn job_started(&self, _pool: &str, _wait: Duration) {}
 
-    /// The function of a job gave its answer after so long. It is told before the answer can be had.
+    /// A job's function returned after this time. Reported before the answer is available.
     fn job_finished(&self, _pool: &str, _time: Duration) {}
 
-    /// The function of a job panicked after so long.
+    /// A job's function panicked after this time.
     fn job_panicked(&self, _pool: &str, _time: Duration) {}
 }
 
-// Each of these events, for each of several observers.
+// Passes each of these events to each of several observers.
 macro_rules! tell_each {
     ($($event:ident($($argument:ident: $kind:ty),*);)*) => {
         $(fn $event(&self, $($argument: $kind),*) {
@@ -142,7 +142,7 @@ macro_rules! tell_each {
     };
 }
 
-// What these give of each of several observers, or else that one.
+// Calls these for each of several observers, and keeps the observer itself if the result is none.
 macro_rules! own_of_each {
     ($($of:ident),*) => {
         $(fn $of(&self, name: &str) -> Option<Arc<dyn Observer>> {
@@ -152,7 +152,7 @@ macro_rules! own_of_each {
     };
 }
 
-/// Several observers, one after the other.
+/// Several observers, called one after the other.
 impl<const N: usize> Observer for [Arc<dyn Observer>; N] {
     own_of_each! { of_bulkhead, of_retry, of_pool }
 
@@ -179,17 +179,17 @@ impl<const N: usize> Observer for [Arc<dyn Observer>; N] {
     }
 }
 
-/// An observer with the name that it is told, and a clock.
+/// An observer, the name it is called with, and a clock.
 #[derive(Clone)]
 pub(crate) struct Watch {
     pub(crate) name: Arc<str>,
     pub(crate) observer: Arc<dyn Observer>,
-    // None where the observer wants no times.
+    // None if the observer wants no times.
     birth: Option<Instant>,
 }
 
 impl Watch {
-    /// Sets an observer, or the own one that it has for this name.
+    /// Sets an observer, or the one that it returned for this name.
     pub(crate) fn new(
         name: &str,
         observer: Arc<dyn Observer>,
@@ -203,19 +203,19 @@ impl Watch {
         }
     }
 
-    /// The time since the making, in nanoseconds, in their last bits; none where no times are wanted.
+    /// The time since it was made, in nanoseconds, modulo 2^64. None if no times are wanted.
     pub(crate) fn nanoseconds(&self) -> Option<u64> {
         let time = self.birth?.elapsed();
         let seconds = time.as_secs().wrapping_mul(1_000_000_000);
         Some(seconds.wrapping_add(time.subsec_nanos().into()))
     }
 
-    /// The time since the making.
+    /// The time since it was made.
     pub(crate) fn now(&self) -> Duration {
         self.birth.map_or(Duration::ZERO, |birth| birth.elapsed())
     }
 
-    /// The time since this time.
+    /// The time since `begun`.
     pub(crate) fn since(&self, begun: Duration) -> Duration {
         self.now().saturating_sub(begun)
     }
@@ -229,6 +229,6 @@ impl fmt::Debug for Watch {
     }
 }
 
-// A panic of an observer leaves nothing of this crate half done.
+// A panic of an observer leaves nothing in this crate half done.
 impl UnwindSafe for Watch {}
 impl RefUnwindSafe for Watch {}

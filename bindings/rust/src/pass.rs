@@ -1,4 +1,4 @@
-//! Permits for threads of one's own: a [`Pass`] for each, which needs no lock.
+//! Permits for your own threads: each has a [`Pass`], and no lock is needed.
 //!
 //! ```
 //! use resil::pass::Pass;
@@ -32,15 +32,15 @@ fn made(answer: u8, out: Handle) -> Result<Pass, BulkheadError> {
     }
 }
 
-/// What one thread takes permits with and gives them back with, without a lock.
+/// Takes permits and gives them back, for one thread and without a lock.
 ///
-/// A [`Bulkhead`](crate::Bulkhead) keeps passes for its callers; a thread that has a pass of its own spares the lock
-/// of these. A pass that is dropped raises all that it has retired and gives back all that it holds.
+/// A [`Bulkhead`](crate::Bulkhead) keeps passes for its callers and locks them; a thread with its own pass needs no lock. Dropping a pass
+/// raises everything that it has retired and gives back everything that it holds.
 pub struct Pass {
     handle: Handle,
 }
 
-// SAFETY: `Send` is proved of the library's handle, and only `&mut` reaches the calls of a pass.
+// SAFETY: `Send` is proved for the library's handle, and a pass's calls can only be reached through `&mut`.
 unsafe impl Send for Pass {}
 
 impl Pass {
@@ -48,52 +48,51 @@ impl Pass {
     ///
     /// # Errors
     ///
-    /// `TooManyPermits` where `max` is above 65,535; `Memory` where memory runs out.
+    /// `TooManyPermits` if `max` is above 65,535; `Memory` if out of memory.
     pub fn new(max: u32) -> Result<Pass, BulkheadError> {
         let mut out = Handle::EMPTY;
-        // SAFETY: `out` is empty and this call's alone.
+        // SAFETY: `out` is empty, and only this call has it.
         let answer = unsafe { resil_permit_new(max, &raw mut out) };
         made(answer, out)
     }
 
-    /// A second pass of the same permits, for another thread. It holds none.
+    /// Makes a second pass of the same permits, for another thread. It holds none.
     ///
     /// # Errors
     ///
-    /// `Memory` where memory runs out.
+    /// `Memory` if out of memory.
     pub fn split(&mut self) -> Result<Pass, BulkheadError> {
         let mut out = Handle::EMPTY;
-        // SAFETY: the handle was filled by `new` or `split` and is used by this call alone; `out` is empty.
+        // SAFETY: the handle was filled by `new` or `split` and only this call uses it; `out` is empty.
         let answer = unsafe { resil_permit_split(self.handle, &raw mut self.handle, &raw mut out) };
         made(answer, out)
     }
 
-    /// Takes a permit, which is given back when it is dropped.
+    /// Takes a permit and returns it. Dropping it gives it back.
     ///
     /// # Errors
     ///
-    /// `Full` where all permits in use are held.
+    /// `Full` if all permits in use are held.
     pub fn enter(&mut self) -> Result<PassPermit<'_>, NoPermit> {
         self.acquire()?;
         Ok(PassPermit { pass: self })
     }
 
-    /// Calls the function under a permit, which is given back when the call ends or panics.
+    /// Calls the function under a permit, which is given back when the call returns or panics.
     ///
     /// # Errors
     ///
-    /// `Full` where all permits in use are held; the function wasn't called.
+    /// `Full` if all permits in use are held. The function wasn't called.
     pub fn call<T>(&mut self, function: impl FnOnce() -> T) -> Result<T, NoPermit> {
         let _permit = self.enter()?;
         Ok(function())
     }
 
-    /// Takes a permit and retires it: the pass keeps it back, and one permit less is in use until this pass raises it
-    /// again.
+    /// Takes a permit and retires it: the pass keeps it, and one permit fewer is in use until this pass raises it again.
     ///
     /// # Errors
     ///
-    /// `Full` where all permits in use are held.
+    /// `Full` if all permits in use are held.
     pub fn retire(&mut self) -> Result<(), NoPermit> {
         self.acquire()?;
         let had = self.keep_back();
@@ -101,25 +100,25 @@ impl Pass {
         Ok(())
     }
 
-    /// Raises a permit that the pass has retired, which is free then, and says whether there was one.
+    /// Raises a permit that the pass has retired, which makes it free, and returns whether there was one.
     pub fn raise(&mut self) -> bool {
         // SAFETY: as in `split`.
         unsafe { resil_permit_raise(self.handle, &raw mut self.handle) == 0 }
     }
 
-    /// How many permits the pass has retired and not raised again.
+    /// The number of permits that the pass has retired and not raised again.
     pub fn retired(&mut self) -> u32 {
         // SAFETY: as in `split`.
         unsafe { resil_permit_retired(self.handle, &raw mut self.handle) }
     }
 
-    /// The number of free permits at this point: those in use that nobody holds.
+    /// The number of free permits at this moment: those in use that nobody holds.
     pub fn available(&mut self) -> u32 {
         // SAFETY: as in `split`.
         unsafe { resil_permit_available(self.handle, &raw mut self.handle) }
     }
 
-    // Takes a permit, and tries again while other threads come in between.
+    // Takes a permit, trying again while other threads interfere.
     #[inline]
     pub(crate) fn acquire(&mut self) -> Result<(), NoPermit> {
         loop {
@@ -132,13 +131,13 @@ impl Pass {
         }
     }
 
-    // Retires a permit that the pass holds, and says whether there was one.
+    // Retires a permit that the pass holds, and returns whether there was one.
     pub(crate) fn keep_back(&mut self) -> bool {
         // SAFETY: as in `split`.
         unsafe { resil_permit_retire(self.handle, &raw mut self.handle) == 0 }
     }
 
-    // Gives a permit back, and says whether the pass held one.
+    // Gives a permit back, and returns whether the pass held one.
     #[inline]
     pub(crate) fn release(&mut self) -> bool {
         // SAFETY: as in `split`.
@@ -150,7 +149,7 @@ impl Drop for Pass {
     fn drop(&mut self) {
         while self.raise() {}
         while self.release() {}
-        // SAFETY: the handle was filled by `new` or `split`, and is let go once.
+        // SAFETY: the handle was filled by `new` or `split`, and is freed once.
         unsafe { resil_permit_free(self.handle) }
     }
 }

@@ -1,27 +1,24 @@
-//! The record of a pool, and the text of a history that comes of it.
+//! A pool's record, and the text of a history that is made from it.
 //!
-//! An event is noted by the call of the rule that makes it. Both lie behind the pool's lock, so their order is that of the rule's
-//! decisions. Each part of a record begins with events that make the state in which the pool was, so it is judged alone.
+//! An event is recorded by the call of the rule that causes it, under the pool's lock, so the order of the events is that of the rule's
+//! decisions. Each part of a record begins with events that recreate the pool's state, so it is judged on its own.
 #[cfg(test)]
 mod tests;
 
 use crate::moment::Moment;
-use crate::rule::{JobId, Origin, Picked, PoolError, PoolNumbers, PoolRule, Reply};
+use crate::rule::{JobId, MOST_WORKERS, Origin, Picked, PoolError, PoolNumbers, PoolRule, Reply};
 use std::collections::{HashMap, VecDeque};
 use std::fmt::{Arguments, Write as _};
 use std::time::{Duration, SystemTime, UNIX_EPOCH};
 use std::{iter, mem};
 
-/// The most events of a part. A line has at most 41 bytes while the pool is younger than 30 years, so a text has less than 4 MiB.
+/// The maximum number of events in a part. A line has at most 41 bytes while the pool is younger than 30 years, so a text is below 4 MiB.
 pub(crate) const MOST_EVENTS: u32 = 100_000;
 
-/// The longest time, in microseconds, after which a head may say that an idle worker ends: a year.
+/// The longest time, in microseconds, that a head gives as the keep-alive of an idle worker: a year.
 const LONGEST_IDLE: u64 = 31_536_000_000_000;
 
-/// How many jobs may run at once. The rule gives each a place below.
-const PLACES: usize = 64;
-
-/// The callers of a text: all who submit, and who stands in for what an idle thread had run before the text begins.
+/// The callers of a text: one for all submitters, and one for jobs that represent what an idle thread ran before the text begins.
 const SUBMITTERS: u8 = 1;
 const STAND_INS: u8 = 2;
 
@@ -33,10 +30,10 @@ enum What {
     Remove,
     IdleEnd,
     Close,
-    Resize(u8, u8),
+    Resize(u16, u16),
 }
 
-/// An event with its time in microseconds. Of no job, and of one whose number isn't known, the job is 0.
+/// An event with its time in microseconds. The job is 0 if the event has none or its number isn't known.
 #[derive(Clone, Copy)]
 pub(crate) struct Noted {
     at: u64,
@@ -57,15 +54,15 @@ fn noted(at: u64, caller: u8, job: u64, what: What) -> Noted {
 }
 
 fn resized(core: u32, max: u32) -> What {
-    let size = |size: u32| u8::try_from(size).expect("a size is at most 64");
+    let size = |size: u32| u16::try_from(size).expect("a size is at most 1,024");
     What::Resize(size(core), size(max))
 }
 
-/// Memory for so many events. It was written to, so that no turn has the system find it.
+/// Memory for this many events. It has been written to, so that no turn causes a page fault.
 ///
 /// # Errors
 ///
-/// `Memory` where memory runs out.
+/// `Memory` if out of memory.
 pub(crate) fn memory_for(events: usize) -> Result<Vec<Noted>, PoolError> {
     let mut memory = Vec::new();
     let reserved = memory.try_reserve_exact(events);
@@ -75,7 +72,7 @@ pub(crate) fn memory_for(events: usize) -> Result<Vec<Noted>, PoolError> {
     Ok(memory)
 }
 
-/// A moment by two clocks: by that of the record, in microseconds since the opening, and by that of the system.
+/// The same moment on two clocks: the record's, in microseconds since the pool was opened, and the system's.
 #[derive(Clone, Copy)]
 pub(crate) struct Anchor {
     pub(crate) at: u64,
@@ -83,7 +80,7 @@ pub(crate) struct Anchor {
 }
 
 impl Anchor {
-    /// The moment of the calendar when it is this late by the clock of the record; none before 1970 and after 9999.
+    /// The calendar time at this time of the record's clock. None before 1970 and after 9999.
     fn moment(&self, at: u64) -> Option<Moment> {
         let until_this = self.system.duration_since(UNIX_EPOCH).ok()?;
         let since = Duration::from_micros(at.saturating_sub(self.at));
@@ -91,14 +88,14 @@ impl Anchor {
     }
 }
 
-/// What a pool is recorded with: room for so many events, when it was opened, and the keep-alive of its threads.
+/// How a pool is recorded: room for this many events, when it was opened, and its threads' keep-alive.
 pub(crate) struct Plan {
     pub(crate) events: usize,
     pub(crate) opened: Anchor,
     pub(crate) keep_alive: Duration,
 }
 
-/// What the head of a part tells; a moment when it began, or before; how many events it may have, and how many make its state.
+/// The contents of a part's head; a moment at or before its beginning; how many events fit, and how many recreate its state.
 #[derive(Clone, Copy)]
 struct Head {
     number: u64,
@@ -111,7 +108,7 @@ struct Head {
     made: usize,
 }
 
-/// A part of a record that is over, and how many events more came when there was no room.
+/// A finished part of a record, and how many more events came when it was full.
 pub(crate) struct Part {
     head: Head,
     events: Vec<Noted>,
@@ -119,7 +116,7 @@ pub(crate) struct Part {
 }
 
 impl Part {
-    /// The text of a history, with its head: version 4 where jobs were given back, for which version 3 has no row.
+    /// The text of a history, with its head. It has version 4 if jobs were given back, since version 3 has no row for them.
     pub(crate) fn text(&self) -> String {
         let is_removal = |noted: &Noted| matches!(noted.what, What::Remove);
         let has_removals = self.events.iter().any(is_removal);
@@ -159,7 +156,7 @@ impl Part {
             made if (1..=self.head.most).contains(&made) => format!("made = {made}\n"),
             _ => String::new(),
         };
-        // Without an event there is none that was first.
+        // Without events there is no first one.
         let first = self.events.first();
         let began = first.and_then(|first| self.head.start.moment(first.at));
         let began = began.map_or(String::new(), |began| format!("began = {began}\n"));
@@ -171,10 +168,10 @@ impl Part {
 /// The lines of a text, in which each caller's submissions are numbered from 1.
 struct Lines {
     text: String,
-    // Whether each line has a field for the time-out of core workers, which stays empty, before its time: version 4 has.
+    // Whether each line has a field before its time for the time-out of core workers, which stays empty. Version 4 has it.
     has_time_out: bool,
     submitted: [u64; 2],
-    // The numbers of the jobs that wait, oldest first, and of those that run, by their caller and their number in the pool.
+    // The numbers of the waiting jobs, oldest first, and those of the running jobs, by their caller and their number in the pool.
     waiting: VecDeque<u64>,
     running: HashMap<(u8, u64), u64>,
 }
@@ -236,15 +233,15 @@ fn name_of(reply: Reply) -> &'static str {
     }
 }
 
-/// What is noted. What each event changes lies in one cache line, where there are few places.
+/// The record itself. What each event changes is in one cache line, if there are few places.
 #[repr(C, align(64))]
 struct Record {
     // The time of the turn.
     at: u64,
-    // No more come where they fill their memory.
+    // Once these fill their memory, no more are added.
     events: Vec<Noted>,
-    // The jobs that run, each at its place; 0 where none does.
-    running: [u64; PLACES],
+    // The running jobs by place; 0 for a place without one.
+    running: [u64; MOST_WORKERS],
     missed: u64,
     head: Head,
 }
@@ -255,7 +252,7 @@ impl Record {
         let events = memory_for(plan.events)?;
         Ok(Record {
             at: 0,
-            running: [0; PLACES],
+            running: [0; MOST_WORKERS],
             missed: 0,
             head: Head {
                 number: 1,
@@ -280,7 +277,8 @@ impl Record {
         }
     }
 
-    /// The events that make the state of a pool, of an open one of its core size and the greatest size at the opening.
+    /// The events that recreate a pool's state, starting from an open pool with its core size and the maximum size that it was opened
+    /// with.
     fn made(&self, numbers: PoolNumbers, is_closed: bool) -> impl Iterator<Item = Noted> + use<> {
         let (workers, waiting) = (numbers.workers, numbers.waiting);
         let (core, max) = (numbers.core, numbers.max);
@@ -292,7 +290,7 @@ impl Record {
         let one = move |is_so: bool, what: What| is_so.then(|| of(0, what));
         let each_idle =
             move |what: What| (1..=idle).map(move |job| noted(at, STAND_INS, job, what));
-        // A worker comes by a submission below the core size, and jobs wait where there are as many as that.
+        // A submission below the core size starts a worker, and jobs wait only if there are as many workers as the core size.
         let is_sized = workers > core || (workers < core && waiting > 0);
         let all = self.head.greatest;
         let (starts, waits) = (What::Submit(Reply::Core), What::Submit(Reply::Queued));
@@ -307,20 +305,20 @@ impl Record {
     }
 }
 
-/// The rule of a pool with the record that it has where it is recorded: each call that makes an event notes it.
+/// A pool's rule, with its record if it is recorded: each call that causes an event records it.
 pub(crate) struct RecordedRule {
     rule: PoolRule,
-    // How many jobs the rule has in its queue still that were given back.
+    // The number of jobs that were given back but are still in the rule's queue.
     removed: u32,
     record: Option<Box<Record>>,
 }
 
 impl RecordedRule {
-    /// A rule to which nothing has happened, with the memory for its record.
+    /// A rule without any events, with the memory for its record.
     ///
     /// # Errors
     ///
-    /// `Memory` where memory runs out.
+    /// `Memory` if out of memory.
     pub(crate) fn new(mut rule: PoolRule, plan: Option<&Plan>) -> Result<Self, PoolError> {
         let numbers = rule.numbers();
         let record = plan.map(|plan| Record::new(plan, numbers)).transpose()?;
@@ -331,7 +329,7 @@ impl RecordedRule {
         })
     }
 
-    /// Begins a turn, whose events have this time in microseconds, or that of the turn before where it is later.
+    /// Begins a turn. Its events have this time, in microseconds, or that of the previous turn if that is later.
     #[inline]
     pub(crate) fn begin_turn(&mut self, at: Option<u64>) {
         if let (Some(at), Some(record)) = (at, &mut self.record) {
@@ -339,8 +337,8 @@ impl RecordedRule {
         }
     }
 
-    /// What was recorded up to here, where the pool is recorded. The next part goes on in this memory, and begins at this moment or a
-    /// little later.
+    /// Returns what has been recorded so far, if the pool is recorded. The next part is written to this memory, and begins at this moment
+    /// or a little later.
     pub(crate) fn begin_part(&mut self, mut memory: Vec<Noted>, start: Anchor) -> Option<Part> {
         let numbers = self.numbers();
         let is_closed = self.rule.is_closed();
@@ -384,7 +382,7 @@ impl RecordedRule {
         let picked = self.rule.pick()?;
         if let Some(record) = &mut self.record {
             record.running[picked.place as usize] = picked.id.number;
-            // An own start is no event.
+            // An own start is not an event.
             if picked.origin == Origin::Queue {
                 record.note(picked.id.number, What::Take);
             }
@@ -402,14 +400,15 @@ impl RecordedRule {
         Ok(())
     }
 
-    /// Takes down that the oldest job of the queue was given back. The pool is closed. The rule has no such event: it keeps the job until
+    /// Records that the oldest job in the queue was given back. The pool is closed. The rule has no such event: it keeps the job until
     /// [`finish_removed`](Self::finish_removed).
     pub(crate) fn remove(&mut self, job: u64) {
         self.removed += 1;
         self.note(job, What::Remove);
     }
 
-    /// Has the rule pick and finish what was given back, as far as it has idle workers. Nobody runs that, so it isn't noted.
+    /// Makes the rule pick and finish the jobs that were given back, as far as it has idle workers. Nobody runs them, so this isn't
+    /// recorded.
     pub(crate) fn finish_removed(&mut self) {
         while self.removed > 0 {
             let Some(picked) = self.rule.pick() else {
@@ -441,7 +440,7 @@ impl RecordedRule {
         }
     }
 
-    /// The numbers, in which a job that was given back is finished.
+    /// The numbers. A job that was given back counts as finished.
     pub(crate) fn numbers(&mut self) -> PoolNumbers {
         let numbers = self.rule.numbers();
         PoolNumbers {

@@ -9,31 +9,31 @@ use std::fmt;
 use std::panic::{RefUnwindSafe, UnwindSafe};
 use std::sync::{Arc, Mutex, MutexGuard};
 
-/// The name of the configuration that a registry is made with.
+/// The name of the configuration that a registry is created with.
 const DEFAULT_CONFIG: &str = "default";
 
-/// Why a registry didn't do what a call wanted; where more than one holds, the first of these. It is as it was then.
+/// Why a registry refused a call. If several reasons hold, it is the first of them. The registry is unchanged.
 #[derive(Debug, Clone, Copy, PartialEq, Eq, Hash)]
 #[non_exhaustive]
 pub enum RegistryError {
     /// A name isn't 1 to 64 bytes of ASCII letters, digits, `-`, `_` and `.`.
     BadName,
-    /// The configuration `default` is given when a registry is made, and no other has its name.
+    /// The configuration `default` is set when a registry is made, and no other may have its name.
     ReservedName,
-    /// A configuration has the name already.
+    /// A configuration already has the name.
     NameTaken,
     /// No configuration has the name.
     NoSuchConfig,
     /// The configuration has more than 65,535 permits.
     TooManyPermits,
-    /// Memory ran out.
+    /// Out of memory.
     Memory,
 }
 
 error_texts! { RegistryError {
-    BadName => "a name is 1 to 64 bytes of ASCII letters, digits, `-`, `_` and `.`",
+    BadName => "a name must be 1 to 64 bytes of ASCII letters, digits, `-`, `_` and `.`",
     ReservedName => "the name `default` is reserved",
-    NameTaken => "a configuration has that name already",
+    NameTaken => "a configuration already has that name",
     NoSuchConfig => "no configuration has that name",
     TooManyPermits => "there are more than 65535 permits",
     Memory => "out of memory",
@@ -49,13 +49,13 @@ impl From<BulkheadError> for RegistryError {
     }
 }
 
-/// Bulkheads by name, one for each, and configurations by name, which say how many permits a bulkhead is made with.
+/// Bulkheads by name, one for each, and named configurations, which say how many permits a bulkhead is made with.
 ///
-/// Threads share it by reference. Whoever asks first for a name makes its bulkhead; all others get the same one. A
-/// service asks once and keeps the `Arc`, since a call of the registry takes a lock.
+/// Threads share it by reference. The first caller that asks for a name makes its bulkhead; all others get the same one. Ask once and
+/// keep the `Arc`, since each call of the registry takes a lock.
 ///
-/// A name stays until it is [removed](BulkheadRegistry::remove), with some KiB for its bulkhead. So names are for neighbours, of which
-/// there are few, and not for whoever calls.
+/// A name stays until it is [removed](BulkheadRegistry::remove), and its bulkhead takes a few KiB. So use names for dependencies, which
+/// are few, not for individual callers.
 ///
 /// ```
 /// let registry = resil::BulkheadRegistry::new(25);
@@ -76,8 +76,8 @@ struct Inner {
 }
 
 impl BulkheadRegistry {
-    /// A registry without bulkheads whose configuration `default` is this number of permits. More than 65,535 are refused
-    /// when a bulkhead is made by it.
+    /// Makes a registry without bulkheads whose configuration `default` has this number of permits. A number above 65,535 is refused when
+    /// a bulkhead is made with it.
     #[must_use]
     pub fn new(default_max: u32) -> BulkheadRegistry {
         BulkheadRegistry {
@@ -89,20 +89,19 @@ impl BulkheadRegistry {
         }
     }
 
-    /// The same registry, all of whose bulkheads are [observed](Bulkhead::observed) by this one, but for those that it has made
-    /// before.
+    /// Returns the same registry: this observer [observes](Bulkhead::observed) every bulkhead that it makes from now on.
     #[must_use]
     pub fn observed(mut self, observer: Arc<dyn Observer>) -> BulkheadRegistry {
         self.observer = Some(observer);
         self
     }
 
-    /// Adds a configuration of `max` permits. More than 65,535 are refused when a bulkhead is made by it.
+    /// Adds a configuration of `max` permits. A number above 65,535 is refused when a bulkhead is made with it.
     ///
     /// # Errors
     ///
-    /// In this order: `BadName` where the name isn't 1 to 64 bytes of ASCII letters, digits, `-`, `_` and `.`;
-    /// `ReservedName` where it is `default`; `NameTaken` where a configuration has that name.
+    /// In this order: `BadName` if the name isn't 1 to 64 bytes of ASCII letters, digits, `-`, `_` and `.`; `ReservedName` if it is
+    /// `default`; `NameTaken` if a configuration already has that name.
     pub fn add_config(&self, name: &str, max: u32) -> Result<(), RegistryError> {
         if !is_name(name) {
             return Err(RegistryError::BadName);
@@ -119,24 +118,23 @@ impl BulkheadRegistry {
         }
     }
 
-    /// The bulkhead of that name. Where there is none, one is made by the configuration `default`.
+    /// Returns the bulkhead of that name. If there is none, it makes one with the configuration `default`.
     ///
     /// # Errors
     ///
-    /// In this order: `BadName` where the name isn't 1 to 64 bytes of ASCII letters, digits, `-`, `_` and `.`; where a
-    /// bulkhead is to be made, `TooManyPermits` and `Memory`, as [`Bulkhead::new`] does.
+    /// In this order: `BadName` if the name isn't 1 to 64 bytes of ASCII letters, digits, `-`, `_` and `.`; if a bulkhead has to be made,
+    /// `TooManyPermits` and `Memory`, as in [`Bulkhead::new`].
     pub fn bulkhead(&self, name: &str) -> Result<Arc<Bulkhead>, RegistryError> {
         self.bulkhead_with(name, DEFAULT_CONFIG)
     }
 
-    /// The bulkhead of that name. Where there is none, one is made by the named configuration; where there is one, that
-    /// configuration isn't looked up.
+    /// Returns the bulkhead of that name. If there is none, it makes one with the named configuration; if there is one, it doesn't look
+    /// up the configuration.
     ///
     /// # Errors
     ///
-    /// In this order: `BadName` where the bulkhead's name isn't 1 to 64 bytes of ASCII letters, digits, `-`, `_` and
-    /// `.`; where a bulkhead is to be made, `NoSuchConfig` where no configuration has the other name, then
-    /// `TooManyPermits` and `Memory`, as [`Bulkhead::new`] does.
+    /// In this order: `BadName` if the bulkhead's name isn't 1 to 64 bytes of ASCII letters, digits, `-`, `_` and `.`; if a bulkhead has
+    /// to be made, `NoSuchConfig` if no configuration is called `config`, then `TooManyPermits` and `Memory`, as in [`Bulkhead::new`].
     pub fn bulkhead_with(&self, name: &str, config: &str) -> Result<Arc<Bulkhead>, RegistryError> {
         if !is_name(name) {
             return Err(RegistryError::BadName);
@@ -147,7 +145,7 @@ impl BulkheadRegistry {
         }
         let max = inner.configurations.get(config);
         let max = *max.ok_or(RegistryError::NoSuchConfig)?;
-        // The observer is asked outside of the lock.
+        // The observer is called outside the lock.
         drop(inner);
         let mut bulkhead = Bulkhead::new(name, max)?;
         if let Some(observer) = &self.observer {
@@ -157,17 +155,17 @@ impl BulkheadRegistry {
         let reserved = inner.instances.try_reserve(1);
         reserved.map_err(|_| RegistryError::Memory)?;
         let kept = inner.instances.entry(name.to_owned());
-        // Another thread may have been first.
+        // Another thread may have been faster.
         Ok(Arc::clone(kept.or_insert_with(|| Arc::new(bulkhead))))
     }
 
-    /// Removes the bulkhead of that name, and gives it; none where there is none. Whoever has it keeps it, with its permits: it may be
-    /// [closed](Bulkhead::close). Who asks for the name next makes another one.
+    /// Removes the bulkhead of that name and returns it, or `None` if there is none. Callers that have it keep it, with its permits; you
+    /// may [close](Bulkhead::close) it. The next caller that asks for the name makes a new one.
     pub fn remove(&self, name: &str) -> Option<Arc<Bulkhead>> {
         self.inner().instances.remove(name)
     }
 
-    /// All bulkheads that are there, by their names in the order of bytes.
+    /// Returns all bulkheads, sorted by name in byte order.
     ///
     /// ```
     /// let registry = resil::BulkheadRegistry::new(25);

@@ -15,17 +15,17 @@ use std::time::Duration;
 pub use outcome_test::{ErrorTest, EveryError, NoValue, ValueTest, WaitBy};
 pub use plan::{Attempts, Waits};
 
-/// The greatest number of attempts.
+/// The maximum number of attempts.
 const MAX_ATTEMPTS: u32 = 1_000;
 
-/// Calls again what failed, as often and after such waits as it says.
+/// Repeats calls that failed, up to a number of attempts and with a wait after each.
 ///
-/// Attempts are numbered from 1, and the first call is one of them. An outcome that isn't to be retried is the answer at
-/// once. One that is to be retried is followed by the wait of its attempt and the next attempt, while attempts are
-/// left; the last outcome is the answer then, whatever it is.
+/// Attempts are numbered from 1, and the first call is one of them. An outcome that isn't to be retried is returned at once. One that is
+/// to be retried is followed by the wait of its attempt and then the next attempt, while attempts are left. After that the last outcome
+/// is returned, whatever it is.
 ///
-/// A `Retry` keeps nothing of a call, so one serves calls of any types, also those of many threads at once. A test of
-/// errors or of values is one of a type; a retry that has one serves the calls with errors or values of this type.
+/// A `Retry` keeps no state of a call, so one serves calls of any types, even from many threads at once. A test of errors or values is
+/// for one type; a retry that has a test serves the calls with errors or values of that type.
 ///
 /// ```
 /// use resil::{Interval, Retry};
@@ -36,7 +36,7 @@ const MAX_ATTEMPTS: u32 = 1_000;
 /// assert_eq!(retry.call(|| numbers.next().map_or("", |text| text).parse()), Ok(7));
 /// assert_eq!(retry.call(|| Ok::<_, String>("at once")), Ok("at once"));
 /// ```
-/// A clone has the same observer, and draws on the same numbers for its jitter.
+/// A clone has the same observer, and draws its jitter from the same stream of numbers.
 #[must_use]
 #[derive(Clone)]
 pub struct Retry<Errors = EveryError, Values = NoValue, Pause = fn(Duration)> {
@@ -47,7 +47,7 @@ pub struct Retry<Errors = EveryError, Values = NoValue, Pause = fn(Duration)> {
 }
 
 impl Retry {
-    /// Three attempts, 500 ms after each that failed, whatever its error. No value is retried.
+    /// Three attempts, with 500 ms between two of them, whatever the error. No value is retried.
     pub fn new() -> Retry {
         Retry {
             plan: Plan::new(3, Interval::fixed(Duration::from_millis(500))),
@@ -65,11 +65,11 @@ impl Default for Retry {
 }
 
 impl<Errors, Values, Pause> Retry<Errors, Values, Pause> {
-    /// The number of attempts, of which the first call is one.
+    /// Sets the number of attempts. The first call is one of them.
     ///
     /// # Panics
     ///
-    /// Where the number isn't from 1 to 1,000.
+    /// If the number isn't from 1 to 1,000.
     ///
     /// ```
     /// let retry = resil::Retry::new().attempts(1);
@@ -85,16 +85,16 @@ impl<Errors, Values, Pause> Retry<Errors, Values, Pause> {
         self
     }
 
-    /// How long to wait after each attempt that another one follows.
+    /// Sets how long to wait after each attempt that is followed by another.
     pub fn interval(mut self, interval: Interval) -> Self {
         self.plan.interval = interval;
         self
     }
 
-    /// Retries the errors that this test holds of, and no others. It takes the place of an earlier test of errors, and of
-    /// what was said by [`wait_by`](Retry::wait_by).
+    /// Retries errors for which this test returns true, and no others. It replaces an earlier test of errors, and what
+    /// [`wait_by`](Retry::wait_by) was given.
     ///
-    /// The type of a retry names its tests. Where it is to be written out, a test is a function pointer:
+    /// A retry's type names its tests. If you have to write out that type, use a function pointer as the test:
     ///
     /// ```
     /// use resil::Retry;
@@ -112,9 +112,9 @@ impl<Errors, Values, Pause> Retry<Errors, Values, Pause> {
         }
     }
 
-    /// Retries the values that this test holds of too. It takes the place of an earlier test of values.
+    /// Also retries values for which this test returns true. It replaces an earlier test of values.
     ///
-    /// A value that is still to be retried after the last attempt is the answer.
+    /// If the value after the last attempt would still be retried, it is returned.
     ///
     /// ```
     /// let retry = resil::Retry::new().retry_value_if(|left: &u32| *left > 0).pause_by(|_wait| {});
@@ -130,12 +130,12 @@ impl<Errors, Values, Pause> Retry<Errors, Values, Pause> {
         }
     }
 
-    /// Draws each wait: from half of the interval's to the whole of it, in whole milliseconds, otherwise each time the program is
+    /// Draws each wait at random, between half of the interval's wait and all of it, in whole milliseconds. The draws differ from run to
     /// run.
     ///
     /// ```
     /// let retry = resil::Retry::new().jitter();
-    /// // Half a second at most, and a quarter at least.
+    /// // Between a quarter of a second and half a second.
     /// let waits = retry.waits().map(|wait| wait.as_millis());
     /// assert!(waits.into_iter().all(|wait| (250..=500).contains(&wait)));
     /// ```
@@ -144,10 +144,10 @@ impl<Errors, Values, Pause> Retry<Errors, Values, Pause> {
         self
     }
 
-    /// Draws each wait as [`jitter`](Retry::jitter) does, by a seed: for tests.
+    /// Draws each wait as [`jitter`](Retry::jitter) does, from a seed: for tests.
     ///
-    /// A retry has one stream of numbers, which begins with the seed, and all of its calls draw on it. So calls that come
-    /// one after the other wait the same each time the program is run.
+    /// A retry has one stream of numbers, which begins with the seed, and all its calls draw from it. So calls made one after the other
+    /// wait the same in each run of the program.
     ///
     /// ```
     /// let waits = |seed| resil::Retry::new().jitter_seeded(seed).waits().collect::<Vec<_>>();
@@ -159,13 +159,13 @@ impl<Errors, Values, Pause> Retry<Errors, Values, Pause> {
         self
     }
 
-    /// Asks the error of each attempt that another one follows how long to wait, as where an answer says when to come
-    /// again. Where it answers none, the interval says it, with the jitter; what the error says is taken as it is. The
-    /// function is given the attempt's number, from 1.
+    /// Asks the error of each attempt that is followed by another how long to wait, for errors that carry a retry-after time. If the
+    /// function returns `None`, the interval decides, with jitter; what the error says is used unchanged. The function gets the attempt's
+    /// number, from 1.
     ///
     /// ```
     /// # use std::time::Duration;
-    /// // An error that says when to come again, in seconds.
+    /// // An error that says when to try again, in seconds.
     /// let retry = resil::Retry::new()
     ///     .wait_by(|error: &Option<u64>, _attempt| error.map(Duration::from_secs))
     ///     .pause_by(|wait| assert_eq!(wait.as_secs(), 7));
@@ -186,10 +186,10 @@ impl<Errors, Values, Pause> Retry<Errors, Values, Pause> {
         }
     }
 
-    /// Ends a call so long after its beginning: a wait that would go beyond it isn't begun, and the last outcome is the
-    /// answer at once. What is called isn't cut off.
+    /// Limits the time of a whole call: a wait that would end later isn't begun, and the last outcome is returned at once. An attempt
+    /// that is running isn't cut off.
     ///
-    /// The time is that of the clock or, where [`pause_by`](Retry::pause_by) doesn't sleep, the sum of the waits.
+    /// Time is that of the clock or, if [`pause_by`](Retry::pause_by) doesn't sleep, the sum of the waits.
     ///
     /// ```
     /// # use std::time::Duration;
@@ -203,7 +203,7 @@ impl<Errors, Values, Pause> Retry<Errors, Values, Pause> {
         self
     }
 
-    /// Has this observer told of the calls, under this name: of each attempt that another one follows, and how each call ends.
+    /// Reports the calls to this observer, under this name: each attempt that is followed by another, and how each call ends.
     pub fn observed(mut self, name: impl Into<String>, observer: Arc<dyn Observer>) -> Self {
         let name = name.into();
         let own = observer.of_retry(&name);
@@ -211,13 +211,13 @@ impl<Errors, Values, Pause> Retry<Errors, Values, Pause> {
         self
     }
 
-    /// The waits of one call whose every attempt fails, jitter and limit in them: for loops of one's own, as in async
-    /// code. No observer is told of them.
+    /// Returns the waits of one call all of whose attempts fail, with jitter and limit: for loops of your own, for example in async code.
+    /// They aren't reported to an observer.
     pub fn waits(&self) -> Waits<'_> {
         Waits::new(&self.plan)
     }
 
-    /// Waits by this function, in place of [`std::thread::sleep`]: for tests.
+    /// Waits with this function instead of [`std::thread::sleep`]: for tests.
     ///
     /// ```
     /// let retry = resil::Retry::new().pause_by(|wait| println!("{wait:?}"));
@@ -234,11 +234,11 @@ impl<Errors, Values, Pause> Retry<Errors, Values, Pause> {
 }
 
 impl<Errors, Values, Pause: Fn(Duration)> Retry<Errors, Values, Pause> {
-    /// Calls the function, and again while its outcome is to be retried and attempts are left. It gives the last outcome.
+    /// Calls the function, and repeats the call while its outcome is to be retried and attempts are left. Returns the last outcome.
     ///
     /// # Errors
     ///
-    /// The function's last one.
+    /// The function's last error.
     ///
     /// ```
     /// let retry = resil::Retry::new().pause_by(|_wait| {});
@@ -264,19 +264,19 @@ impl<Errors, Values, Pause: Fn(Duration)> Retry<Errors, Values, Pause> {
 }
 
 impl<Errors, Values, Pause> Retry<Errors, Values, Pause> {
-    /// Does what [`call`](Retry::call) does for a function that gives futures, on any runtime: it waits by the futures that
-    /// the second function gives, in place of a sleep.
+    /// Does what [`call`](Retry::call) does for a function that returns futures, on any runtime: instead of sleeping, it awaits the
+    /// futures that `sleep` returns.
     ///
-    /// Where the whole is dropped, so is the future that is under way. The futures may borrow what the function has, but not change it:
-    /// state that changes from attempt to attempt goes into a `Cell` or an atomic.
+    /// Dropping the returned future also drops the attempt in progress. The futures may borrow what the function owns, but can't change
+    /// it: put state that changes from attempt to attempt into a `Cell` or an atomic.
     ///
     /// # Errors
     ///
-    /// The last one.
+    /// The last attempt's error.
     ///
     /// ```
     /// async fn price(retry: &resil::Retry) -> Result<u32, String> {
-    ///     // With the sleep of your runtime, such as `tokio::time::sleep`.
+    ///     // Pass your runtime's sleep, such as `tokio::time::sleep`.
     ///     retry.call_async(async || Ok(42), |_wait| std::future::ready(())).await
     /// }
     /// ```
@@ -302,7 +302,7 @@ impl<Errors, Values, Pause> Retry<Errors, Values, Pause> {
         }
     }
 
-    /// Begins a call of one's own, in whose loop [`wait_after`](Retry::wait_after) says what to do after each attempt.
+    /// Begins a call in a loop of your own: after each attempt, [`wait_after`](Retry::wait_after) says what to do next.
     ///
     /// ```
     /// let retry = resil::Retry::new();
@@ -317,13 +317,13 @@ impl<Errors, Values, Pause> Retry<Errors, Values, Pause> {
         self.plan.begin()
     }
 
-    /// How long to wait before the next attempt of a call that was begun, after this outcome of the last one; none where that is
-    /// the answer. The observer is told of it. A limit counts from [`begin`](Retry::begin) on.
+    /// Returns how long to wait before the next attempt of this call, given the outcome of the last one, or `None` if that outcome is the
+    /// answer. The result is reported to the observer. A limit counts from [`begin`](Retry::begin).
     ///
     /// ```
     /// let retry = resil::Retry::new();
     /// let mut attempts = retry.begin();
-    /// // What succeeds is the answer.
+    /// // A success is the answer.
     /// assert_eq!(retry.wait_after(&mut attempts, Ok::<_, &()>(&42)), None);
     /// ```
     #[inline]
@@ -360,7 +360,7 @@ impl<Errors, Values, Pause> Retry<Errors, Values, Pause> {
     }
 }
 
-// So that a chain takes a retry by value, by reference or in an `Arc`.
+// Lets a chain take a retry by value, by reference or in an `Arc`.
 impl<Errors, Values, Pause> AsRef<Retry<Errors, Values, Pause>> for Retry<Errors, Values, Pause> {
     fn as_ref(&self) -> &Retry<Errors, Values, Pause> {
         self

@@ -1,4 +1,4 @@
-//! The rule of a pool, for those who have threads of their own: which submissions are accepted, and which job is next.
+//! A pool's rule, for programs with their own threads: which submissions are accepted, and which job is next.
 mod error;
 mod event;
 
@@ -13,10 +13,14 @@ use std::fmt;
 pub use error::PoolError;
 pub use event::{Event, JobId, Origin, Picked, PoolNumbers, Reply};
 
-/// The capacity of a queue for which none is named, in jobs.
+/// The most workers that a pool may have, and so the most jobs that may run at once. The rule gives each running job a place below
+/// this.
+pub(crate) const MOST_WORKERS: usize = 1_024;
+
+/// The default capacity of a queue, in jobs.
 pub(crate) const QUEUE: u32 = 100;
 
-/// The sizes of a [`PoolRule`] that is to be made.
+/// Builds a [`PoolRule`] from its sizes.
 #[derive(Debug, Clone)]
 #[must_use]
 pub struct PoolRuleBuilder {
@@ -28,35 +32,35 @@ pub struct PoolRuleBuilder {
 }
 
 impl PoolRuleBuilder {
-    /// The capacity of the queue, in jobs: 1 to 65,536, and 100 where none is named.
+    /// Sets the capacity of the queue, in jobs: 1 to 65,536. The default is 100.
     pub fn queue(mut self, capacity: u32) -> Self {
         self.queue = capacity;
         self
     }
 
-    /// The number of callers that submit: 1 to 65,535, and one where none is named. They are numbered from 1.
+    /// Sets the number of callers that submit: 1 to 65,535. The default is one. They are numbered from 1.
     pub fn callers(mut self, count: u32) -> Self {
         self.callers = count;
         self
     }
 
-    /// How many of the last events are kept; none where this isn't called.
+    /// Sets how many of the last events are kept. By default none are.
     pub fn keep_events(mut self, count: u32) -> Self {
         self.kept = count;
         self
     }
 
-    /// An open pool without workers or jobs. It has all the memory that it will ever have.
+    /// Makes an open pool without workers or jobs. It allocates all the memory that it will ever use.
     ///
     /// # Errors
     ///
-    /// In this order: `CoreOutOfRange` where the core size isn't from 1 to 64; `MaxOutOfRange` where the greatest size
-    /// isn't from the core size to 64; `QueueOutOfRange`; `CallersOutOfRange`; `Memory` where memory runs out.
+    /// In this order: `CoreOutOfRange` where the core size isn't from 1 to 1,024; `MaxOutOfRange` where the greatest size
+    /// isn't from the core size to 1,024; `QueueOutOfRange`; `CallersOutOfRange`; `Memory` where memory runs out.
     pub fn open(self) -> Result<PoolRule, PoolError> {
         let (core, max, queue) = (self.core, self.max, self.queue);
         let mut handle = Handle::EMPTY;
         let out = &raw mut handle;
-        // SAFETY: `handle` is empty and this call's alone.
+        // SAFETY: `handle` is empty, and only this call has it.
         match unsafe { resil_pool_new(core, max, queue, self.callers, self.kept, out) } {
             0 => Ok(PoolRule { handle }),
             2 => Err(PoolError::CoreOutOfRange),
@@ -68,12 +72,11 @@ impl PoolRuleBuilder {
     }
 }
 
-/// Which submissions are accepted, and which job is to run next: the rule of
-/// `java.util.concurrent.ThreadPoolExecutor` for threads of one's own.
+/// Which submissions are accepted, and which job runs next: the rule of `java.util.concurrent.ThreadPoolExecutor` for your own threads.
 ///
-/// It starts no thread and runs no job. Threads share it behind a lock of theirs. After `Core` or `Extra` the service
-/// starts a worker, which picks, runs and finishes one job after the other. With each job comes work of 64 bits, such
-/// as an index, that the rule keeps for the service until the job is picked. All memory is taken at making.
+/// It starts no threads and runs no jobs. Threads share it under a lock of their own. After `Core` or `Extra` you start a worker, which
+/// picks, runs and finishes one job after the other. Each job carries 64 bits of work, such as an index, which the rule keeps for you
+/// until the job is picked. All memory is allocated when the rule is made.
 ///
 /// ```
 /// use resil::rule::{Event, JobId, PoolRule, Reply};
@@ -83,7 +86,7 @@ impl PoolRuleBuilder {
 /// assert_eq!(rule.submit(first, 7)?, Reply::Core);
 /// let picked = rule.pick().expect("a worker is started for it");
 /// assert_eq!((picked.id, picked.work), (first, 7));
-/// // The service runs its job here.
+/// // Your program runs its job here.
 /// rule.finish(&picked)?;
 /// assert_eq!(rule.last_events(), [Event::Submit(first, Reply::Core), Event::Finish(first)]);
 /// # Ok::<(), resil::PoolError>(())
@@ -92,11 +95,11 @@ pub struct PoolRule {
     handle: Handle,
 }
 
-// SAFETY: `Send` is proved of the library's handle, and only `&mut` reaches the calls of a pool.
+// SAFETY: `Send` is proved for the library's handle, and a pool's calls can only be reached through `&mut`.
 unsafe impl Send for PoolRule {}
 
 impl PoolRule {
-    /// Begins a pool of a core size from 1 to 64 and a greatest size from the core size to 64, in workers.
+    /// Begins a pool of a core size from 1 to 1,024 and a greatest size from the core size to 1,024, in workers.
     pub fn builder(core: u32, max: u32) -> PoolRuleBuilder {
         PoolRuleBuilder {
             core,
@@ -107,28 +110,27 @@ impl PoolRule {
         }
     }
 
-    /// Submits its caller's next job with its work, and answers by the rule. A job that is refused leaves its work with
-    /// the service.
+    /// Submits its caller's next job with its work, and returns the rule's reply. The work of a refused job stays with you.
     ///
     /// # Errors
     ///
-    /// In this order: `NoCaller` where the caller isn't from 1 to the number of callers; `WrongNumber` where the number isn't
-    /// the caller's next one.
+    /// In this order: `NoCaller` if the caller isn't from 1 to the number of callers; `WrongNumber` if the number isn't the caller's next
+    /// one.
     pub fn submit(&mut self, id: JobId, work: u64) -> Result<Reply, PoolError> {
         let JobId { caller, number } = id;
         let (pool, back) = (self.handle, &raw mut self.handle);
-        // SAFETY: the handle was filled by `resil_pool_new` and is used by this call alone.
+        // SAFETY: the handle was filled by `resil_pool_new` and only this call uses it.
         match unsafe { resil_pool_submit(pool, back, caller, number, work) } {
             6 => Err(PoolError::NoCaller),
             answer => Reply::of(answer).ok_or(PoolError::WrongNumber),
         }
     }
 
-    /// Picks the job that is to run next: the oldest with a worker of its own that wasn't picked, else the oldest of
-    /// the queue, where a worker is idle.
+    /// Picks the job to run next: the oldest that has a worker of its own and wasn't picked yet; otherwise the oldest in the queue, if a
+    /// worker is idle. Returns `None` if there is no such job.
     pub fn pick(&mut self) -> Option<Picked> {
         let mut job = PoolJob::default();
-        // SAFETY: as in `submit`; the job is this call's own.
+        // SAFETY: as in `submit`; only this call has the job.
         match unsafe { resil_pool_pick(self.handle, &raw mut self.handle, &raw mut job) } {
             0 => Some(Picked::of(job, Origin::OwnStart)),
             1 => Some(Picked::of(job, Origin::Queue)),
@@ -136,11 +138,11 @@ impl PoolRule {
         }
     }
 
-    /// Ends a job that was picked.
+    /// Finishes a job that was picked.
     ///
     /// # Errors
     ///
-    /// `NotOut` where no job of this id was picked at this place and isn't finished.
+    /// `NotOut` unless a job with this id was picked at this place and isn't finished.
     pub fn finish(&mut self, picked: &Picked) -> Result<(), PoolError> {
         let JobId { caller, number } = picked.id;
         let (pool, back) = (self.handle, &raw mut self.handle);
@@ -151,16 +153,16 @@ impl PoolRule {
         }
     }
 
-    /// Sets the core size and the greatest size, in workers, from here on; it is an event also where they stay the same
-    /// and where the pool is closed. The queue's capacity and all jobs stay.
+    /// Sets the core size and the maximum size, in workers, from now on. It is an event even if they stay the same or the pool is closed.
+    /// The queue's capacity and all jobs stay the same.
     ///
-    /// No worker begins or ends by it: one begins with a submission, and one above the core size goes by `idle_end`. So
-    /// there may be more workers than the greatest size, but never more than at making.
+    /// This starts and ends no worker: a worker starts with a submission, and one above the core size leaves by `idle_end`. So there may
+    /// be more workers than the maximum size, but never more than the pool was made with.
     ///
     /// # Errors
     ///
-    /// In this order: `CoreOutOfRange` where the core size isn't from 1 to 64; `MaxOutOfRange` where the greatest size
-    /// is below the core size, or above that at making.
+    /// In this order: `CoreOutOfRange` where the core size isn't from 1 to 64, or to 1,024 where the greatest size at making was
+    /// above 64; `MaxOutOfRange` where the greatest size is below the core size, or above that at making.
     pub fn resize(&mut self, core: u32, max: u32) -> Result<(), PoolError> {
         // SAFETY: as in `submit`.
         match unsafe { resil_pool_resize(self.handle, &raw mut self.handle, core, max) } {
@@ -170,51 +172,51 @@ impl PoolRule {
         }
     }
 
-    /// Ends an idle worker, and says whether it did: only where nothing waits, fewer jobs run than there are workers,
-    /// and there are more workers than the core size or the pool is closed.
+    /// Ends an idle worker, and returns whether it did. It does only if no job waits, fewer jobs run than there are workers, and either
+    /// there are more workers than the core size or the pool is closed.
     pub fn idle_end(&mut self) -> bool {
         // SAFETY: as in `submit`.
         unsafe { resil_pool_idle_end(self.handle, &raw mut self.handle) == 0 }
     }
 
-    /// Closes the pool, and says whether it was open. Jobs accepted before are still picked.
+    /// Closes the pool, and returns whether it was open. Jobs accepted before are still picked.
     pub fn close(&mut self) -> bool {
         // SAFETY: as in `submit`.
         unsafe { resil_pool_close(self.handle, &raw mut self.handle) == 0 }
     }
 
-    /// Whether the pool was closed.
+    /// Whether the pool is closed.
     pub fn is_closed(&mut self) -> bool {
         self.counts().closed != 0
     }
 
-    /// The numbers of this moment.
+    /// The pool's numbers, all of this moment.
     pub fn numbers(&mut self) -> PoolNumbers {
         self.counts().into()
     }
 
-    /// How many of the last events are kept now: all there were, and at most as many as were asked for.
+    /// The number of events that are kept now: all that have happened, up to the number asked for.
     pub fn event_count(&mut self) -> usize {
         // SAFETY: as in `submit`.
         unsafe { resil_pool_event_count(self.handle, &raw mut self.handle) }
     }
 
-    /// How many events came before those that are kept, and are lost.
+    /// The number of lost events: those that came before the kept ones.
     pub fn lost(&mut self) -> u64 {
         // SAFETY: as in `submit`.
         unsafe { resil_pool_lost(self.handle, &raw mut self.handle) }
     }
 
-    /// One of the events that are kept, by its index from 0, oldest first.
+    /// Returns one of the kept events, by its index from 0, oldest first. `None` if there is none with that index.
     pub fn event(&mut self, index: usize) -> Option<Event> {
         let mut event = PoolEvent::default();
-        // SAFETY: as in `submit`; the event is this call's own.
+        // SAFETY: as in `submit`; only this call has the event.
         let answer =
             unsafe { resil_pool_event(self.handle, &raw mut self.handle, index, &raw mut event) };
         if answer == 0 { Event::of(event) } else { None }
     }
 
-    /// All events that are kept, oldest first.
+    /// Returns all kept events, oldest first.
     pub fn last_events(&mut self) -> Vec<Event> {
         (0..self.event_count())
             .filter_map(|index| self.event(index))
@@ -223,7 +225,7 @@ impl PoolRule {
 
     fn counts(&mut self) -> PoolCounts {
         let mut counts = PoolCounts::default();
-        // SAFETY: as in `submit`; the counts are this call's own.
+        // SAFETY: as in `submit`; only this call has the counts.
         unsafe { resil_pool_numbers(self.handle, &raw mut self.handle, &raw mut counts) };
         counts
     }
@@ -231,7 +233,7 @@ impl PoolRule {
 
 impl Drop for PoolRule {
     fn drop(&mut self) {
-        // SAFETY: the handle was filled by `resil_pool_new`, and is let go once.
+        // SAFETY: the handle was filled by `resil_pool_new`, and is freed once.
         unsafe { resil_pool_free(self.handle) }
     }
 }

@@ -1,6 +1,6 @@
-//! What errors say.
+//! The messages of errors.
 
-/// Makes an enum an error that says these texts, case by case.
+/// Makes an enum an error with these messages, one for each case.
 macro_rules! error_texts {
     ($error:ident { $($case:ident => $text:literal,)* }) => {
         impl std::fmt::Display for $error {

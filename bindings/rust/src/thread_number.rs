@@ -1,5 +1,5 @@
-//! Numbers of threads, from 0: no two threads that live have the same one. Those of low numbers have places of their own, which nobody
-//! else writes to.
+//! Numbers of threads, from 0: no two live threads have the same one. Threads with low numbers have places of their own, which no other
+//! thread writes to.
 use crate::lock::locked;
 use std::cell::Cell;
 use std::collections::BTreeSet;
@@ -7,11 +7,11 @@ use std::num::NonZero;
 use std::sync::{Mutex, OnceLock};
 use std::thread;
 
-/// How many threads have places, for each processor, and at most.
+/// How many threads have places: this many for each processor, and at most `MOST_PLACES`.
 pub(crate) const PLACES: usize = 4;
 pub(crate) const MOST_PLACES: usize = 64;
 
-// How many have places here. The system is asked once.
+// How many threads have places on this machine. The system is queried once.
 static COUNT: OnceLock<usize> = OnceLock::new();
 
 /// How many threads have places: those whose numbers are below this.
@@ -22,10 +22,10 @@ pub(crate) fn places() -> usize {
     })
 }
 
-// The number of a thread that has none: its numbers are gone, since it ends.
+// The number of a thread that has none, because its thread-locals are gone: it is ending.
 const NONE: usize = usize::MAX;
 
-// The number of a thread that hasn't asked for one.
+// The number of a thread that hasn't asked for one yet.
 const UNASKED: usize = usize::MAX - 1;
 
 thread_local! {
@@ -47,7 +47,7 @@ fn ask() -> usize {
     number
 }
 
-// The numbers that threads had and gave back, and the first that none had.
+// The numbers that threads had and gave back, and the first one never used.
 struct Numbers {
     free: BTreeSet<usize>,
     next: usize,
@@ -58,7 +58,7 @@ static NUMBERS: Mutex<Numbers> = Mutex::new(Numbers {
     next: 0,
 });
 
-// A number that goes back when its thread ends.
+// A number that is given back when its thread ends.
 struct Held {
     number: usize,
 }
@@ -74,7 +74,7 @@ impl Held {
 
 impl Drop for Held {
     fn drop(&mut self) {
-        // What this thread still does has no number, and the next thread that gets it comes after all that it did.
+        // From here on this thread has no number, and the next thread that gets this one comes after everything this thread did.
         NUMBER.set(NONE);
         locked(&NUMBERS).free.insert(self.number);
     }

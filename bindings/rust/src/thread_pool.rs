@@ -1,4 +1,4 @@
-//! A pool of threads that runs functions and hands their answers back.
+//! A pool of threads that runs functions and returns their answers.
 mod book;
 mod builder;
 mod crew;
@@ -32,27 +32,26 @@ pub use handle::JobHandle;
 pub use refused::{Refusal, Refused};
 pub use unstarted::Unstarted;
 
-/// Threads that run functions, by the rule of `java.util.concurrent.ThreadPoolExecutor`, and hand their answers back.
+/// Threads that run functions and return their answers, by the rule of `java.util.concurrent.ThreadPoolExecutor`.
 ///
-/// While there are fewer threads than the core size, a function that is submitted gets a thread of its own; else it
-/// waits in the queue; where the queue is full it gets a thread of its own, up to the greatest size; else it is refused
-/// at once, and comes back. A thread above the core size ends once it was idle for the keep-alive.
+/// While there are fewer threads than the core size, a submitted function gets a new thread. Otherwise it waits in the queue. If the
+/// queue is full, it gets a new thread, up to the maximum size. Beyond that it is refused at once and returned to the caller. A thread
+/// above the core size exits after it has been idle for the keep-alive.
 ///
-/// The pool takes no memory that grows with the jobs that it has run. Where a thread can't be started, another one runs
-/// the job or, where there is none, the submitter does before `submit` returns, on its own stack; the next submission
-/// tries again.
+/// The pool's memory doesn't grow with the number of jobs that it has run. If a thread can't be started, another thread runs the job. If
+/// there is no other thread, the submitter runs it before `submit` returns, on its own stack. The next submission tries again to start a
+/// thread.
 ///
 /// # The end
 ///
-/// A pool that is dropped is closed, runs what was accepted, and is joined. So the drop waits for jobs, and hangs where
-/// one of them waits for something that never comes: for whoever drops the pool, or for another job that waits so. Two
-/// pools of which each is dropped by a job of the other wait for each other. Ways out are [`detach`](ThreadPool::detach),
-/// which closes and waits for nobody, [`join_for`](ThreadPool::join_for), which gives up in time, and
-/// [`close_now`](ThreadPool::close_now), which gives back what hasn't begun. A drop while the thread panics waits for
-/// nobody either: the jobs run on, for as long as the process lives.
+/// Dropping a pool closes it, runs the accepted jobs, and joins it. So the drop waits for jobs, and hangs if one of them waits for
+/// something that never comes: for the thread that drops the pool, or for another job that waits in this way. If two pools are each
+/// dropped by a job of the other, they wait for each other. To avoid this, [`detach`](ThreadPool::detach) closes the pool without
+/// waiting, [`join_for`](ThreadPool::join_for) has a timeout, and [`close_now`](ThreadPool::close_now) gives back the jobs that haven't
+/// begun. A drop during a panic doesn't wait either: the jobs continue for as long as the process lives.
 ///
-/// In the child of a `fork` a pool has no threads, and maybe a lock that nobody opens any more: its calls and its drop
-/// may hang there, but for those of a pool that is opened in the child.
+/// In the child of a `fork` a pool has no threads, and maybe a lock that nobody ever releases: its calls and its drop may hang there. A
+/// pool that is opened in the child works.
 ///
 /// ```
 /// let pool = resil::ThreadPool::builder(2, 4).queue(10).name("letters").open()?;
@@ -75,18 +74,24 @@ impl ThreadPool {
         }
     }
 
-    /// Begins a pool of a core size from 1 to 64 and a greatest size from the core size to 64, in threads.
+    /// Starts building a pool with a core size from 1 to 1,024 and a maximum size from the core size to 1,024, in threads.
+    ///
+    /// ```
+    /// // As many jobs may wait for something slow at a time.
+    /// let pool = resil::ThreadPool::builder(200, 400).open()?;
+    /// assert_eq!((pool.numbers().core, pool.numbers().max), (200, 400));
+    /// # Ok::<(), Box<dyn std::error::Error>>(())
+    /// ```
     pub fn builder(core: u32, max: u32) -> ThreadPoolBuilder {
         ThreadPoolBuilder::new(core, max)
     }
 
-    /// Submits a function, which is run by a thread of the pool, on a stack of
-    /// [`stack_size`](ThreadPoolBuilder::stack_size).
+    /// Submits a function, to be run by a thread of the pool with a stack of [`stack_size`](ThreadPoolBuilder::stack_size).
     ///
     /// # Errors
     ///
-    /// `Closed` where the pool is closed, and else `Full` where the queue is full and there are as many threads as the
-    /// greatest size; with the function, which wasn't called.
+    /// In this order: `Closed` if the pool is closed; `Full` if the queue is full and there are as many threads as the maximum size. The
+    /// error contains the function, which wasn't called.
     ///
     /// ```
     /// # let pool = resil::ThreadPool::builder(1, 1).open()?;
@@ -105,7 +110,7 @@ impl ThreadPool {
         }
     }
 
-    /// The numbers of this moment.
+    /// The pool's numbers, all of this moment.
     ///
     /// ```
     /// # let pool = resil::ThreadPool::builder(1, 1).open()?;
@@ -118,25 +123,26 @@ impl ThreadPool {
         self.crew.numbers()
     }
 
-    /// What was [recorded](ThreadPoolBuilder::record) since the opening or the last call, as the text of a history with its head, which
-    /// the program's `judge`, `stats` and `timeline` read; none if the pool isn't recorded, or if there is no memory for what comes
-    /// then. It is below 4 MiB.
+    /// Returns what was [recorded](ThreadPoolBuilder::record) since the pool was opened or since the last call, as the text of a history
+    /// with its head, for the program's `judge`, `stats` and `timeline`. Returns `None` if the pool isn't recorded, or if out of memory
+    /// for the next part. The text is below 4 MiB.
     ///
-    /// The head has the sizes, the keep-alive in microseconds as `idle_for`, of a year at most, and as `began` when the first event
-    /// was, in UTC by the system's clock. The text is version 3, with times, and version 4 if it has jobs that
-    /// [`close_now`](ThreadPool::close_now) gave back: version 3 has no row for them.
+    /// The head has the sizes, the keep-alive in microseconds as `idle_for` (at most a year), and the time of the first event as `began`,
+    /// in UTC by the system's clock. The text has version 3, with times. It has version 4 if jobs were given back by
+    /// [`close_now`](ThreadPool::close_now), since version 3 has no row for them.
     ///
-    /// The record begins anew with it: the next text begins with events that make the state in which the pool was, all at the time of
-    /// this call, and its head says how many they are, as `made`. So each text is judged alone, and a wait or a run across this moment
-    /// is cut. All submissions are those of caller 1, numbered anew in each text; each thread that was idle at its beginning has a
-    /// submission of caller 2 with its finish. If more jobs wait than the record has room for, it is empty up to the next call.
+    /// The call starts a new part of the record. The next text begins with events that recreate the pool's current state, all at the time
+    /// of this call; `made` in its head says how many. So each text is judged on its own, and a wait or a run that spans this moment is
+    /// cut in two. All submissions are those of caller 1, numbered from 1 in each text; each thread that was idle when a text begins has
+    /// a submission of caller 2 with its finish. If more jobs wait than the record has room for, the record stays empty until the next
+    /// call.
     ///
-    /// The last events of a pool come by `close`, `join` and then this. Its text is written by this thread, without the lock.
+    /// To get a pool's last events, call `close`, `join` and then this. The calling thread writes the text, without holding the lock.
     ///
     /// ```
     /// # let pool = resil::ThreadPool::builder(1, 1).record(1_000).open()?;
     /// pool.submit(|| 42)?.wait()?;
-    /// // The program `resil_look` judges and counts it.
+    /// // The program `resil_look` judges it and counts it.
     /// println!("{}", pool.history().unwrap_or_default());
     /// # Ok::<(), Box<dyn std::error::Error>>(())
     /// ```
@@ -145,24 +151,24 @@ impl ThreadPool {
         self.crew.history()
     }
 
-    /// The name of the pool, which is the beginning of its threads' names.
+    /// The pool's name, with which its threads' names begin.
     #[must_use]
     pub fn name(&self) -> &str {
         &self.crew.kind.name
     }
 
-    /// Sets the core size and the greatest size, in threads, from here on, also of a closed pool. The queue's capacity
-    /// and all jobs stay.
+    /// Sets the core size and the maximum size, in threads, from now on, even if the pool is closed. The queue's capacity and all jobs
+    /// stay the same.
     ///
-    /// No thread begins or ends by it: one begins with a submission, and one above the core size ends once it was idle
-    /// for the keep-alive, while nothing waits in the queue. So there may be more threads than the greatest size, but never
-    /// more than at the opening. No job begins then while as many run as the new greatest size; those that run are run to
-    /// their end. Each resize begins the keep-alive of idle threads anew.
+    /// This starts and ends no thread: a thread starts with a submission, and one above the core size exits after it has been idle for
+    /// the keep-alive while the queue is empty. So there may be more threads than the maximum size, but never more than when the pool was
+    /// opened. While as many jobs run as the new maximum size, no other begins; running jobs are finished. Each resize restarts the
+    /// keep-alive of idle threads.
     ///
     /// # Errors
     ///
-    /// In this order: `CoreOutOfRange` where the core size isn't from 1 to 64; `MaxOutOfRange` where the greatest size
-    /// is below the core size, or above that at the opening.
+    /// In this order: `CoreOutOfRange` if the core size isn't from 1 to 64, or to 1,024 if the pool was opened with a maximum size
+    /// above 64; `MaxOutOfRange` if the maximum size is below the core size, or above the one that the pool was opened with.
     ///
     /// ```
     /// # let pool = resil::ThreadPool::builder(1, 8).open()?;
@@ -174,7 +180,7 @@ impl ThreadPool {
         self.crew.resize(core, max)
     }
 
-    /// Closes the pool: what is submitted from here on is refused. What was accepted still runs, and idle threads end.
+    /// Closes the pool: later submissions are refused. Accepted jobs still run, and idle threads exit.
     ///
     /// ```
     /// # let pool = resil::ThreadPool::builder(1, 1).open()?;
@@ -187,12 +193,12 @@ impl ThreadPool {
         self.crew.close();
     }
 
-    /// Closes the pool, and gives back the jobs that were accepted and haven't begun, oldest first. Those that have begun
-    /// still run. In the pool's numbers a job that was given back is finished, and a join doesn't wait for it.
+    /// Closes the pool and returns the accepted jobs that haven't begun, oldest first. Those that have begun are finished. In the pool's
+    /// numbers a returned job counts as finished, and a join doesn't wait for it.
     ///
     /// ```
     /// # let pool = resil::ThreadPool::builder(1, 1).open()?;
-    /// // What hasn't begun comes back.
+    /// // The jobs that haven't begun come back.
     /// let unstarted = pool.close_now();
     /// assert_eq!(unstarted.len(), 0);
     /// # Ok::<(), Box<dyn std::error::Error>>(())
@@ -202,19 +208,19 @@ impl ThreadPool {
         self.crew.close_now()
     }
 
-    /// Whether the pool was closed.
+    /// Whether the pool is closed.
     #[must_use]
     pub fn is_closed(&self) -> bool {
         self.crew.is_closed()
     }
 
-    /// Waits, asleep, until all that was accepted before this call is finished, and for nothing that is submitted later.
-    /// Where the pool is closed, it waits until its threads have ended.
+    /// Blocks until every job that was accepted before this call is finished; it doesn't wait for later submissions. If the pool is
+    /// closed, it also waits until its threads have ended.
     ///
-    /// It never waits for the calling thread. A job of this pool that calls it, itself or by another pool's job that it
-    /// runs, waits neither for itself nor for other jobs of this pool that wait so, and where the pool is closed, for the
-    /// other threads. A job of another pool waits as any caller: jobs of two pools that join each other's pool wait for
-    /// ever, and so does one that joins while a job waits for it. [`join_for`](ThreadPool::join_for) gives up in time.
+    /// It never waits for the calling thread. If a job of this pool calls it, directly or in another pool's job that it runs, the call
+    /// waits neither for that job nor for other jobs of this pool that are joining; if the pool is closed, it waits for the other
+    /// threads. A job of another pool waits like any caller: jobs of two pools that join each other's pool wait for ever, and so does a
+    /// job that joins while another job waits for it. [`join_for`](ThreadPool::join_for) has a timeout.
     ///
     /// ```
     /// # let pool = resil::ThreadPool::builder(1, 1).open()?;
@@ -227,9 +233,9 @@ impl ThreadPool {
         self.crew.join();
     }
 
-    /// Waits as [`join`](ThreadPool::join) does, for as long as this, and says whether it has come to its end;
-    /// `Duration::MAX` is a wait without an end. Where the pool is closed, its threads have done all that they do for it
-    /// then, but their thread-locals may still be about to be dropped.
+    /// Waits as [`join`](ThreadPool::join) does, for at most `limit`, and returns whether the join completed. `Duration::MAX` waits
+    /// without a limit. If the pool is closed, its threads have then done everything that they do for it, but may not have dropped their
+    /// thread-locals yet.
     ///
     /// ```
     /// # use std::time::Duration;
@@ -243,8 +249,7 @@ impl ThreadPool {
         self.crew.join_until(Instant::now().checked_add(limit))
     }
 
-    /// Closes the pool and lets it go: what was accepted is run by its threads, which end then, and nobody waits for
-    /// them.
+    /// Closes the pool and lets go of it: its threads run the accepted jobs and then exit, and nobody waits for them.
     ///
     /// ```
     /// # let pool = resil::ThreadPool::builder(1, 1).open()?;

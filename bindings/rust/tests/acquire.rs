@@ -1,4 +1,4 @@
-//! Permits that are awaited: the row of those who await, tasks that are dropped, and threads that wait beside them.
+//! Awaited permits: the queue of tasks, tasks that are dropped, and threads that wait beside them.
 mod common;
 
 use common::{Caller, Checked, is_idle, look, poll_by, polled};
@@ -11,7 +11,7 @@ use std::sync::atomic::{AtomicBool, Ordering};
 use std::task::{RawWaker, RawWakerVTable, Waker};
 use std::thread;
 
-/// A permit that is awaited, and who is woken by it.
+/// An awaited permit, and what it wakes.
 struct Awaited {
     permit: Acquire,
     caller: Arc<Caller>,
@@ -25,7 +25,7 @@ impl Awaited {
         }
     }
 
-    // One that stands in the row.
+    // One in the queue.
     fn standing(backend: &Arc<Bulkhead>) -> Result<Awaited, &'static str> {
         let mut awaited = Awaited::new(backend);
         match awaited.poll() {
@@ -55,7 +55,7 @@ fn who_comes_first_is_served_first() -> Checked {
             assert_eq!(awaited.woken(), u32::from(index <= first));
             assert!(index <= first || awaited.poll().is_none());
         }
-        // Whoever asks meanwhile is behind them.
+        // Anyone who asks meanwhile comes after them.
         assert!(backend.enter().is_err());
         drop(row[first].poll().ok_or("it has no permit")?);
     }
@@ -69,7 +69,7 @@ fn a_newcomer_stands_behind_the_row() -> Checked {
     let permits = [backend.enter_owned()?, backend.enter_owned()?];
     let mut first = Awaited::standing(&backend)?;
     drop(permits);
-    // One permit was meant for the first, and the other one is free.
+    // One permit was meant for the first, and the other is free.
     let second = Awaited::new(&backend).poll().ok_or("it has no permit")?;
     assert!(backend.enter().is_err());
     let third = Awaited::standing(&backend)?;
@@ -89,7 +89,7 @@ fn a_task_that_is_dropped_loses_nothing() -> Checked {
     drop(ready.poll().ok_or("it has no permit")?);
     drop(ready);
     assert!(is_idle(&backend));
-    // While it stands in the row: in front, in the middle and at the end.
+    // While it is in the queue: at the front, in the middle and at the end.
     for gone in 0..3 {
         let permit = backend.enter()?;
         let mut row = Vec::new();
@@ -104,7 +104,7 @@ fn a_task_that_is_dropped_loses_nothing() -> Checked {
         }
         assert!(is_idle(&backend));
     }
-    // With a permit that it was given and hasn't taken: the next one has it then, or it is free.
+    // With a permit that it was given and hasn't taken: the next one then gets it, or it is free.
     let permit = backend.enter()?;
     let first = Awaited::standing(&backend)?;
     let mut second = Awaited::standing(&backend)?;
@@ -137,13 +137,13 @@ fn the_waker_of_the_last_poll_is_woken() -> Checked {
     Ok(())
 }
 
-// A waker that can't be copied.
+// A waker that can't be cloned.
 fn waker_that_panics() -> Waker {
     static TABLE: RawWakerVTable = RawWakerVTable::new(clone, |_| {}, |_| {}, |_| {});
     fn clone(_data: *const ()) -> RawWaker {
         panic!("a waker isn't copied")
     }
-    // SAFETY: the functions of the table reach no data.
+    // SAFETY: the functions of the table access no data.
     unsafe { Waker::from_raw(RawWaker::new(ptr::null(), &TABLE)) }
 }
 
@@ -153,7 +153,7 @@ fn a_waker_that_panics_leaves_no_place_in_the_row() -> Checked {
     let permit = backend.enter()?;
     let waker = waker_that_panics();
     let (mut first, mut second) = (backend.acquire_owned(), backend.acquire_owned());
-    // Before it stands in the row, and while it does.
+    // Before it is in the queue, and while it is.
     for waiting in 0..2 {
         let looks = AssertUnwindSafe(|| look(&mut first, &waker).is_some());
         assert!(catch_unwind(looks).is_err());
@@ -162,7 +162,7 @@ fn a_waker_that_panics_leaves_no_place_in_the_row() -> Checked {
     }
     assert!(polled(&mut second).is_none());
     drop(permit);
-    // It has been given the permit, and hands it on.
+    // It has been given the permit, and passes it on.
     drop(first);
     assert!(polled(&mut second).is_some());
     assert!(is_idle(&backend));
@@ -186,7 +186,7 @@ fn a_permit_that_is_passed_on_is_never_free() -> Checked {
         let mut next = backend.acquire_owned();
         let mut is_in_order = polled(&mut next).is_none();
         for _ in 0..2_000 {
-            // While one waits the other one gives its permit back.
+            // While one waits, the other gives its permit back.
             held.clear();
             let given = polled(&mut next);
             is_in_order &= given.is_some();

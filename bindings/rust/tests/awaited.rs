@@ -1,4 +1,4 @@
-//! Moments of a wait: its first poll, and the end of its time.
+//! Moments of a wait: its first poll, and its time limit.
 mod common;
 
 use common::{Checked, is_idle, polled};
@@ -29,7 +29,7 @@ impl Last {
     }
 }
 
-// A wait is as long as from its first poll, however often it is polled.
+// A wait is measured from its first poll, however often it is polled.
 #[test]
 fn a_wait_begins_with_its_first_poll() -> Checked {
     let last = Arc::new(Last::default());
@@ -55,8 +55,8 @@ fn a_wait_begins_with_its_first_poll() -> Checked {
     Ok(())
 }
 
-// A call is made once it has its permit, also where its time is over by the same poll; without a permit it isn't made. A timer is made for
-// a wait alone.
+// A call is made once it has its permit, even if its time is over in the same poll; without a permit it isn't made. A timer is made only
+// for a wait.
 #[test]
 fn a_call_is_made_once_it_has_its_permit() -> Checked {
     let last = Arc::new(Last::default());

@@ -1,4 +1,4 @@
-//! A bulkhead and its passes, by one thread and by many, and bulkheads by name.
+//! A bulkhead and its passes, on one thread and on many, and bulkheads by name.
 mod common;
 
 use common::{Checked, elsewhere};
@@ -121,7 +121,7 @@ fn only_free_permits_are_retired() -> Checked {
     Ok(())
 }
 
-// The order of this number of so many things, which have as many orders as the product of the numbers up to theirs.
+// The permutation with this number of `count` things. There are as many as the product of the numbers up to `count`.
 fn order(mut number: usize, count: usize) -> Vec<usize> {
     let mut left: Vec<_> = (0..count).collect();
     let next = |count| {
@@ -174,7 +174,7 @@ fn a_permit_that_is_forgotten_is_held_for_good() -> Checked {
         }
         assert_eq!((backend.available(), backend.retired()), (1, 0));
         assert_eq!((backend.raise(9), Arc::strong_count(&backend)), (0, 1));
-        // The last permit goes round, in a call inside of a call too.
+        // The last permit is reused, even in a call inside a call.
         let inner = backend.call(|| backend.call(|| 42));
         assert_eq!((inner, backend.call(|| 42)), (Ok(Err(Full)), Ok(42)));
         assert_eq!(backend.retire(4), 1);
@@ -203,7 +203,7 @@ fn a_load_above_the_limit_is_shed() -> Checked {
     Ok(())
 }
 
-// Those who give up take no wake-up with them that is another one's.
+// Waiters that give up don't take a wake-up meant for another.
 #[test]
 fn some_give_up_while_another_one_waits() -> Checked {
     let backend = Bulkhead::new("backend", 1)?;
@@ -313,7 +313,7 @@ fn a_name_is_1_to_64_bytes_of_some() {
         assert_eq!(registry.bulkhead(name).err(), refused, "{name}");
         assert_eq!(registry.bulkhead_with(name, "none").err(), refused);
     }
-    // The name of a configuration that is asked for is looked up, whatever it is.
+    // The name of a configuration is looked up, whatever it is.
     let refused = registry.bulkhead_with("new", "a b").err();
     assert_eq!(refused, Some(RegistryError::NoSuchConfig));
 }
@@ -327,7 +327,7 @@ fn a_refused_call_leaves_the_registry_as_it_was() -> Checked {
     let refused = registry.bulkhead_with("a", "none").err();
     assert_eq!(refused, Some(RegistryError::NoSuchConfig));
     assert_eq!(registry.bulkhead_with("a", "small")?.max(), 2);
-    // Where there is one, the configuration isn't looked up.
+    // If there is a bulkhead, the configuration isn't looked up.
     assert_eq!(registry.bulkhead_with("a", "none")?.max(), 2);
     let said = RegistryError::TooManyPermits.to_string();
     assert_eq!(said, "there are more than 65535 permits");
@@ -394,11 +394,11 @@ fn a_registry_is_shown_by_its_names() -> Checked {
 #[test]
 fn the_errors_say_what_the_library_says() {
     use RegistryError::{BadName, Memory, NameTaken, NoSuchConfig, ReservedName};
-    let name = "a name is 1 to 64 bytes of ASCII letters, digits, `-`, `_` and `.`";
+    let name = "a name must be 1 to 64 bytes of ASCII letters, digits, `-`, `_` and `.`";
     let said = [
         (ReservedName, "the name `default` is reserved"),
         (NoSuchConfig, "no configuration has that name"),
-        (NameTaken, "a configuration has that name already"),
+        (NameTaken, "a configuration already has that name"),
         (BadName, name),
         (Memory, "out of memory"),
     ];

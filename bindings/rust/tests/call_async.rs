@@ -1,4 +1,4 @@
-//! Futures that are called under a permit, by a bulkhead and by a chain: it is held from the call to the answer.
+//! Futures called under a permit, by a bulkhead and by a chain: the permit is held from the call to the answer.
 mod common;
 
 use common::{Checked, block_on, is_idle, polled};
@@ -18,7 +18,7 @@ struct TooMuch;
 type Answer = Result<u32, CallError<TooMuch>>;
 type Call<'a> = Pin<Box<dyn Future<Output = Answer> + 'a>>;
 
-// Says its number, once it is polled a second time; 0 panics, and above 9 it fails.
+// Returns its number when it is polled the second time; 0 panics, and above 9 it fails.
 async fn ask(number: u32) -> Result<u32, TooMuch> {
     let mut is_asked = false;
     future::poll_fn(|_| {
@@ -49,7 +49,7 @@ fn for_ever(_time: Duration) -> future::Pending<()> {
     future::pending()
 }
 
-// A call by each way: without a limit, with one that isn't reached, and by chains.
+// A call of each kind: without a limit, with one that isn't reached, and by chains.
 fn calls(backend: &Arc<Bulkhead>, number: u32) -> [Call<'_>; 4] {
     [
         Box::pin(async move { flat(backend.call_async(|| ask(number)).await) }),
@@ -81,7 +81,7 @@ fn a_permit_is_held_across_an_await() -> Checked {
             assert!(is_idle(&backend));
         }
     }
-    // It waits for its permit, and none is called before.
+    // It waits for its permit, and nothing is called before.
     for mut call in calls(&backend, 7) {
         let permit = backend.enter()?;
         assert!(polled(&mut call).is_none() && polled(&mut call).is_none());
@@ -150,7 +150,7 @@ fn a_wait_has_its_end() -> Checked {
     Ok(())
 }
 
-// A chain as a service has it, in a task: each attempt has a permit of its own, and the fallback the last word.
+// A chain in a service, called by tasks: each attempt has its own permit, and the fallback has the last word.
 #[test]
 fn a_chain_is_called_by_tasks() -> Checked {
     fn spawned<F: Future<Output = Answer> + Send + 'static>(task: F) -> Call<'static> {
@@ -172,7 +172,7 @@ fn a_chain_is_called_by_tasks() -> Checked {
     let chain = Arc::new(chain);
     let shared = Arc::clone(&chain);
     let mut task = spawned(async move { shared.call_async(10, no_time).await });
-    // Two polls for each attempt, in which the permit is held and given back.
+    // Two polls for each attempt: in one the permit is held, in the other given back.
     for _ in 0..3 {
         assert!(polled(&mut task).is_none() && backend.available() == 0);
     }

@@ -10,20 +10,20 @@ use std::path::Path;
 use std::sync::Arc;
 use std::time::Duration;
 
-/// The permits of a bulkhead where no configuration says another number.
+/// The permits of a bulkhead if no configuration gives another number.
 const DEFAULT_MAX: u32 = 25;
 
 /// A chain has at most eight layers, so none of its bulkheads is entered more often at a time.
 const MOST_LAYERS: u32 = 8;
 
-/// The refusals of a head that this crate gives too. The others are of texts, which it doesn't read.
+/// The refusals of a head that this crate also gives. The others are about texts, which it doesn't read.
 const SHARED_REFUSALS: &str = "BadMultiplier BadName CapBelowInitial IntervalTooLong NoAttempts \
                                NoSuchConfig ReservedName TooManyAttempts";
 
 /// Keys with values, as they are written.
 type Table<'a> = BTreeMap<&'a str, &'a str>;
 
-// The tables of a head with their headers; none where it isn't written line by line.
+// The tables of a head with their headers; none if it isn't written line by line.
 fn tables(head: &str) -> Option<Vec<(&str, Table<'_>)>> {
     let mut tables = Vec::new();
     for line in head.lines().filter(|line| !line.is_empty()) {
@@ -51,13 +51,13 @@ fn number(table: &Table<'_>, key: &str) -> Option<u64> {
     table.get(key)?.parse().ok()
 }
 
-// Whether an error is meant: one that is named, or any where none is, but for the ignored ones.
+// Whether an error is meant: one that is named, or any if none is, except the ignored ones.
 fn is_meant(layer: &Table<'_>, named: &str, error: CallError<&str>) -> bool {
     let (named, error) = (list(layer, named), name_of(error));
     !list(layer, "ignore").contains(&error) && (named.is_empty() || named.contains(&error))
 }
 
-// A refusal and the error `FULL` of a script are one.
+// A refusal and a script's error `FULL` are the same.
 fn name_of(error: CallError<&str>) -> &str {
     match error {
         CallError::Failed(error) => error,
@@ -124,13 +124,13 @@ fn bulkhead<'a>(
     let known = bulkheads.iter().position(|one| one.name() == name);
     let id = known.unwrap_or(bulkheads.len());
     if known.is_none() {
-        // The letters of a row say who is let in, so there are permits for all that may ask at a time.
+        // The letters of a row say who is let in, so there are permits for as many as may ask at a time.
         bulkheads.push(Arc::new(Bulkhead::new(name, MOST_LAYERS).map_err(refusal)?));
     }
     Ok(Layer::Bulkhead(id, Arc::clone(&bulkheads[id])))
 }
 
-// One wait and the attempts are checked by a panic.
+// Panics check one wait and the attempts.
 fn retry(layer: &Table<'_>) -> Result<Retry, String> {
     let ms = |key| number(layer, key).map(Duration::from_millis);
     let first = ms("interval").unwrap_or(Duration::from_millis(500));
@@ -150,7 +150,7 @@ fn retry(layer: &Table<'_>) -> Result<Retry, String> {
     retry.map_err(|_| ["TooManyAttempts", "NoAttempts"][usize::from(attempts == 0)].to_owned())
 }
 
-/// A row: what the innermost function gives, call by call, what the bulkheads answer, and what is written down meanwhile.
+/// A row: what the innermost function returns, call by call, what the bulkheads answer, and what is written down meanwhile.
 struct Row<'a> {
     script: Vec<Outcome<'a>>,
     grants: &'a [u8],
@@ -175,7 +175,7 @@ impl<'a> Row<'a> {
         }
     }
 
-    // Plays it, and gives its record.
+    // Runs it, and returns its record.
     fn play(&self, layers: &[Layer<'a>]) -> String {
         let outcome = self.call(layers).map(|value| format!("V{value}"));
         let outcome = outcome.unwrap_or_else(str::to_owned);
@@ -202,7 +202,7 @@ impl<'a> Row<'a> {
         answer.map_err(name_of)
     }
 
-    // Calls by a retry, and writes its waits down.
+    // Calls with a retry, and writes its waits down.
     fn retried(&self, layer: &Table<'_>, inner: impl Fn() -> Outcome<'a>) -> Answer<'a> {
         let retry = retry(layer)
             .expect("the head is accepted")
@@ -233,7 +233,7 @@ impl<'a> Row<'a> {
     }
 }
 
-// What this crate answers; none where the head isn't written line by line.
+// What this crate answers; none if the head isn't written line by line.
 fn answer(input: &str) -> Option<String> {
     let (head, body) = input.split_once("---\n")?;
     let tables = tables(head)?;
@@ -246,7 +246,7 @@ fn answer(input: &str) -> Option<String> {
     Some("outcome,calls,waits,asked\n".to_owned() + &records)
 }
 
-// The cases are laid out as files by `tools/check_bindings`.
+// `tools/check_bindings` writes the cases as files.
 #[test]
 fn each_case_is_answered_as_by_the_program() -> Result<(), Box<dyn Error>> {
     let folder = Path::new(env!("CARGO_MANIFEST_DIR")).join("../../out/bindings/cases/chain");

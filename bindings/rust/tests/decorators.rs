@@ -91,7 +91,7 @@ fn the_error_of_a_call_is_an_error_whatever_is_inside() {
     assert!(failing().is_err());
 }
 
-// A service that keeps a chain, whose type it doesn't name.
+// A service that keeps a chain without naming its type.
 struct Prices<L> {
     chain: Decorators<L, (u32,)>,
 }
@@ -167,7 +167,7 @@ fn each_attempt_has_a_copy_of_the_argument() -> Checked {
     // Without a retry nothing is copied: this argument can't be.
     let sent = Decorators::of(|letter: Mutex<u32>| letter.into_inner()).inside(&backend);
     assert_eq!(sent.call(Mutex::new(7)).ok(), Some(7));
-    // A call inside of itself is refused, as any other.
+    // A call inside itself is refused, like any other.
     let inside = OnceCell::new();
     let outer = Decorators::of(|depth: u32| -> Result<u32, String> {
         let call: &dyn Fn(u32) -> bool = *inside.get().ok_or("none")?;
@@ -193,7 +193,7 @@ fn a_chain_that_is_kept_hands_errors_on() -> Checked {
     });
     assert_eq!(refused.call(2), Err(CallError::Full));
     assert_eq!(format!("{refused:?}"), "Decorators { .. }");
-    // One of no argument to speak of, which is called by reference too.
+    // One whose argument says nothing; it is called by reference too.
     let constant = Decorators::of(|(): ()| Ok::<_, String>(42));
     assert_eq!((constant.call(()), constant.call(())), (Ok(42), Ok(42)));
     Ok(())

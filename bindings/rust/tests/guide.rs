@@ -1,4 +1,4 @@
-//! Each call that the README's table or the guide names has an example where a reader looks: in its own documentation.
+//! Each call that the README's table or the guide names has an example where readers look: in its own documentation.
 mod common;
 
 use common::Checked;
@@ -6,7 +6,7 @@ use std::collections::{BTreeMap, BTreeSet};
 use std::fs;
 use std::path::Path;
 
-// The words in code type of a text, outside of its blocks and of commands.
+// The words in code type in a text, outside of code blocks and commands.
 fn named(text: &str) -> BTreeSet<&str> {
     let prose = text.split("```").step_by(2);
     let code = prose.flat_map(|prose| prose.split('`').skip(1).step_by(2));

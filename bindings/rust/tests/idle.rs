@@ -1,4 +1,4 @@
-//! Who waits sleeps: an idle pool, one that holds back, and a call that waits for a permit. No other test runs in this
+//! Waiting threads sleep: those of an idle pool, of one that holds back, and a call that waits for a permit. No other test runs in this
 //! process.
 #![cfg(target_os = "linux")]
 
@@ -15,7 +15,7 @@ use std::time::{Duration, Instant};
 
 const LITTLE: Duration = Duration::from_secs(10);
 
-// How often each thread of a name that begins so has given its processor up or lost it; none where one isn't asleep.
+// How often each thread whose name begins like this has given up its processor or lost it; none if one isn't asleep.
 fn switches(name: &str) -> Option<BTreeMap<String, Vec<String>>> {
     let mut told = BTreeMap::new();
     for task in fs::read_dir("/proc/self/task").ok()? {
@@ -39,7 +39,7 @@ fn switches(name: &str) -> Option<BTreeMap<String, Vec<String>>> {
     Some(told)
 }
 
-// Waits for a tenth of a second in which so many threads of the name sleep all the time: none ran even for a moment.
+// Waits for a tenth of a second in which this many threads of the name sleep all the time: none runs even for a moment.
 fn sleep_within(patience: Duration, name: &str, count: usize) -> bool {
     let began = Instant::now();
     while began.elapsed() < patience {
@@ -59,7 +59,7 @@ fn sleep_on(name: &str, count: usize) -> Result<(), Box<dyn Error>> {
     Err(format!("{count} threads {name} don't sleep").into())
 }
 
-// Whether the system tells of a thread that sleeps that it does. Some don't.
+// Whether the system reports that a sleeping thread sleeps. Some don't.
 fn sleep_is_told() -> Result<bool, Box<dyn Error>> {
     let parked = thread::Builder::new().name("parked".to_owned());
     let (wake, sleeps) = mpsc::channel::<()>();
@@ -81,7 +81,7 @@ fn an_idle_pool_sleeps() -> Result<(), Box<dyn Error>> {
     sleep_on("nobody-asks", 8)
 }
 
-// Also where idle threads may end at once, but for what waits in the queue.
+// Even if idle threads may end at once, except for what waits in the queue.
 fn threads_that_hold_back_sleep() -> Result<(), Box<dyn Error>> {
     for keep_alive in [Duration::ZERO, Duration::MAX] {
         let pool = ThreadPool::builder(4, 4).name("holds");

@@ -90,7 +90,7 @@ fn a_handle_is_dropped_after_a_poll() -> Checked {
     Ok(())
 }
 
-/// A waker that panics, awake or dropped.
+/// A waker that panics when it is woken or dropped.
 struct Panics;
 
 impl Wake for Panics {

@@ -16,7 +16,7 @@ fn write_crate(room: &Path, name: &str, manifest: &str) -> io::Result<()> {
     fs::write(folder.join("Cargo.toml"), manifest)
 }
 
-// What cargo says to a program that depends on these crates.
+// What cargo says about a program that depends on these crates.
 fn resolve(room: &Path, name: &str, dependencies: &str) -> io::Result<Output> {
     let head = format!("[package]\nname = \"{name}\"\nversion = \"1.0.0\"\nedition = \"2024\"\n");
     let manifest = format!("{head}[workspace]\n[dependencies]\n{dependencies}");

@@ -1,4 +1,4 @@
-//! Several permits at a time: all or none, in the row's order, beside those who ask for one.
+//! Several permits at a time: all or none, in the queue's order, together with callers of one.
 mod common;
 
 use common::{Caller, Checked, block_on, is_idle, poll_by, polled, until};
@@ -9,7 +9,7 @@ use std::sync::atomic::{AtomicBool, AtomicI64, AtomicU32, Ordering};
 use std::thread;
 use std::time::{Duration, Instant};
 
-// How many are there, or why there are none; none while it waits.
+// How many there are, or why there are none; `None` while it waits.
 fn count(many: &mut AcquireMany) -> Option<Result<u32, NoPermit>> {
     Some(polled(many)?.map(|permits| permits.count()))
 }
@@ -79,7 +79,7 @@ fn they_are_served_in_the_order_of_the_row() -> Checked {
     assert!(polled(&mut first).is_none() && polled(&mut many).is_none());
     assert!(polled(&mut last).is_none() && polled(&mut more).is_none());
     assert_eq!(backend.numbers().waiting, 4);
-    // The single one, two for those who want two, and nobody overtakes these.
+    // The single one, two for callers that want two, and nobody overtakes these.
     permits.pop();
     permits.pop();
     let own = polled(&mut first).ok_or("it waits")??;
@@ -89,7 +89,7 @@ fn they_are_served_in_the_order_of_the_row() -> Checked {
     assert!(polled(&mut last).is_none());
     drop(own);
     assert!(matches!(polled(&mut last), Some(Ok(_))));
-    // What the last gave back at once is gathered.
+    // The permit that the last one gave back at once is gathered.
     assert!(polled(&mut more).is_none());
     assert_eq!((backend.available(), backend.numbers().waiting), (0, 1));
     drop(two);
@@ -106,11 +106,11 @@ fn who_leaves_gives_back_what_it_has_gathered() -> Checked {
     let mut one = backend.acquire_owned();
     assert!(polled(&mut many).is_none() && polled(&mut one).is_none());
     assert_eq!(backend.available(), 0);
-    // Two permits are for the next, who takes one of them.
+    // Two permits are for the next one, which takes one of them.
     drop(many);
     assert!(matches!(polled(&mut one), Some(Ok(_))));
     assert_eq!((backend.available(), backend.numbers().waiting), (2, 0));
-    // With all that it was given, and hasn't fetched.
+    // With everything that it was given and hasn't fetched.
     let mut many = backend.acquire_many_owned(3);
     assert!(polled(&mut many).is_none());
     drop(permit);
@@ -161,7 +161,7 @@ fn what_is_raised_is_gathered_and_what_is_owed_is_not() -> Checked {
     Ok(())
 }
 
-/// Counts who is inside by what it is told; its third permit panics.
+/// Counts who is inside from what is reported to it; its third permit panics.
 #[derive(Default)]
 struct Inside(AtomicI64, AtomicU32);
 
@@ -218,7 +218,7 @@ fn they_are_split_and_merged() -> Checked {
     all.merge(two);
     assert_eq!((all.count(), backend.available()), (5, 0));
     drop(all);
-    // Those of the row were held by others.
+    // Those in the queue were held by others.
     let permits = [backend.enter()?, backend.enter()?, backend.enter()?];
     let mut many = backend.acquire_many_owned(4);
     assert!(polled(&mut many).is_none());
@@ -226,7 +226,7 @@ fn they_are_split_and_merged() -> Checked {
     let mut four = polled(&mut many).ok_or("it waits")??;
     let mut one = four.split(1).ok_or("there are four")?;
     assert_eq!(four.split(0).map(|none| none.count()), Some(0));
-    // Of two bulkheads they aren't merged, and given back.
+    // Permits of two bulkheads aren't merged, but given back.
     let other = Arc::new(Bulkhead::new("other", 2)?);
     let others = other.enter_many_owned(2)?;
     let merges = AssertUnwindSafe(|| one.merge(others));
@@ -298,7 +298,7 @@ fn few_may_wait_for_many() -> Checked {
     Ok(())
 }
 
-// Who finds too few on its way gives back what it has: one permit comes and goes while all are asked for.
+// A caller that finds too few gives back what it has: one permit comes and goes while all are asked for.
 #[test]
 fn nothing_is_lost_where_two_race() -> Checked {
     const MAX: u32 = 64;
@@ -341,7 +341,7 @@ fn very_many_are_gathered_in_slices() -> Checked {
     assert!(poll_by(&mut all, &caller).is_none());
     assert!(polled(&mut thousand).is_none() && polled(&mut last).is_none());
     assert!(caller.woken() == 1 && backend.available() > MAX / 2);
-    // Where it leaves, what it left is for those behind it, and what these leave for those behind them.
+    // When it leaves, what it left is for those after it, and what these leave for those after them.
     drop(all);
     let given = (0..10).find_map(|_| polled(&mut thousand));
     let given = given.ok_or("it waits")??;
@@ -363,7 +363,7 @@ fn very_many_are_gathered_in_slices() -> Checked {
     assert_eq!(all.count(), MAX);
     drop(all);
     assert!(matches!(polled(&mut behind), Some(Ok(_))) && is_idle(&backend));
-    // Closed with much in its hands.
+    // Closed while it holds many.
     let permit = backend.enter()?;
     let mut all = backend.acquire_many_owned(MAX);
     assert!(polled(&mut all).is_none() && polled(&mut all).is_none());
@@ -392,7 +392,7 @@ fn many_and_one_are_awaited_side_by_side() -> Checked {
             backend.enter_within(limit).map(|_permit| goes_in(1))
         }
         3 => {
-            // Dropped at whatever moment.
+            // Dropped at any moment.
             let mut many = backend.acquire_many_owned(4);
             if polled(&mut many).is_none() {
                 thread::yield_now();

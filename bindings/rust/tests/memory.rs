@@ -6,7 +6,7 @@ use common::resident;
 use resil::ThreadPool;
 use std::error::Error;
 
-// Runs so many times fifty jobs, and then tells the memory.
+// Runs fifty jobs this many times, and then returns the memory in use.
 fn after_rounds(pool: &ThreadPool, count: u64) -> Result<u64, Box<dyn Error>> {
     for _ in 0..count {
         let jobs = (0..50).map(|number| pool.submit(move || number));
@@ -17,8 +17,8 @@ fn after_rounds(pool: &ThreadPool, count: u64) -> Result<u64, Box<dyn Error>> {
     resident()
 }
 
-// An emulator takes memory of its own for code that it translates, so of several spans one in which nothing grows is enough: a pool that
-// keeps something of each job grows in all of them.
+// An emulator takes memory of its own for the code that it translates, so one span of several in which nothing grows is enough: a pool
+// that keeps something for each job grows in all of them.
 #[test]
 fn memory_does_not_grow_with_the_jobs() -> Result<(), Box<dyn Error>> {
     let pool = ThreadPool::builder(2, 2).queue(100).open()?;

@@ -17,7 +17,7 @@ fn lines<'a>(text: &'a str, family: &str) -> Vec<&'a str> {
     text.lines().filter(is_of).collect()
 }
 
-// A family's lines: one for each of these, whose name stands in a label, with its count.
+// A family's lines: one for each of these, with its name in a label and its count.
 fn counted(family: &str, label: &str, counts: &str) -> Vec<String> {
     let pairs = counts.split(", ").filter_map(|pair| pair.split_once(' '));
     let line = |(name, count)| format!("{family}{{{}}} {count}", label.replace('_', name));
@@ -188,7 +188,7 @@ fn names_are_written_as_labels() -> Checked {
     let text = metrics.text(&[], &[]);
     let line = r#"{kind="successful_without_retry",name="a \"b\"\\\nc"} 1"#;
     assert!(text.contains(line), "{text}");
-    // Those that bear one name are told together.
+    // Those with the same name are added up.
     for _ in 0..2 {
         let backend = Bulkhead::new("b", 1)?.observed(metrics.clone());
         backend.call(|| ())?;
@@ -226,7 +226,7 @@ fn a_name_is_removed() -> Checked {
     assert_eq!(retry.call(|| Ok::<_, String>(7)), Ok(7));
     assert!(metrics.text(&[], &[]).contains("name=\"one\""));
     assert!(metrics.remove("one") && !metrics.remove("one"));
-    // What bears the name counts on, and isn't told.
+    // Whatever has the name keeps counting, but isn't written.
     assert_eq!(backend.call(|| 7), Ok(7));
     let text = metrics.text(&[], &[]);
     assert!(!text.contains("name=\"one\"") && text.contains("name=\"other\""));

@@ -1,23 +1,23 @@
-//! What is answered where there is no memory for what a bulkhead, a registry or a pool takes at its making.
+//! What is returned if there is no memory to make a bulkhead, a registry or a pool.
 use resil::{Bulkhead, BulkheadError, BulkheadRegistry, PoolError, RegistryError, ThreadPool};
 use std::alloc::{GlobalAlloc, Layout, System};
 use std::cell::Cell;
 use std::ptr;
 
-// What is smaller is never refused.
+// Smaller pieces are never refused.
 const SMALL: usize = 60;
 
 thread_local! {
-    // How many larger pieces this thread still gets before one is refused; none is where it is zero.
+    // How many larger pieces this thread still gets before one is refused; if it is zero, none is refused.
     static UNTIL_REFUSED: Cell<u32> = const { Cell::new(0) };
     // The largest piece that this thread has got.
     static LARGEST: Cell<usize> = const { Cell::new(0) };
 }
 
-/// The system's memory, of which a thread may be refused a piece.
+/// The system's memory, which may refuse a thread a piece.
 struct Refusing;
 
-// SAFETY: each call is the system's, or answers that there is no memory.
+// SAFETY: each call is the system's, or reports that there is no memory.
 unsafe impl GlobalAlloc for Refusing {
     unsafe fn alloc(&self, layout: Layout) -> *mut u8 {
         let left = UNTIL_REFUSED.get();
@@ -28,12 +28,12 @@ unsafe impl GlobalAlloc for Refusing {
             }
         }
         LARGEST.set(LARGEST.get().max(layout.size()));
-        // SAFETY: as is asked of the caller.
+        // SAFETY: required of the caller.
         unsafe { System.alloc(layout) }
     }
 
     unsafe fn dealloc(&self, at: *mut u8, layout: Layout) {
-        // SAFETY: as is asked of the caller.
+        // SAFETY: required of the caller.
         unsafe { System.dealloc(at, layout) }
     }
 }
@@ -64,7 +64,7 @@ fn a_bulkhead_has_seats_and_spare_passes() -> Result<(), BulkheadError> {
 fn a_registry_is_as_it_was() -> Result<(), RegistryError> {
     BulkheadRegistry::new(1).bulkhead("first")?;
     let registry = BulkheadRegistry::new(3);
-    // The room in the registry, which is kept once it is there, and then the seats.
+    // The room in the registry, which is kept once it is allocated, and then the seats.
     for piece in 1..=2 {
         let refused = without(piece, || registry.bulkhead("prices").err());
         assert_eq!(refused, Some(RegistryError::Memory));
@@ -81,7 +81,7 @@ fn a_pool_has_room_for_its_ring_queue_and_threads() {
         assert_eq!(refused, Some(PoolError::Memory));
     }
     assert!(ThreadPool::builder(8, 8).open().is_ok());
-    // That of a record is asked for before these.
+    // The record's memory is allocated before these.
     let refused = without(1, || ThreadPool::builder(8, 8).record(9).open().err());
     assert_eq!(refused, Some(PoolError::Memory));
 }
@@ -101,7 +101,7 @@ fn the_memory_of_a_record_is_taken_at_the_opening() -> Result<(), PoolError> {
     // The closing was one of them.
     let text = pool.history().unwrap_or_default();
     assert!(text.contains("# The room was full: 1 events that came then are missing."));
-    // Where there is no memory for what comes then, the record goes on.
+    // If there is no memory for the next part, the record goes on.
     assert_eq!(without(1, || pool.history()), None);
     assert!(pool.history().is_some());
     Ok(())

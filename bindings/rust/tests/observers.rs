@@ -1,4 +1,4 @@
-//! What observers are told, by whom, and that nothing is locked meanwhile.
+//! What is reported to observers, by which thread, and that nothing is locked meanwhile.
 mod common;
 
 use common::{Checked, begun, end, gated, polled};
@@ -13,7 +13,7 @@ use std::sync::{Arc, Mutex, MutexGuard, OnceLock, PoisonError};
 use std::thread;
 use std::time::Duration;
 
-/// Writes down what it is told, without the times, which it keeps apart.
+/// Writes down what is reported to it, without the times, which it keeps separately.
 #[derive(Default)]
 struct Log {
     lines: Mutex<Vec<String>>,
@@ -21,7 +21,7 @@ struct Log {
 }
 
 impl Log {
-    // What was told since the last look.
+    // What was reported since the last call.
     fn take(&self) -> Vec<String> {
         std::mem::take(&mut locked(&self.lines))
     }
@@ -35,7 +35,7 @@ fn locked<T>(list: &Mutex<T>) -> MutexGuard<'_, T> {
     list.lock().unwrap_or_else(PoisonError::into_inner)
 }
 
-// Has a log write a line at each of these events, and keep a time of some.
+// Makes a log write a line for each of these events, and keep the time of some.
 macro_rules! written {
     ($($event:ident($($value:ident: $kind:ty),*) $line:literal $($time:ident)?;)*) => {
         $(fn $event(&self, $($value: $kind),*) {
@@ -165,7 +165,7 @@ impl Observer for Timeless {
 fn times_are_told_where_they_are_wanted() -> Checked {
     let (log, b) = logged(2)?;
     let nap = Duration::from_millis(3);
-    // By the seat of the thread, and behind a lock.
+    // With the thread's seat, and with a lock.
     b.call(|| b.call(|| thread::sleep(nap)))??;
     let times = log.take_times();
     assert_eq!(times.len(), 2);
@@ -178,7 +178,7 @@ fn times_are_told_where_they_are_wanted() -> Checked {
     Ok(())
 }
 
-/// Panics at each permit and each submission, and counts what it is told of permits.
+/// Panics at each permit and each submission, and counts the permits reported to it.
 #[derive(Default)]
 struct Panics(AtomicU32);
 
@@ -218,7 +218,7 @@ fn nothing_is_lost_where_the_observer_panics() -> Checked {
     Ok(())
 }
 
-/// Calls back what it observes, which would wait for ever where that was locked.
+/// Calls what it observes, which would wait for ever if that were locked.
 #[derive(Default)]
 struct Asks {
     bulkhead: OnceLock<Arc<Bulkhead>>,
@@ -251,7 +251,7 @@ impl Asks {
     }
 }
 
-// Has it ask at each of these events.
+// Makes it ask at each of these events.
 macro_rules! asked {
     ($($event:ident($($kind:ty)?);)*) => {
         $(fn $event(&self, _: &str $(, _: $kind)?) {
@@ -293,7 +293,7 @@ fn nothing_is_locked_while_an_observer_is_told() -> Checked {
     let b = registry.bulkhead("b").map(|_| b)?;
     let outcome = b.call(|| b.enter().is_err());
     assert_eq!(outcome, Ok(true));
-    // While a task waits: who gives back hands the permit on.
+    // While a task waits: a caller that gives a permit back passes it on.
     let permit = b.enter()?;
     let mut waits = b.acquire_owned();
     assert!(polled(&mut waits).is_none());
@@ -309,7 +309,7 @@ fn nothing_is_locked_while_an_observer_is_told() -> Checked {
     assert!(asks.count.load(Ordering::SeqCst) > 10);
     pool.close();
     pool.join();
-    // The observer has the pool, and the pool the observer: one lets the other go.
+    // The observer has the pool, and the pool the observer: one lets go of the other.
     assert_eq!(b.available(), 1);
     Ok(())
 }
@@ -341,7 +341,7 @@ fn each_end_of_a_retry_is_told() {
     let late = retry().within(Duration::from_millis(6));
     assert_eq!(late.call(|| Err("busy")), Err("busy"));
     assert_eq!(log.take(), ["r out of time after 1"]);
-    // Nothing is known of the outcomes behind these waits.
+    // Nothing is known of the outcomes after these waits.
     assert_eq!((retry().waits().count(), late.waits().count()), (2, 0));
     assert!(log.take().is_empty());
 }
@@ -378,9 +378,9 @@ fn what_becomes_of_a_job_is_told() -> Checked {
     let second = pool.submit(|| panic!("no answer"))?;
     let refused = pool.submit(|| 42).unwrap_err();
     assert_eq!(log.take(), ["p accepted Queued", "p refused Full"]);
-    // The very function comes back.
+    // The same function comes back.
     assert_eq!((refused.function)(), 42);
-    // The end is told before the answer is there.
+    // The end is reported before the answer is there.
     end(first)?;
     assert!(locked(&log.lines).contains(&"p finished".to_owned()));
     let second: Result<(), _> = second.wait();
@@ -401,7 +401,7 @@ fn a_job_that_is_given_back_and_dropped_neither_begins_nor_ends() -> Checked {
     let mut waiting = pool.close_now().into_iter();
     drop(waiting.next());
     assert!(second.wait().is_err() && log.take().is_empty());
-    // One that is run by whoever has it does both.
+    // Running it elsewhere does both.
     waiting.for_each(resil::Unstarted::run);
     assert_eq!(third.wait()?, 3);
     assert_eq!(log.take(), ["pool started", "pool finished"]);
@@ -410,7 +410,7 @@ fn a_job_that_is_given_back_and_dropped_neither_begins_nor_ends() -> Checked {
     end(first)
 }
 
-/// Has the log for some names.
+/// Has its own log for some names.
 struct Chooses(Arc<Log>);
 impl Observer for Chooses {
     fn of_bulkhead(&self, name: &str) -> Option<Arc<dyn Observer>> {
@@ -436,7 +436,7 @@ fn several_observers_are_all_told() -> Checked {
     assert_eq!(retry.call(|| Ok::<_, ()>(1)), Ok(1));
     let pool = ThreadPool::builder(1, 1).name("p").observed(both).open()?;
     pool.submit(|| ())?.wait()?;
-    // Each event goes to each.
+    // Each event is reported to each.
     let none: [Arc<dyn Observer>; 2] = [log.clone(), other.clone()];
     assert!(none.wants_times());
     none.attempt_failed("r", 1, Duration::ZERO);

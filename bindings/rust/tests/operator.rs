@@ -1,5 +1,5 @@
-//! What an operator does while calls are under way and others wait: a bulkhead is closed, or has fewer permits, of which those that
-//! are free are retired, and the rest are owed.
+//! What an operator does while calls are in progress and others wait: a bulkhead is closed, or gets fewer permits; the free ones are
+//! retired, and the rest are owed.
 mod common;
 
 use common::{Checked, PATIENCE, block_on, is_idle, polled, until};
@@ -11,7 +11,7 @@ use std::task::{Context, Wake, Waker};
 use std::thread;
 use std::time::Duration;
 
-// Whether it is told so.
+// Whether it reports that it is closed.
 fn is_closed(waits: &mut Acquire) -> bool {
     polled(waits).and_then(Result::err) == Some(Closed)
 }
@@ -53,7 +53,7 @@ fn who_waits_is_told_at_once() -> Checked {
     assert_eq!(threads, [Some(Closed); 2]);
     assert!(row.iter_mut().all(is_closed));
     assert_eq!((backend.available(), backend.numbers().waiting), (0, 0));
-    // Who has a permit gives it back as ever.
+    // Permits are given back as usual.
     drop(permit);
     assert_eq!(backend.available(), 1);
     Ok(())
@@ -107,7 +107,7 @@ fn a_waker_may_close_it() -> Checked {
     for one in &mut row {
         assert!(Pin::new(one).poll(&mut context).is_pending());
     }
-    // The first is given the permit, and by its waker the others are told, whose wakers close it once more.
+    // The first is given the permit, and its waker makes the others hear of the closing; their wakers close it once more.
     drop(permit);
     assert_eq!(closes.1.load(Ordering::SeqCst), 3);
     let [first, second, third] = &mut row;
@@ -116,7 +116,7 @@ fn a_waker_may_close_it() -> Checked {
     Ok(())
 }
 
-// While threads go in and out of it by all ways.
+// While threads enter and leave it in all ways.
 #[test]
 fn it_is_closed_in_the_middle_of_its_work() -> Checked {
     for _ in 0..50 {
@@ -166,7 +166,7 @@ fn what_is_free_is_retired_and_the_rest_is_owed() -> Checked {
     // At most as many as are held.
     assert_eq!((backend.shrink(9), counts(&backend)), (0, (0, 1, 2)));
     assert_eq!((backend.shrink(1), backend.retire(1)), (0, 0));
-    // By another thread than the one that has it.
+    // On another thread than the one that has it.
     thread::scope(|scope| scope.spawn(|| drop(first)).join()).map_err(|_| "it panics")?;
     assert_eq!(counts(&backend), (0, 2, 1));
     drop(second);
@@ -195,7 +195,7 @@ fn a_debt_is_paid_before_the_row() -> Checked {
     let [first, second] = &mut row;
     let permit = polled(first).ok_or("it has no permit")??;
     assert!(polled(second).is_none());
-    // What is raised goes to who waits, and what is owed isn't.
+    // What is raised goes to a waiter, and what is owed doesn't.
     assert_eq!((backend.shrink(1), backend.raise(1)), (0, 1));
     assert!(polled(second).is_none());
     assert_eq!(backend.raise(1), 1);
@@ -234,7 +234,7 @@ fn those_who_may_wait_are_not_those_who_are_owed() -> Checked {
     Ok(())
 }
 
-// Permits go from hand to hand, so that `retire` finds none.
+// Permits pass from hand to hand, so `retire` finds none.
 #[test]
 fn an_operator_shrinks_under_load() -> Checked {
     let backend = Arc::new(Bulkhead::new("backend", 4)?);

@@ -19,7 +19,7 @@ use std::thread;
 use std::time::{Duration, Instant};
 use tickets::Tickets;
 
-/// The system's memory. It counts the bytes that each thread has.
+/// The system's memory. It counts the bytes that each thread holds.
 struct Counted;
 
 thread_local! {
@@ -30,13 +30,13 @@ thread_local! {
 unsafe impl GlobalAlloc for Counted {
     unsafe fn alloc(&self, layout: Layout) -> *mut u8 {
         BYTES.set(BYTES.get().wrapping_add(layout.size()));
-        // SAFETY: as is asked of the caller.
+        // SAFETY: required of the caller.
         unsafe { System.alloc(layout) }
     }
 
     unsafe fn dealloc(&self, at: *mut u8, layout: Layout) {
         BYTES.set(BYTES.get().wrapping_sub(layout.size()));
-        // SAFETY: as is asked of the caller.
+        // SAFETY: required of the caller.
         unsafe { System.dealloc(at, layout) }
     }
 }
@@ -72,7 +72,7 @@ fn gaps_of_a_queue_are_closed_while_others_wait() {
     assert_eq!(queue.pop_first(), Some((0, [0; 8])));
 }
 
-// For how long a thread looks that never finds anything is bounded: by some microseconds, in which only so many looks fit.
+// How long a thread spins without finding anything is bounded: by a few microseconds, enough for only so many checks.
 #[test]
 fn a_thread_that_finds_nothing_looks_a_few_times() {
     let count = Cell::new(0);
@@ -82,7 +82,7 @@ fn a_thread_that_finds_nothing_looks_a_few_times() {
     };
     assert!((0..100).all(|_| !looks(None, never)));
     assert!(count.get() < 100 * 200, "{} looks", count.get());
-    // Once the deadline has passed it looks once.
+    // After the deadline it checks once.
     count.set(0);
     let passed = Some(Instant::now());
     assert!((0..1_000).all(|_| !looks(passed, never)));

@@ -1,4 +1,4 @@
-//! How a pool of threads ends: joins, closes, drops and panics, and who may be the last to have it.
+//! How a pool of threads ends: joins, closes, drops and panics, and who may be its last owner.
 mod common;
 
 use common::{Checked, PATIENCE, elsewhere, gated, in_time, until, wait_at};
@@ -20,7 +20,7 @@ fn joined<T>(thread: JoinHandle<T>) -> Result<thread::Result<T>, Box<dyn Error>>
     }
 }
 
-/// An owner of a pool, which tells when it begins to drop it and when it has, and joins it before where it is said to.
+/// An owner of a pool, which reports when it begins to drop it and when it has, and if told to, joins it first.
 struct Owner {
     pool: Option<Arc<ThreadPool>>,
     joins: bool,
@@ -289,7 +289,7 @@ fn a_job_closes_its_own_pool_at_once() -> Checked {
     Ok(())
 }
 
-// Whatever was accepted is run or comes back, also while others submit and join.
+// Every accepted job is run or comes back, even while others submit and join.
 #[test]
 fn nothing_is_lost_by_a_close_at_once() -> Checked {
     for round in 0..30 {

@@ -2,21 +2,24 @@
 mod common;
 
 use common::{Checked, PATIENCE, all_gated, end, gated, in_time, until};
-use resil::{JobHandle, Refusal, Reply, ThreadPool};
+use resil::{JobHandle, PoolError, Refusal, Reply, ThreadPool};
 use std::error::Error;
 use std::sync::atomic::{AtomicU32, Ordering};
 use std::sync::{Arc, Barrier};
 use std::thread;
 use std::time::Duration;
 
-/// How many jobs run, and how many ran at a time at most.
+/// The most threads that a pool may have.
+const LARGEST: u32 = 1_024;
+
+/// How many jobs run, and the maximum that ran at a time.
 #[derive(Default)]
 struct Seen {
     now: AtomicU32,
     most: AtomicU32,
 }
 
-// Jobs that come and go in groups of so many, all of a group at a time.
+// Jobs that come and go in groups of this many, all of a group at a time.
 fn in_groups(
     pool: &ThreadPool,
     size: usize,
@@ -37,7 +40,7 @@ fn in_groups(
     jobs.collect()
 }
 
-// Eight jobs run and some wait; from the resize on no more begin than two at a time, and no fewer.
+// Eight jobs run and some wait; after the resize no more than two begin at a time, and no fewer.
 fn shrunk(keep_alive: Duration) -> Result<ThreadPool, Box<dyn Error>> {
     let pool = ThreadPool::builder(8, 8).queue(100);
     let pool = pool.keep_alive(keep_alive).open()?;
@@ -91,6 +94,66 @@ fn a_greater_size_calls_those_that_held_back() -> Checked {
     pool.resize(4, 4)?;
     assert!(until(|| numbers().running == 4));
     waiting.into_iter().try_for_each(end)?;
+    Ok(())
+}
+
+// The largest pool, whose jobs all wait for each other.
+#[test]
+fn a_pool_of_1024_threads_runs_as_many_jobs_at_once() -> Checked {
+    // The jobs of a second group wait in the queue until the threads, which are all there, take them.
+    let pool = ThreadPool::builder(LARGEST, LARGEST).queue(LARGEST);
+    let pool = pool.open()?;
+    let seen = Arc::default();
+    for _ in 0..2 {
+        for job in in_groups(&pool, LARGEST as usize, LARGEST as usize, &seen)? {
+            in_time(job)?;
+        }
+    }
+    assert_eq!(seen.most.load(Ordering::SeqCst), LARGEST);
+    let numbers = pool.numbers();
+    assert_eq!(
+        (numbers.workers, numbers.finished),
+        (LARGEST, 2 * u64::from(LARGEST))
+    );
+    Ok(())
+}
+
+#[test]
+fn sizes_up_to_1024_and_back_hold_under_load() -> Checked {
+    const FEW: u32 = 16;
+    let pool = ThreadPool::builder(LARGEST, LARGEST).queue(4_096).open()?;
+    for _ in 0..2 {
+        let first = all_gated(&pool, LARGEST as usize)?;
+        let few = Arc::default();
+        let later = in_groups(&pool, FEW as usize, 10 * FEW as usize, &few)?;
+        pool.resize(FEW, FEW)?;
+        first.into_iter().try_for_each(end)?;
+        for job in later {
+            in_time(job)?;
+        }
+        assert_eq!(few.most.load(Ordering::SeqCst), FEW);
+        // Those that run wait for those that can't begin yet.
+        let all = Arc::default();
+        let waiting = in_groups(&pool, LARGEST as usize, LARGEST as usize, &all)?;
+        pool.resize(LARGEST, LARGEST)?;
+        for job in waiting {
+            in_time(job)?;
+        }
+        assert_eq!(all.most.load(Ordering::SeqCst), LARGEST);
+    }
+    Ok(())
+}
+
+#[test]
+fn a_resize_has_the_bound_of_the_opening() -> Checked {
+    let pool = ThreadPool::builder(1, 65).open()?;
+    assert_eq!(pool.resize(1_025, 1_025), Err(PoolError::CoreOutOfRange));
+    assert_eq!(pool.resize(66, 66), Err(PoolError::MaxOutOfRange));
+    pool.resize(65, 65)?;
+    let pool = ThreadPool::builder(1, 64).open()?;
+    assert_eq!(pool.resize(65, 65), Err(PoolError::CoreOutOfRange));
+    assert_eq!(pool.resize(64, 65), Err(PoolError::MaxOutOfRange));
+    pool.resize(64, 64)?;
     Ok(())
 }
 

@@ -1,4 +1,4 @@
-//! Jobs that are submitted while nobody looks: the one thread falls asleep, or runs another job.
+//! Jobs that are submitted while nobody checks: the only thread falls asleep, or runs another job.
 mod common;
 #[path = "recording/text.rs"]
 #[allow(dead_code, reason = "its events and times are read")]
@@ -13,7 +13,7 @@ use text::Text;
 
 const NAP: Duration = Duration::from_millis(30);
 
-// A job is submitted at any moment while the one thread looks for a job, falls asleep and sleeps.
+// A job is submitted at any moment while the only thread looks for a job, falls asleep and sleeps.
 #[test]
 fn a_job_is_run_though_its_thread_falls_asleep() -> Checked {
     let pool = ThreadPool::builder(1, 1).open()?;
@@ -24,7 +24,7 @@ fn a_job_is_run_though_its_thread_falls_asleep() -> Checked {
     Ok(())
 }
 
-// What came just before a join or a look at the numbers counts, though the one thread runs a job and nobody else looks.
+// What came just before a join or a read of the numbers counts, though the only thread runs a job and nobody else checks.
 #[test]
 fn what_came_just_before_counts() -> Checked {
     let pool = ThreadPool::builder(1, 1).open()?;
@@ -44,7 +44,7 @@ fn what_came_just_before_counts() -> Checked {
     Ok(())
 }
 
-// A submission is told with its own time, however long it takes until a thread looks at it.
+// A submission is recorded with its own time, however long it takes until a thread notices it.
 #[test]
 fn a_record_tells_when_a_job_came() -> Checked {
     let pool = ThreadPool::builder(1, 1).record(100).open()?;

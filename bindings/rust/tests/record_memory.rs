@@ -1,4 +1,4 @@
-//! The memory of a record is there at the opening: no event has the system find it. No other test runs in this process.
+//! A record's memory is allocated when the pool is opened: no event causes a page fault. No other test runs in this process.
 #![cfg(target_os = "linux")]
 mod common;
 
@@ -8,7 +8,7 @@ use resil::ThreadPool;
 /// 100,000 events of 24 bytes, in KiB.
 const RECORD: u64 = 2_343;
 
-// An emulator takes memory of its own for code that it translates, so one pool of several is enough.
+// An emulator takes memory of its own for the code that it translates, so one pool of several is enough.
 #[test]
 fn a_record_is_there_at_the_opening() -> Checked {
     let mut pools = Vec::new();

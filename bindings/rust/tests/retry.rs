@@ -9,7 +9,7 @@ use std::time::{Duration, Instant};
 
 const MS: Duration = Duration::from_millis(1);
 
-// Calls by a retry that writes its waits down, and gives the answer, the number of calls and the waits in milliseconds.
+// Calls with a retry that writes its waits down, and returns the answer, the number of calls and the waits in milliseconds.
 fn tried<T>(
     retry: Retry,
     mut function: impl FnMut(u32) -> Result<T, &'static str>,
@@ -143,7 +143,7 @@ fn the_limit_is_that_of_the_clock_too() {
         Err::<(), _>("no")
     });
     assert_eq!(answer, Err("no"));
-    // The last wait of no time was not begun behind the limit.
+    // The last wait of no time didn't begin after the limit.
     assert!(calls < 1_000 && began.elapsed() >= 20 * MS);
 }
 
@@ -165,7 +165,7 @@ fn an_error_may_say_how_long_to_wait() {
     let answer = retry.call(|| errors.next().map_or(Ok(()), Err));
     assert_eq!(answer, Err(404));
     assert_eq!((waits.take(), seen.take()), (vec![7, 5, 0], vec![1, 2, 3]));
-    // What is asked for is held to the limit too.
+    // A wait that the error asks for is held to the limit too.
     let far = retry.wait_by(|_: &u64, _| Some(Duration::MAX));
     assert_eq!(far.call(|| Err::<(), _>(1)), Err(1));
     assert!(waits.take().is_empty());

@@ -1,5 +1,5 @@
-//! A long row of those who await: what leaving it takes, its memory, and wakers that panic. It counts all memory of the process, so
-//! the row alone is tested here.
+//! A long queue of awaiting tasks: what leaving it takes, its memory, and wakers that panic. This counts all memory of the process, so
+//! only the queue is tested here.
 #![cfg(target_os = "linux")]
 
 mod common;
@@ -21,13 +21,13 @@ struct Counted(AtomicUsize);
 unsafe impl GlobalAlloc for Counted {
     unsafe fn alloc(&self, layout: Layout) -> *mut u8 {
         self.0.fetch_add(layout.size(), Ordering::Relaxed);
-        // SAFETY: as is asked of the caller.
+        // SAFETY: required of the caller.
         unsafe { System.alloc(layout) }
     }
 
     unsafe fn dealloc(&self, at: *mut u8, layout: Layout) {
         self.0.fetch_sub(layout.size(), Ordering::Relaxed);
-        // SAFETY: as is asked of the caller.
+        // SAFETY: required of the caller.
         unsafe { System.dealloc(at, layout) }
     }
 }
@@ -38,20 +38,20 @@ static MEMORY: Counted = Counted(AtomicUsize::new(0));
 // One test at a time.
 static ALONE: Mutex<()> = Mutex::new(());
 
-// So many who stand in the row of a bulkhead all of whose permits are held.
+// This many tasks in the queue of a bulkhead all of whose permits are held.
 fn row_of(backend: &Arc<Bulkhead>, count: usize) -> Vec<Acquire> {
     let mut row: Vec<_> = (0..count).map(|_| backend.acquire_owned()).collect();
     assert!(row.iter_mut().all(|one| polled(one).is_none()));
     row
 }
 
-// What this thread has taken of a processor, in nanoseconds: others may have the processors too.
+// How much processor time this thread has taken, in nanoseconds: others may have the processors too.
 fn processor_time() -> Result<u64, Box<dyn Error>> {
     let told = fs::read_to_string("/proc/thread-self/schedstat")?;
     Ok(told.split(' ').next().ok_or("it tells nothing")?.parse()?)
 }
 
-// Drops all in an order that has nothing to do with the one in which they came, and tells how long that takes.
+// Drops all in an order unrelated to the one in which they came, and returns how long that takes.
 fn drop_in_disorder(mut row: Vec<Acquire>) -> Result<u64, Box<dyn Error>> {
     let mut seed = 7_usize;
     for end in (1..row.len()).rev() {
@@ -74,14 +74,14 @@ fn who_leaves_a_long_row_takes_no_longer() -> Checked {
             *quickest = drop_in_disorder(row_of(&backend, *count))?.min(*quickest);
         }
     }
-    // Eight times as many: where each looked through the row it were 64 times as long.
+    // Eight times as many: if each searched the queue, it would be 64 times as long.
     let [(_, short), (_, long)] = times;
     assert!(long < 30 * short, "{short} and {long} ns");
     assert_eq!(backend.numbers().waiting, 0);
     Ok(())
 }
 
-// As many places in the row as permits would take milliseconds each.
+// As many places in the queue as permits would take milliseconds each.
 #[test]
 fn who_waits_for_all_permits_comes_and_goes_as_one() -> Checked {
     let _alone = ALONE.lock().unwrap_or_else(PoisonError::into_inner);
@@ -95,7 +95,7 @@ fn who_waits_for_all_permits_comes_and_goes_as_one() -> Checked {
         drop(all);
         quickest = quickest.min(processor_time()? - begun);
     }
-    // Without optimization it is some 30 us.
+    // Without optimization it is about 30 us.
     assert!(quickest < 1_000_000, "{quickest} ns");
     assert_eq!(backend.available(), 65_534);
     Ok(())

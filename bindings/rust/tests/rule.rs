@@ -1,4 +1,4 @@
-//! The rule of a pool, whose answers are proved of the library: that each call, each answer and each event is the one that is meant.
+//! A pool's rule, whose answers are proved for the library: that each call, each answer and each event is the intended one.
 use resil::rule::{Event, JobId, Origin, Picked, PoolError, PoolRule, Reply};
 
 fn job(number: u64) -> JobId {
@@ -64,7 +64,9 @@ fn refusals_change_nothing() -> Result<(), PoolError> {
     assert_eq!(refused(2, 1, 0, 0), Some(PoolError::MaxOutOfRange));
     assert_eq!(refused(1, 1, 0, 0), Some(PoolError::QueueOutOfRange));
     assert_eq!(refused(1, 1, 1, 0), Some(PoolError::CallersOutOfRange));
-    assert_eq!(refused(64, 64, 65_536, 65_535), None);
+    assert_eq!(refused(1_025, 1_025, 1, 1), Some(PoolError::CoreOutOfRange));
+    assert_eq!(refused(1, 1_025, 1, 1), Some(PoolError::MaxOutOfRange));
+    assert_eq!(refused(1_024, 1_024, 65_536, 65_535), None);
     let mut rule = PoolRule::builder(1, 1).keep_events(9).open()?;
     assert_eq!(rule.submit(job(2), 0), Err(PoolError::WrongNumber));
     for caller in [0, 2] {

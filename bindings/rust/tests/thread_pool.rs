@@ -1,4 +1,4 @@
-//! A pool of threads: its answers, its numbers, its ends, and what is done to it by mistake.
+//! A pool of threads: its answers, its numbers, its ends, and mistakes in its use.
 mod common;
 
 use common::{Checked, PATIENCE, begun, end, gated, in_time, until, wait_at};
@@ -70,11 +70,15 @@ fn refusals_are_errors_of_any_function() {
 fn sizes_out_of_range_are_refused() {
     let refused = |core, max, queue| ThreadPool::builder(core, max).queue(queue).open().err();
     assert_eq!(refused(0, 0, 0), Some(PoolError::CoreOutOfRange));
-    assert_eq!(refused(65, 65, 0), Some(PoolError::CoreOutOfRange));
+    assert_eq!(refused(1_025, 1_025, 0), Some(PoolError::CoreOutOfRange));
+    assert_eq!(refused(1, 1_025, 0), Some(PoolError::MaxOutOfRange));
     assert_eq!(refused(2, 1, 0), Some(PoolError::MaxOutOfRange));
     assert_eq!(refused(1, 1, 0), Some(PoolError::QueueOutOfRange));
     assert_eq!(refused(1, 1, 65_537), Some(PoolError::QueueOutOfRange));
-    assert_eq!(refused(64, 64, 65_536), None);
+    assert_eq!(refused(1_024, 1_024, 65_536), None);
+    for error in [PoolError::CoreOutOfRange, PoolError::MaxOutOfRange] {
+        assert!(error.to_string().contains("to 1024, or at a resize"));
+    }
     let named = ThreadPool::builder(1, 1).name("a\0b").open();
     assert_eq!(named.err(), Some(PoolError::NulInName));
 }
@@ -156,7 +160,7 @@ fn functions_and_answers_are_dropped_once() -> Checked {
     Ok(())
 }
 
-/// An answer whose drop has its own pool run another job, and waits for that.
+/// An answer whose drop makes its own pool run another job, and waits for it.
 struct Asks(Arc<ThreadPool>, Sender<u32>);
 
 impl Drop for Asks {
@@ -275,7 +279,7 @@ fn a_smaller_core_lets_threads_end() -> Checked {
     assert!(until(|| pool.numbers().workers == 1));
     assert_eq!(pool.resize(1, 4), Err(PoolError::MaxOutOfRange));
     assert_eq!(pool.resize(0, 4), Err(PoolError::CoreOutOfRange));
-    // The rule is known to queue what comes, up to the next size.
+    // The rule is known to queue what comes, up to the next resize.
     assert_eq!(pool.submit(|| ())?.reply(), Reply::Queued);
     pool.resize(2, 2)?;
     assert_eq!(pool.submit(|| ())?.reply(), Reply::Core);

@@ -1,4 +1,4 @@
-//! What values can do: be told apart, be keys, and be copied.
+//! What values can do: be compared, be keys, and be copied.
 mod common;
 
 use common::Checked;
@@ -31,7 +31,7 @@ fn ends_of_jobs_are_compared() -> Checked {
     Ok(())
 }
 
-// Each draws what comes next for both, and is told by one observer.
+// Each draw advances the other, and both report to the same observer.
 #[test]
 fn a_clone_of_a_retry_shares_its_jitter_and_its_observer() {
     let waits = Arc::new(Mutex::new(Vec::new()));

@@ -1,4 +1,4 @@
-//! Whose turn it is where threads, tasks and an operator want the same permits.
+//! Whose turn it is if threads, tasks and an operator want the same permits.
 mod common;
 
 use common::{Checked, block_on, is_idle, polled, until};
@@ -8,7 +8,7 @@ use std::sync::{Arc, Barrier};
 use std::thread;
 use std::time::Duration;
 
-// Tasks come all the time, and yet the thread has the second permit that is given back.
+// Tasks keep coming, and yet the thread gets the second permit that is given back.
 #[test]
 fn a_thread_is_not_passed_by() -> Checked {
     let backend = Arc::new(Bulkhead::new("backend", 1)?);
@@ -33,7 +33,7 @@ fn a_thread_is_not_passed_by() -> Checked {
     Ok(())
 }
 
-// Two threads wait, and the task has at least the second permit.
+// Two threads wait, and the task gets the second permit at the latest.
 #[test]
 fn a_task_is_not_passed_by() -> Checked {
     let backend = Arc::new(Bulkhead::new("backend", 1)?);
@@ -85,7 +85,7 @@ fn what_is_raised_wakes_a_thread() -> Checked {
     Ok(())
 }
 
-// Many permits come back one after the other, without the lock. What is owed in the middle of that is retired for the debt alone.
+// Many permits come back one after the other, without the lock. What is owed in the middle of that is retired only for the debt.
 #[test]
 fn what_is_owed_is_not_retired_twice() -> Checked {
     const MAX: u32 = 512;

@@ -1,4 +1,4 @@
-//! What is told of waits for permits: each exactly once, with its length and its end.
+//! What is reported of waits for permits: each exactly once, with its length and its end.
 mod common;
 
 use common::{Checked, block_on, is_idle, polled, until};
@@ -32,7 +32,7 @@ impl Observer for Waits {
 }
 
 impl Waits {
-    // What was told since the last look: the end, and how long it took, of the one wait.
+    // What was reported since the last call: the end and the length of the only wait.
     fn one(&self) -> Result<(WaitEnd, Duration), String> {
         let mut ends = self.ends.lock().unwrap_or_else(PoisonError::into_inner);
         match std::mem::take(&mut *ends)[..] {
@@ -65,7 +65,7 @@ fn what_is_decided_at_once_takes_no_time() -> Checked {
     let refused = block_on(backend.acquire_owned().most_waiting(0));
     assert_eq!(refused.err(), Some(Full));
     assert_eq!(waits.one(), at_once(WaitEnd::QueueFull));
-    // One that isn't ready to wait isn't told, and one that is never polled hasn't waited.
+    // A call that won't wait isn't reported, and one that is never polled hasn't waited.
     assert_eq!(backend.enter().err(), Some(Full));
     drop(backend.acquire_owned());
     assert!(waits.one().is_err());
@@ -93,7 +93,7 @@ fn a_wait_is_told_once_with_its_length() -> Checked {
     assert!(is_so(WaitEnd::TimedOut));
     assert_eq!(backend.enter_owned_within(NAP).err(), timed_out);
     assert!(is_so(WaitEnd::TimedOut));
-    // A thread and a task that are served, and tasks that go away: one that waits, and one that has its permit and hasn't seen it.
+    // A thread and a task that are served, and tasks that go away: one that waits, and one that has its permit but hasn't seen it.
     let mut task = backend.acquire_owned();
     assert!(polled(&mut task).is_none() && polled(&mut task).is_none());
     thread::sleep(NAP);
@@ -124,7 +124,7 @@ fn a_wait_is_told_once_with_its_length() -> Checked {
         assert!(is_there && served.join().is_ok_and(|served| served.is_ok()));
     });
     assert!(is_so(WaitEnd::Granted));
-    // At a closing.
+    // At a close.
     let _permit = backend.enter()?;
     let mut task = backend.acquire_owned();
     assert!(polled(&mut task).is_none());
@@ -161,7 +161,7 @@ fn no_permit_is_lost_where_the_observer_panics() -> Checked {
     Ok(())
 }
 
-// The lines of a page of which this is true: of fourteen calls, ten abandoned, one too late, one refused, one at once and one after a wait.
+// The lines of a page for these: fourteen calls, ten of them abandoned, one too late, one refused, one at once and one after a wait.
 #[test]
 fn each_call_is_on_the_page() -> Checked {
     let metrics = Arc::new(Metrics::new());

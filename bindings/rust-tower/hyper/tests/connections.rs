@@ -1,4 +1,4 @@
-//! Servers of hyper behind a layer whose calls wait: which connections hold a permit, and which don't.
+//! Hyper servers with a layer whose calls wait: which connections hold a permit, and which don't.
 use hyper::server::conn::AddrIncoming;
 use hyper::service::make_service_fn;
 use hyper::{Body, Request, Response, Server, StatusCode};
@@ -15,10 +15,10 @@ use tower::{BoxError, ServiceBuilder, ServiceExt, service_fn};
 
 type Checked = Result<(), BoxError>;
 
-// For what is there at once, however busy the machine is.
+// For what is expected at once, however busy the machine is.
 const PATIENCE: Duration = Duration::from_secs(60);
 
-// A server with this layer, whose handler answers `/slow` once it is let go on. What is refused is answered by 503.
+// A server with this layer, whose handler answers `/slow` once it may continue. Refused requests get a 503.
 fn serve(layer: QueueingLayer, goes_on: Arc<Semaphore>) -> Result<SocketAddr, BoxError> {
     let handler = service_fn(move |request: Request<Body>| {
         let goes_on = Arc::clone(&goes_on);
@@ -55,7 +55,7 @@ async fn send(connection: &mut TcpStream, path: &str) -> Checked {
     Ok(())
 }
 
-// The status of the next answer, which is read whole: behind its head stand five letters.
+// The status of the next answer, which is read to its end: five letters follow its head.
 async fn status(connection: &mut TcpStream) -> Result<u16, BoxError> {
     let mut head = Vec::new();
     let reads = async {
@@ -82,7 +82,7 @@ async fn idle_connections_hold_no_permit() -> Checked {
     let backend = Arc::new(Bulkhead::new("backend", 2)?);
     let layer = BulkheadLayer::queueing(Arc::clone(&backend));
     let address = serve(layer, Arc::new(Semaphore::new(0)))?;
-    // Two that ask nothing, of which one has had an answer; hyper asks whether the service is ready before it reads.
+    // Two that request nothing; one of them has had an answer. hyper polls the service for readiness before it reads.
     let mut idle = [
         TcpStream::connect(address).await?,
         TcpStream::connect(address).await?,
@@ -113,7 +113,7 @@ async fn a_connection_whose_request_was_refused_holds_no_permit() -> Checked {
     assert_eq!(status(&mut refused).await?, 503);
     goes_on.add_permits(1);
     assert_eq!(status(&mut slow).await?, 200);
-    // The refused one stays as it is, and others are answered; then so is it.
+    // The refused connection stays open, and others are answered; then it is too.
     let mut other = TcpStream::connect(address).await?;
     for connection in [&mut other, &mut refused, &mut slow] {
         wait_until(|| backend.available() == 1).await?;

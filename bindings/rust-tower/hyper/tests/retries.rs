@@ -1,4 +1,4 @@
-//! A client of hyper whose calls are retried: its requests aren't `Clone`.
+//! A hyper client whose calls are retried: its requests aren't `Clone`.
 use hyper::body::HttpBody;
 use hyper::service::{make_service_fn, service_fn};
 use hyper::{Body, Client, Method, Request, Response, Server, StatusCode};
@@ -11,7 +11,7 @@ use std::sync::atomic::{AtomicU32, Ordering};
 use std::time::Duration;
 use tower::{BoxError, Service, ServiceBuilder, ServiceExt};
 
-// A body that isn't empty is gone once it is sent, so such a request is sent once.
+// A body that isn't empty is gone once it is sent, so such a request is sent only once.
 fn cloned(request: &Request<Body>) -> Option<Request<Body>> {
     if request.body().size_hint().exact() != Some(0) {
         return None;
@@ -23,7 +23,7 @@ fn cloned(request: &Request<Body>) -> Option<Request<Body>> {
     Some(copy)
 }
 
-// Answers each third request, and the others by 503.
+// Answers each third request, and the others with 503.
 fn serve(asked: Arc<AtomicU32>) -> SocketAddr {
     let each = make_service_fn(move |_connection: &_| {
         let asked = Arc::clone(&asked);

@@ -1,4 +1,4 @@
-//! What several tests have in common. Each takes a part of it.
+//! Shared by several tests. Each uses a part of it.
 #![allow(dead_code)]
 
 use resil::Bulkhead;
@@ -14,15 +14,15 @@ use tower::{Service, ServiceExt, service_fn};
 pub type Checked = Result<(), Box<dyn Error>>;
 pub type Answer = Pin<Box<dyn Future<Output = Result<u32, &'static str>> + Send>>;
 
-/// Answers with the number that it is asked by; 0 is never answered, 1 panics in the call, and 2 fails. It is ready after half as many looks,
-/// or fails then where they are odd.
+/// Answers with the number that it gets; 0 is never answered, 1 panics in the call, and 2 fails. It is ready after half as many polls as
+/// `looks` says, or then fails if that is odd.
 #[derive(Clone, Debug)]
 pub struct Answers {
     pub looks: u32,
 }
 
 impl Answers {
-    /// With so many looks to go the next one panics.
+    /// With this many polls to go, the next one panics.
     pub const PANICS: u32 = 1 << 31;
 }
 
@@ -65,7 +65,7 @@ pub fn is_idle(backend: &Bulkhead) -> bool {
     (backend.available(), backend.numbers().waiting) == (backend.max(), 0)
 }
 
-/// Has tasks call a service that a layer of three permits makes: all calls are made, and three at a time at most.
+/// Makes tasks call a service over three permits: all calls are made, at most three at a time.
 pub async fn all_are_made<S>(
     layered: impl FnOnce(Arc<Bulkhead>, BoxCloneService<u32, u32, &'static str>) -> S,
 ) -> Checked

@@ -1,19 +1,19 @@
-//! What the callers of both halves met with over time, as an SVG: how many calls of each tenth of a second were answered,
-//! refused or given up, one on the other.
+//! How the callers of both halves fared over time, as an SVG: how many calls in each tenth of a second were answered, refused or given
+//! up, stacked.
 use super::{HANGS, LENGTH, Met, PERMITS, STEADY_PATIENCE, THREADS};
 use std::fmt::Write as _;
 use std::time::Duration;
 
-/// How long one column is.
+/// The width of a column in time.
 const COLUMN: Duration = Duration::from_millis(100);
 const WIDTH: f64 = 800.0;
 const LEFT: f64 = 48.0;
 const PLOT: f64 = 736.0;
 const HEIGHT: f64 = 130.0;
-/// Where the two plots begin, from above.
+/// The top of each of the two plots.
 const TOPS: [f64; 2] = [112.0, 294.0];
 
-/// What a call may meet with, from below: its class, and the words of the legend with their place.
+/// The possible results of a call, from the bottom: the class, and the legend's words with their place.
 const KINDS: [(&str, &str, f64); 4] = [
     ("good", "good neighbour answers", 48.0),
     ("slow", "slow neighbour answers", 256.0),
@@ -30,7 +30,7 @@ svg { background: #0d1117; fill: #e6edf3 }
 .good { fill: #4493f8 } .slow { fill: #2a5690 } .refused { fill: #d29922 } .late { fill: #f85149 }
 }";
 
-// The place of a kind in KINDS.
+// A result's index in KINDS.
 fn kind(met: &Met) -> usize {
     match met.status {
         Some(200) if met.slow => 1,
@@ -57,7 +57,7 @@ fn x(at: Duration) -> f64 {
     LEFT + PLOT * at.as_secs_f64() / LENGTH.as_secs_f64()
 }
 
-// The outline of a kind: over all columns what it and those below it add up to, and back along the sum of those below.
+// The outline of a kind: over all columns the sum of it and those below it, and back along the sum of those below.
 fn outline(columns: &[[u32; 4]], kind: usize, unit: f64, bottom: f64) -> String {
     let step = x(COLUMN) - LEFT;
     let height = |column: &[u32; 4], count: usize| {
@@ -78,7 +78,7 @@ fn outline(columns: &[[u32; 4]], kind: usize, unit: f64, bottom: f64) -> String 
     path + "Z"
 }
 
-// One plot: the band in which the slow neighbour hangs, the four kinds, and the axes.
+// One plot: the band in which the slow backend hangs, the four kinds, and the axes.
 fn plot(svg: &mut String, title: &str, all: &[Met], most: u32, top: f64) {
     let (above, bottom) = (top - 12.0, top + HEIGHT);
     let unit = HEIGHT / f64::from(most);

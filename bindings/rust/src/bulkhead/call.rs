@@ -1,4 +1,4 @@
-//! Calls of functions that give futures, under a permit each.
+//! Calls of functions that return futures, each under a permit.
 use super::Bulkhead;
 use super::error::NoPermit;
 use super::permit::Permit;
@@ -9,13 +9,13 @@ use std::task::{Poll, ready};
 use std::time::Duration;
 
 impl Bulkhead {
-    /// Awaits a permit, as [`acquire_owned`](Bulkhead::acquire_owned) does, calls the function, and awaits its future. The permit is
-    /// given back once that has its answer or panics, or is dropped with the whole.
+    /// Awaits a permit as [`acquire_owned`](Bulkhead::acquire_owned) does, calls the function, and awaits its future. The permit is given
+    /// back when that future completes or panics, or when the returned future is dropped.
     ///
     /// # Errors
     ///
-    /// `Closed` where the bulkhead is closed, or is closed while it waits; `Full` where it has no permits at all. The function wasn't
-    /// called.
+    /// `Closed` if the bulkhead is closed, before or during the wait; `Full` if it has no permits at all. In both cases the function
+    /// wasn't called.
     ///
     /// ```
     /// use resil::{Bulkhead, NoPermit};
@@ -33,12 +33,12 @@ impl Bulkhead {
         Ok(function().await)
     }
 
-    /// The same, which waits for a permit as long as this at most. The second function gives a future that is ready after a while, as
-    /// `tokio::time::sleep` does; it is called only if there is no permit at once.
+    /// Like [`call_async`](Bulkhead::call_async), but waits for a permit for at most `limit`. `sleep` returns a future that is ready
+    /// after the given time, as `tokio::time::sleep` does; it is called only if no permit is free at once.
     ///
     /// # Errors
     ///
-    /// As there; `TimedOut` where it had no permit until then.
+    /// Those of [`call_async`](Bulkhead::call_async); `TimedOut` if there was no permit within the limit.
     ///
     /// ```
     /// use resil::{Bulkhead, NoPermit};
@@ -46,7 +46,7 @@ impl Bulkhead {
     ///
     /// # async fn sleep(_time: Duration) {}
     /// async fn price(backend: &Bulkhead) -> Result<u32, NoPermit> {
-    ///     // With the sleep of your runtime, such as `tokio::time::sleep`.
+    ///     // Pass your runtime's sleep, such as `tokio::time::sleep`.
     ///     backend.call_async_within(async || 42, Duration::from_millis(500), sleep).await
     /// }
     /// ```

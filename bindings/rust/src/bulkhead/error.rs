@@ -1,10 +1,10 @@
-//! Why there is no permit, and why there is no bulkhead.
+//! Why a permit, or a bulkhead, couldn't be had.
 use crate::observer::WaitEnd;
 use crate::texts::error_texts;
 
-/// Why there is no permit. `Full` and `Closed` are names of this crate too. There may be further reasons one day.
+/// Why a call got no permit. The crate exports `Full` and `Closed` as names of their own. Later versions may add reasons.
 ///
-/// A server answers 503 where it is full or closed, and 504 where the call has waited in vain:
+/// A server answers 503 if the bulkhead is full or closed, and 504 if the call timed out waiting:
 ///
 /// ```
 /// use resil::{Bulkhead, NoPermit};
@@ -28,7 +28,7 @@ pub enum NoPermit {
     Full,
     /// The bulkhead is [closed](crate::Bulkhead::close).
     Closed,
-    /// All permits in use were held until the call's time limit.
+    /// All permits in use were held until the call's time limit was over.
     TimedOut,
 }
 
@@ -49,20 +49,20 @@ impl From<WaitEnd> for NoPermit {
     }
 }
 
-/// Why there is no bulkhead or no pass; where more than one holds, the first of these.
+/// Why a bulkhead or a pass couldn't be made. If several reasons hold, it is the first of them.
 #[derive(Debug, Clone, Copy, PartialEq, Eq, Hash)]
 #[non_exhaustive]
 pub enum BulkheadError {
     /// The name isn't 1 to 64 bytes of ASCII letters, digits, `-`, `_` and `.`.
     BadName,
-    /// More than 65,535 permits were asked for.
+    /// The number of permits is above 65,535.
     TooManyPermits,
     /// Out of memory.
     Memory,
 }
 
 error_texts! { BulkheadError {
-    BadName => "a name is 1 to 64 bytes of ASCII letters, digits, `-`, `_` and `.`",
+    BadName => "a name must be 1 to 64 bytes of ASCII letters, digits, `-`, `_` and `.`",
     TooManyPermits => "there are more than 65535 permits",
     Memory => "out of memory",
 }}

@@ -1,4 +1,4 @@
-//! Several permits at a time: all of them, or none.
+//! Several permits at a time, all or none.
 use super::Bulkhead;
 use super::error::NoPermit;
 use super::observed::HeldAll;
@@ -18,17 +18,18 @@ use std::task::{Context, Poll, Wake, Waker};
 use std::thread::{self, Thread};
 use std::time::{Duration, Instant};
 
-/// Several permits at a time. An observer is told of each of them, and of their wait once.
+/// Several permits at a time. An observer hears of each permit, and once of the wait for all of them.
 impl Bulkhead {
-    /// Takes so many permits at once, or none. They are given back when they are dropped, all or, once they are
-    /// [split](Permits::split), in parts.
+    /// Takes `count` permits at once, or none. Dropping them gives them all back; you can also [split](Permits::split) them and give
+    /// parts back.
     ///
-    /// Each costs what one by [`enter`](Bulkhead::enter) does, since the proved permits are taken one by one: 65,535 are taken and
-    /// given back in some 2 ms. They are for few. While it looks it holds what it finds, so that others may be refused for a moment.
+    /// Each permit costs as much as one taken by [`enter`](Bulkhead::enter), since the proved permits are taken one by one: taking and
+    /// giving back 65,535 takes about 2 ms. So take only a few. During the search the call holds what it has found, so others may be
+    /// refused for a moment.
     ///
     /// # Errors
     ///
-    /// `Closed` where the bulkhead is closed; `Full` where fewer are free.
+    /// `Closed` if the bulkhead is closed; `Full` if fewer than `count` permits are free.
     ///
     /// ```
     /// # let backend = resil::Bulkhead::new("backend", 3)?;
@@ -42,23 +43,23 @@ impl Bulkhead {
         Ok(Permits(Bundle::new(self, runs)))
     }
 
-    /// Takes so many permits that keep the bulkhead, as [`enter_many`](Bulkhead::enter_many) does.
+    /// Takes `count` permits that keep the bulkhead alive, as [`enter_many`](Bulkhead::enter_many) does.
     ///
     /// # Errors
     ///
-    /// As there.
+    /// Those of [`enter_many`](Bulkhead::enter_many).
     pub fn enter_many_owned(self: &Arc<Self>, count: u32) -> Result<OwnedPermits, NoPermit> {
         let runs = self.enter_runs(count)?;
         Ok(OwnedPermits(Bundle::new(Arc::clone(self), runs)))
     }
 
-    /// Takes so many permits, and waits for them, asleep, for as long as this; `Duration::MAX` is a wait without an end. It stands in
-    /// the row of those who await permits, as [`acquire_many_owned`](Bulkhead::acquire_many_owned) does.
+    /// Takes `count` permits, blocking this thread for at most `limit` until it has them. `Duration::MAX` waits without a limit. The call
+    /// waits in the same queue as [`acquire_many_owned`](Bulkhead::acquire_many_owned) does.
     ///
     /// # Errors
     ///
-    /// `Closed` where the bulkhead is closed, or is closed meanwhile; `Full`, at once, where it has fewer permits, in use or not, and
-    /// where the duration is zero and fewer are free; `TimedOut` where there aren't as many until then.
+    /// `Closed` if the bulkhead is closed, before or during the wait; `Full`, at once, if it has fewer permits than `count`, in use or
+    /// not, or if the limit is zero and fewer are free; `TimedOut` if it doesn't have them by the limit.
     pub fn enter_many_within(&self, count: u32, limit: Duration) -> Result<Permits<'_>, NoPermit> {
         let runs = if limit.is_zero() {
             let taken = self.take_many(count, locked(&self.alone));
@@ -69,18 +70,18 @@ impl Bulkhead {
         Ok(Permits(Bundle::new(self, runs)))
     }
 
-    /// So many permits that keep the bulkhead, to be awaited as one is by [`acquire_owned`](Bulkhead::acquire_owned): all of them, or
-    /// none. They are given back when they are dropped, all or, once they are [split](OwnedPermits::split), in parts.
+    /// Returns a future of `count` permits that keep the bulkhead alive, all or none; [`acquire_owned`](Bulkhead::acquire_owned) does the
+    /// same for one. Dropping the permits gives them all back; you can also [split](OwnedPermits::split) them and give parts back.
     ///
-    /// It stands in the same row. While it is the first there it gathers what is given back, and nobody behind it has a permit before
-    /// it has all; so those who await few don't keep it waiting for ever, nor it those who came before. Dropped while it waits, it
-    /// gives back what it has gathered. Two calls that each await more, with permits in their hands, may wait for each other.
-    /// One that awaits more than are in use waits for a [`raise`](Bulkhead::raise), and who stands behind it waits with it.
+    /// The future waits in the same queue. While it is first, it gathers the permits that are given back, and nobody after it gets one
+    /// until it has them all. So callers that want few permits don't starve it, and it doesn't starve callers that came earlier. If you
+    /// drop it while it waits, it gives back what it has gathered. Two tasks that hold permits and both await more may wait for each
+    /// other for ever. A call for more permits than are in use waits for a [`raise`](Bulkhead::raise), and so does everyone after it.
     ///
-    /// Standing in the row and leaving it takes microseconds, however many are awaited. Each permit costs what one by
-    /// [`enter`](Bulkhead::enter) does; of many that are free it takes some hundreds at each poll.
+    /// Joining and leaving the queue takes microseconds, regardless of `count`. Each permit costs as much as one taken by
+    /// [`enter`](Bulkhead::enter); if many are free, each poll takes a few hundred.
     ///
-    /// **The future gives a `Result`: write `?`, or the call runs without permits once the bulkhead is closed.**
+    /// **The future's output is a `Result`: write `?`, or the call runs without permits once the bulkhead is closed.**
     ///
     /// ```
     /// # use resil::{Bulkhead, NoPermit};
@@ -95,7 +96,7 @@ impl Bulkhead {
         AcquireMany { wait, count }
     }
 
-    /// [`acquire_many_owned`](Bulkhead::acquire_many_owned) under the name that it had in 0.5.0, when it gave a `Vec`.
+    /// The name that [`acquire_many_owned`](Bulkhead::acquire_many_owned) had in 0.5.0, when its output was a `Vec`.
     #[deprecated(since = "0.6.0", note = "write `acquire_many_owned`")]
     pub fn acquire_many(self: &Arc<Self>, count: u32) -> AcquireMany {
         self.acquire_many_owned(count)
@@ -106,9 +107,9 @@ impl Bulkhead {
         self.told_all(taken.map_err(NoPermit::from))
     }
 
-    // Takes so many, one after the other, or gives all back. Who does so is alone, so that two don't refuse each other.
+    // Takes `count` permits one by one, or gives all back. Only one caller does so at a time, so that two don't refuse each other.
     fn take_many(&self, count: u32, alone: MutexGuard<'_, ()>) -> Result<Runs, WaitEnd> {
-        // Given back outside of the lock, where some are missing.
+        // If some are missing, the others are given back outside the lock.
         let mut held = HeldAll(self, Runs::default());
         let _alone = alone;
         if self.is_closed() {
@@ -125,7 +126,7 @@ impl Bulkhead {
         Ok(held.keep())
     }
 
-    /// Takes so many permits where nobody waits, or has a task stand in the row.
+    /// Takes `count` permits if nobody waits, or puts a task into the queue.
     pub(super) fn ask_many(
         &self,
         ticket: &mut Option<u64>,
@@ -167,7 +168,7 @@ impl Bulkhead {
     }
 }
 
-/// Wakes a thread that waits as a task does.
+/// Wakes a thread that waits the way a task does.
 struct Unparks(Thread);
 
 impl Wake for Unparks {
@@ -176,7 +177,7 @@ impl Wake for Unparks {
     }
 }
 
-/// Permits that were taken together, and the bulkhead, by a reference or in an `Arc`.
+/// Permits that were taken together, and the bulkhead, by reference or in an `Arc`.
 struct Bundle<B: Deref<Target = Bulkhead>> {
     bulkhead: B,
     runs: Runs,
@@ -214,13 +215,13 @@ impl<B: Deref<Target = Bulkhead>> Drop for Bundle<B> {
 // What both kinds of permits have in common.
 macro_rules! permits {
     ($permits:ident) => {
-        /// How many they are.
+        /// The number of permits.
         #[must_use]
         pub fn count(&self) -> u32 {
             self.0.runs.count()
         }
 
-        /// Parts with so many of them, which are given back by themselves; none where there are fewer.
+        /// Splits off `count` permits, which are given back on their own. Returns `None` if there are fewer.
         ///
         /// ```
         /// # let backend = resil::Bulkhead::new("backend", 3)?;
@@ -235,11 +236,11 @@ macro_rules! permits {
             self.0.split(count).map($permits)
         }
 
-        /// Takes these in, which are given back with its own then.
+        /// Adds these permits, so that they are given back together with its own.
         ///
         /// # Panics
         ///
-        /// Where they are of another bulkhead. They are given back then.
+        /// If they are of another bulkhead. They are given back in that case.
         ///
         /// ```
         /// # let backend = resil::Bulkhead::new("backend", 3)?;
@@ -255,9 +256,9 @@ macro_rules! permits {
     };
 }
 
-/// Permits of a [`Bulkhead`] that were taken together, given back when they are dropped. [`Bulkhead::enter_many`] gives them.
+/// Permits of a [`Bulkhead`] that were taken together by [`Bulkhead::enter_many`], given back when they are dropped.
 ///
-/// Dropped at once they are told by rustc, as one is:
+/// As with a single permit, rustc warns if they are dropped at once:
 ///
 /// ```compile_fail
 /// #![deny(unused_must_use)]
@@ -271,14 +272,14 @@ impl Permits<'_> {
     permits!(Permits);
 }
 
-/// Permits that keep their [`Bulkhead`], as [`Permits`] do that don't. [`Bulkhead::acquire_many_owned`] gives them.
+/// Like [`Permits`], but they keep their [`Bulkhead`] alive. [`Bulkhead::acquire_many_owned`] returns them.
 #[must_use = "permits that are dropped are given back at once"]
 pub struct OwnedPermits(Bundle<Arc<Bulkhead>>);
 
 impl OwnedPermits {
     permits!(OwnedPermits);
 
-    /// Drops the permits without giving them back: they are held for good, and the bulkhead isn't kept for them.
+    /// Drops the permits without giving them back: they count as held for good, but don't keep the bulkhead alive.
     pub fn forget(mut self) {
         let runs = mem::take(&mut self.0.runs);
         self.0.bulkhead.seats.forget_all(&runs);
@@ -302,9 +303,9 @@ fn show(name: &str, count: u32, own: &Bulkhead, f: &mut fmt::Formatter<'_>) -> f
     shown.field("count", &count).field("bulkhead", own).finish()
 }
 
-/// Several permits that are awaited, or why there are none. [`Bulkhead::acquire_many_owned`] makes it.
+/// A future of several permits, or of why there are none. [`Bulkhead::acquire_many_owned`] returns it.
 ///
-/// It may be dropped at any time, as an [`Acquire`](crate::Acquire).
+/// You can drop it at any time, as an [`Acquire`](crate::Acquire).
 #[must_use = "a future that isn't polled does nothing"]
 #[derive(Debug)]
 pub struct AcquireMany {
@@ -313,7 +314,8 @@ pub struct AcquireMany {
 }
 
 impl AcquireMany {
-    /// The same, which doesn't wait where so many calls wait already, threads among them: then it is refused at once, by `Full`.
+    /// Returns the same future with a bound on waiters: if `most` calls already wait, threads included, it is refused at once with
+    /// `Full`.
     pub fn most_waiting(mut self, most: usize) -> AcquireMany {
         self.wait.set_most_waiting(most);
         self
@@ -321,13 +323,13 @@ impl AcquireMany {
 }
 
 impl Future for AcquireMany {
-    /// The permits; or `Closed` where the bulkhead is closed, and else `Full` where it has fewer, in use or not, or where
-    /// [so many wait](AcquireMany::most_waiting) as it is told.
+    /// The permits, or an error. In this order: `Closed` if the bulkhead is closed; `Full` if it has fewer permits, in use or not, or if
+    /// [as many calls already wait](AcquireMany::most_waiting) as may wait.
     type Output = Result<OwnedPermits, NoPermit>;
 
     /// # Panics
     ///
-    /// Where it is polled once more after it was ready.
+    /// If it is polled again after it was ready.
     fn poll(mut self: Pin<&mut Self>, context: &mut Context<'_>) -> Poll<Self::Output> {
         let AcquireMany { wait, count } = &mut *self;
         let permits = wait.poll_many(*count, context.waker());

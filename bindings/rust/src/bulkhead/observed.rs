@@ -1,4 +1,4 @@
-//! What a bulkhead tells its observer, where it has one: who takes a permit and gives it back passes here.
+//! What a bulkhead reports to its observer, if it has one. Every permit that is taken or given back goes through here.
 use super::Bulkhead;
 use super::error::NoPermit;
 use super::runs::Runs;
@@ -8,7 +8,7 @@ use std::mem;
 use std::time::Duration;
 
 impl Bulkhead {
-    /// Takes a permit for a call. By the seat of the thread nobody is asked, since no observed bulkhead has such seats.
+    /// Takes a permit for a call. A permit from the thread's own seat isn't reported, since an observed bulkhead has no such seats.
     #[inline]
     pub(super) fn enter_place(&self) -> Result<Place, NoPermit> {
         if self.is_closed() {
@@ -17,7 +17,7 @@ impl Bulkhead {
         self.seats.acquire_or(|number| self.enter_elsewhere(number))
     }
 
-    // Those without an observer are on their way at once.
+    // The fast exit is for bulkheads without an observer.
     #[cold]
     fn enter_elsewhere(&self, number: usize) -> Result<Place, NoPermit> {
         match &self.observer {
@@ -31,7 +31,7 @@ impl Bulkhead {
         self.tell(watch, self.seats.acquire_observed(number))
     }
 
-    /// Gives the permit of a call back.
+    /// Gives back a call's permit.
     #[inline]
     pub(super) fn give_back(&self, place: Place) {
         match place {
@@ -57,7 +57,7 @@ impl Bulkhead {
             .call_finished(&watch.name, time.unwrap_or_default());
     }
 
-    /// Tells that a call has a permit, or that it is refused.
+    /// Reports that a call has a permit, or that it was refused.
     #[inline]
     pub(super) fn told(&self, acquired: Result<Place, NoPermit>) -> Result<Place, NoPermit> {
         match &self.observer {
@@ -77,12 +77,12 @@ impl Bulkhead {
         }
     }
 
-    /// When a wait begins that is to be told; none where nobody is told.
+    /// The time at which a wait begins that is to be reported. None without an observer.
     pub(super) fn now(&self) -> Option<Duration> {
         self.observer.as_deref().map(Watch::now)
     }
 
-    /// Tells how a wait ended that began then, or that wasn't one.
+    /// Reports how a wait ended. `since` is when it began, or none if there was nothing to wait for.
     pub(super) fn tell_wait(&self, since: Option<Duration>, end: WaitEnd) {
         if let Some(watch) = &self.observer {
             let time = since.map(|since| watch.since(since));
@@ -92,7 +92,7 @@ impl Bulkhead {
         }
     }
 
-    /// Tells how a wait ended, and then that the call has a permit, or that it is refused.
+    /// Reports how a wait ended, and then that the call has a permit or was refused.
     #[inline]
     pub(super) fn told_wait(
         &self,
@@ -112,7 +112,7 @@ impl Bulkhead {
         since: Option<Duration>,
         acquired: Result<Place, WaitEnd>,
     ) -> Result<Place, NoPermit> {
-        // Given back where the observer panics.
+        // Given back if the observer panics.
         let held = acquired.map(|place| Held(self, place));
         self.tell_wait(
             since,
@@ -121,7 +121,7 @@ impl Bulkhead {
         self.tell(watch, held.map(Held::keep).map_err(NoPermit::from))
     }
 
-    /// The same of several permits.
+    /// Like `told_wait`, for several permits.
     pub(super) fn told_wait_all(
         &self,
         since: Option<Duration>,
@@ -135,7 +135,7 @@ impl Bulkhead {
         self.told_all(held.map(HeldAll::keep).map_err(NoPermit::from))
     }
 
-    /// Tells of each permit that a call has it, or that it is refused. The time of all begins at once.
+    /// Reports for each permit that a call has it, or once that the call was refused. All the permits have the same start time.
     pub(super) fn told_all(&self, acquired: Result<Runs, NoPermit>) -> Result<Runs, NoPermit> {
         let Some(watch) = &self.observer else {
             return acquired;
@@ -156,7 +156,7 @@ impl Bulkhead {
         Ok(mem::take(&mut told.1))
     }
 
-    /// Gives the permits of a call back, and tells of each.
+    /// Gives back a call's permits, and reports each.
     pub(super) fn give_back_all(&self, runs: Runs) {
         if runs.count() == 0 {
             return;
@@ -179,14 +179,14 @@ impl Bulkhead {
         }
     }
 
-    /// Tells that a call gave its permit back unused, since it was out of time.
+    /// Reports that a call gave its permit back unused, because it was out of time.
     pub(super) fn tell_time_out(&self) {
         if let Some(watch) = &self.observer {
             watch.observer.call_timed_out(&watch.name);
         }
     }
 
-    // The time of the call begins once the observer is told.
+    // The call's time begins after the observer returns.
     #[inline]
     fn permitted(&self, watch: &Watch, place: Place) -> Place {
         let held = Held(self, place);
@@ -195,7 +195,7 @@ impl Bulkhead {
     }
 }
 
-/// Permits that are given back where what comes before their keeping panics.
+/// Permits that are given back if there is a panic before they are kept.
 pub(super) struct HeldAll<'a>(pub(super) &'a Bulkhead, pub(super) Runs);
 
 impl HeldAll<'_> {
@@ -210,7 +210,7 @@ impl Drop for HeldAll<'_> {
     }
 }
 
-/// The same of permits that the observer was told of, which is told that they are given back.
+/// Like `HeldAll`, for permits that the observer has heard of: it also hears that they are given back.
 struct ToldAll<'a>(&'a Bulkhead, Runs);
 
 impl Drop for ToldAll<'_> {
@@ -219,7 +219,7 @@ impl Drop for ToldAll<'_> {
     }
 }
 
-/// A permit that is given back where what comes before its keeping panics, as an observer or a waker may.
+/// A permit that is given back if there is a panic before it is kept: an observer or a waker may panic.
 pub(super) struct Held<'a>(pub(super) &'a Bulkhead, pub(super) Place);
 
 impl Held<'_> {

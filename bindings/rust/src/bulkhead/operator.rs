@@ -1,7 +1,7 @@
-//! What an operator does: fewer permits in use, and more again.
+//! For operators: taking permits out of use, and putting them back.
 //!
-//! Retired permits are held by the bulkhead itself. What is owed counts among what is wanted, as who waits does; so who gives a permit
-//! back looks, and retires it in place of giving it back or on.
+//! The bulkhead itself holds the retired permits. Owed permits count as wanted, just as waiters do. So a caller that gives a permit back
+//! takes the slow path, which retires the permit instead of releasing it or passing it on.
 use super::Bulkhead;
 use super::row::{Row, wake_all};
 use crate::lock::locked;
@@ -9,9 +9,9 @@ use crate::thread_number;
 use std::sync::atomic::Ordering;
 
 impl Bulkhead {
-    /// Retires as many free permits as there are, at most so many, and says how many. They aren't in use until they are
-    /// raised again. It waits for no permit that is held, and other calls come in between. While tasks wait there may be none for
-    /// long, since a permit that is given back goes from hand to hand: see [`shrink`](Bulkhead::shrink).
+    /// Retires free permits, up to `count`, and returns how many it retired. They aren't in use until they are raised again. It doesn't
+    /// wait for held permits, and other calls may take permits in between. While tasks wait, permits may hardly ever be free, since one
+    /// that is given back passes straight to a waiter: see [`shrink`](Bulkhead::shrink).
     ///
     /// ```
     /// # let backend = resil::Bulkhead::new("backend", 3)?;
@@ -20,7 +20,7 @@ impl Bulkhead {
     /// # Ok::<(), Box<dyn std::error::Error>>(())
     /// ```
     pub fn retire(&self, count: u32) -> u32 {
-        // What is free belongs to what is owed.
+        // Free permits go to owed ones first.
         let one = |row: &mut Row| row.owed == 0 && self.retire_one(row);
         let mut retired = 0;
         while retired < count && one(&mut locked(&self.gate)) {
@@ -29,9 +29,9 @@ impl Bulkhead {
         retired
     }
 
-    /// Takes so many permits out of use, also while others wait: it retires those that are free, says how many, and owes the
-    /// rest, at most as many as are held. A permit that is given back is retired as long as one is owed, before anybody who waits
-    /// has it. One that is [forgotten](crate::OwnedPermit::forget) or leaked never is: see [`write_off`](Bulkhead::write_off).
+    /// Takes `count` permits out of use, even while others wait. It retires the free ones, returns how many those are, and owes the rest,
+    /// up to the number that are held. As long as one is owed, a permit that is given back is retired before any waiter gets it. One that
+    /// is [forgotten](crate::OwnedPermit::forget) or leaked is never retired: see [`write_off`](Bulkhead::write_off).
     ///
     /// ```
     /// # let backend = resil::Bulkhead::new("backend", 3)?;
@@ -45,13 +45,13 @@ impl Bulkhead {
         let mut row = locked(&self.gate);
         let gone = row.retired() + row.owed + row.written_off;
         let owes = count.min(self.max.saturating_sub(gone));
-        // They are owed before one is looked for.
+        // They are owed before the search for a free one begins.
         row.owed += owes;
         self.wanted.fetch_add(owes as usize, Ordering::SeqCst);
         self.pay(&mut row)
     }
 
-    /// How many permits are owed: they are retired as they are given back.
+    /// The number of owed permits: each is retired when it is given back.
     ///
     /// ```
     /// # let backend = resil::Bulkhead::new("backend", 1)?;
@@ -63,14 +63,14 @@ impl Bulkhead {
         locked(&self.gate).owed
     }
 
-    /// Puts at most so many permits back to use, and says how many: first it is no longer [owed](Bulkhead::owed) what was, then
-    /// retired permits are free again, whichever thread has retired them.
+    /// Puts up to `count` permits back into use, and returns how many. It first cancels [owed](Bulkhead::owed) ones, then frees retired
+    /// ones, no matter which thread retired them.
     ///
     /// ```
     /// # let backend = resil::Bulkhead::new("backend", 2)?;
     /// let _permit = backend.enter()?;
     /// assert_eq!((backend.shrink(2), backend.available()), (1, 0));
-    /// // One is owed no longer, and the other one is free.
+    /// // One is no longer owed, and the other is free.
     /// assert_eq!((backend.raise(2), backend.available()), (2, 1));
     /// # Ok::<(), Box<dyn std::error::Error>>(())
     /// ```
@@ -89,9 +89,9 @@ impl Bulkhead {
         cancelled + raised
     }
 
-    /// Writes off permits that are [owed](Bulkhead::owed) and never come back, since they were forgotten or leaked: at most so many,
-    /// and says how many. From here on they are neither owed nor retired, so that [`raise`](Bulkhead::raise) counts those alone that
-    /// it frees, and [`shrink`](Bulkhead::shrink) doesn't owe them again. One that comes back all the same is in use again.
+    /// Writes off [owed](Bulkhead::owed) permits that never come back because they were forgotten or leaked: up to `count` of them, and
+    /// returns how many. From now on they are neither owed nor retired, so [`raise`](Bulkhead::raise) counts only those that it frees,
+    /// and [`shrink`](Bulkhead::shrink) doesn't owe them again. If one does come back, it is in use again.
     ///
     /// ```
     /// # use std::sync::Arc;
@@ -108,19 +108,19 @@ impl Bulkhead {
         gone
     }
 
-    /// How many permits are retired.
+    /// The number of retired permits.
     pub fn retired(&self) -> u32 {
         locked(&self.gate).retired()
     }
 
-    // Retires a free permit, and says whether there was one. It is kept by a spare pass, so that no thread's seat is taken.
+    // Retires a free permit, and returns whether there was one. A spare pass keeps it, so that no thread loses its seat.
     fn retire_one(&self, row: &mut Row) -> bool {
         let taken = self.seats.acquire_spare(thread_number::current());
         row.retired.extend(taken);
         taken.is_ok()
     }
 
-    /// Owes so many permits less, at most as many as are owed, and says how many.
+    /// Cancels up to `count` owed permits, and returns how many.
     pub(super) fn cancel(&self, row: &mut Row, count: u32) -> u32 {
         let cancelled = count.min(row.owed);
         row.owed -= cancelled;
@@ -128,7 +128,7 @@ impl Bulkhead {
         cancelled
     }
 
-    /// Retires free permits for those that are owed, and says how many.
+    /// Retires free permits to pay for owed ones, and returns how many.
     pub(super) fn pay(&self, row: &mut Row) -> u32 {
         let mut paid = 0;
         while row.owed > 0 && self.retire_one(row) {

@@ -1,10 +1,10 @@
-//! Permits of a bulkhead.
+//! Single permits of a bulkhead.
 use super::Bulkhead;
 use super::seats::Place;
 use std::fmt;
 use std::sync::Arc;
 
-/// A permit of a [`Bulkhead`], given back when it is dropped. It may go to another thread.
+/// A permit of a [`Bulkhead`], given back when it is dropped. It can move to another thread.
 #[must_use = "a permit that is dropped is given back at once"]
 pub struct Permit<'a> {
     bulkhead: &'a Bulkhead,
@@ -31,11 +31,11 @@ impl fmt::Debug for Permit<'_> {
     }
 }
 
-/// A permit that keeps its [`Bulkhead`], given back when it is dropped. It goes into a thread, a future or a service.
+/// A permit that keeps its [`Bulkhead`] alive, given back when it is dropped. It can move into a thread, a future or a service.
 #[must_use = "a permit that is dropped is given back at once"]
 pub struct OwnedPermit {
     bulkhead: Arc<Bulkhead>,
-    // None once it is forgotten.
+    // None after `forget`.
     place: Option<Place>,
 }
 
@@ -48,7 +48,8 @@ impl OwnedPermit {
         }
     }
 
-    /// Gives the permit back, and tells the bulkhead's observer that its call timed out before it was made. For the crate resil-tower.
+    /// Gives the permit back, and reports to the bulkhead's observer that its call timed out before it was made. For the crate
+    /// resil-tower.
     #[doc(hidden)]
     pub fn time_out(self) {
         let bulkhead = Arc::clone(&self.bulkhead);
@@ -56,7 +57,7 @@ impl OwnedPermit {
         bulkhead.tell_time_out();
     }
 
-    /// Drops the permit without giving it back: it is held for good, and the bulkhead isn't kept for it.
+    /// Drops the permit without giving it back: it counts as held for good, but doesn't keep the bulkhead alive.
     pub fn forget(mut self) {
         if let Some(place) = self.place.take() {
             self.bulkhead.seats.forget(place);

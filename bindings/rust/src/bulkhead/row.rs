@@ -1,14 +1,14 @@
-//! Who waits for a permit: tasks, which stand in a row, and threads, which sleep.
+//! The callers that wait for a permit: tasks, in a queue, and sleeping threads.
 //!
-//! Who gives a permit back looks whether anybody waits, and passes it on to the first task of the row; so a task that is
-//! dropped gives it back. Or it wakes a thread, by turns, which then tries for itself. Where nobody waited it looks again once the
-//! permit is free, and takes one for a task that has come meanwhile. A thread that leaves hands on what else is free, since more
-//! than one permit may have been meant for it.
+//! A caller that gives a permit back checks whether anyone waits. If so, it passes the permit to the first task in the queue (and a task
+//! that is dropped gives it back), or it wakes a thread, which then tries for itself; tasks and threads take turns. If nobody waited, it
+//! checks again once the permit is free, and takes one for a task that has come meanwhile. A thread that leaves hands on whatever else is
+//! free, since it may have been woken for more than one permit.
 //!
-//! Who waits for several has one place in the row. While it is the first there it gathers what is given back, and what is free, but a
-//! [slice](SLICE) of it at a time, so that the gate is held for some microseconds however many it wants: then it is woken, and goes on
-//! by its own polls. Meanwhile its waker isn't there, and nobody else takes what is free for it. So it hands on to those behind it once
-//! it has all or leaves.
+//! A call for several permits has one place in the queue. While it is first, it gathers what is given back and what is free. It takes at
+//! most a [slice](SLICE) at a time, so that the gate is held for a few microseconds regardless of how many it wants; after a full slice
+//! it is woken, and continues in its own polls. Meanwhile it has no waker, and nobody else takes free permits for it. So it hands on to
+//! those after it once it has all, or when it leaves.
 use super::Bulkhead;
 use super::observed::HeldAll;
 use super::runs::{Run, Runs};
@@ -24,37 +24,37 @@ use std::sync::MutexGuard;
 use std::sync::atomic::Ordering;
 use std::task::Waker;
 
-/// How many permits are taken or given back under a lock at a time.
+/// How many permits are taken or given back at a time under a lock.
 pub(super) const SLICE: u32 = 256;
 
-/// What the gate's lock keeps.
+/// The state under the gate's lock.
 #[derive(Default)]
 pub(super) struct Row {
-    // By their tickets, so in the order in which they came: who waits for permits, and what was given to whom, which is to be fetched.
+    // By ticket, so in order of arrival: who waits for permits, and what was given to whom and not fetched yet.
     waiting: Tickets<Waiting>,
     given: BTreeMap<u64, Given>,
     tickets: u64,
-    /// The permits that are retired, each where it was held or taken. A thread whose seat has one goes by a spare pass meanwhile.
+    /// The retired permits, each at the place where it was held or taken. A thread whose seat holds one uses a spare pass meanwhile.
     pub(super) retired: Vec<Place>,
-    /// How many are to be retired as they are given back. They count among what is wanted.
+    /// How many permits are still to be retired when they are given back. They count as wanted.
     pub(super) owed: u32,
-    /// How many were owed, and never come back.
+    /// How many were owed and never come back.
     pub(super) written_off: u32,
     /// How many threads wait.
     pub(super) threads: usize,
-    // Whether it is a thread's turn where tasks wait too.
+    // Whether it is a thread's turn if tasks wait too.
     is_threads_turn: bool,
 }
 
-/// A task in the row.
+/// A task in the queue.
 pub(super) struct Waiting {
-    // None while it goes on gathering by its own polls.
+    // None while it continues gathering in its own polls.
     waker: Option<Waker>,
-    // Of one that waits for several.
+    // Set if it waits for several.
     many: Option<Box<Gathered>>,
 }
 
-/// What one that waits for several has so far.
+/// What a call for several permits has so far.
 struct Gathered {
     missing: u32,
     runs: Runs,
@@ -67,14 +67,14 @@ impl Gathered {
     }
 }
 
-/// What was given to a task.
+/// What a task was given.
 pub(super) enum Given {
     One(Place),
     Many(Runs),
 }
 
 impl Given {
-    /// The permit of one that waits for one.
+    /// The permit of a task that waits for one.
     pub(super) fn one(self) -> Option<Place> {
         match self {
             Given::One(place) => Some(place),
@@ -82,7 +82,7 @@ impl Given {
         }
     }
 
-    /// All of them.
+    /// All the permits given.
     pub(super) fn all(self) -> Runs {
         match self {
             Given::Many(runs) => runs,
@@ -96,7 +96,7 @@ impl Given {
 }
 
 impl Row {
-    // Has a task stand at the end, and gives its ticket.
+    // Puts a task at the end of the queue, and returns its ticket.
     fn push(&mut self, count: u32, waker: Waker) -> u64 {
         self.tickets += 1;
         let gathered = || {
@@ -113,23 +113,23 @@ impl Row {
         self.tickets
     }
 
-    /// How many permits are retired.
+    /// The number of retired permits.
     pub(super) fn retired(&self) -> u32 {
         u32::try_from(self.retired.len()).unwrap_or(u32::MAX)
     }
 
-    /// Has all leave who wait: a ticket that isn't there is of a closed bulkhead.
+    /// Removes all waiters: a ticket that isn't found belongs to a closed bulkhead.
     pub(super) fn dismiss(&mut self) -> Vec<Waiting> {
         mem::take(&mut self.waiting).into_values().collect()
     }
 }
 
-/// Wakes all of them, also where a waker panics, and so does this then.
+/// Wakes all of them, even if a waker panics; then it panics itself.
 pub(super) fn wake_all(wakers: impl IntoIterator<Item = Waker>) {
     let mut panicked = None;
     for waker in wakers {
         if let Err(payload) = catch_unwind(AssertUnwindSafe(|| waker.wake())) {
-            // The drop of a payload may panic again.
+            // Dropping a payload may panic again.
             mem::forget(panicked.replace(payload));
         }
     }
@@ -139,19 +139,19 @@ pub(super) fn wake_all(wakers: impl IntoIterator<Item = Waker>) {
 }
 
 impl Bulkhead {
-    /// Gives a permit back while some are wanted.
+    /// Gives back a permit while some are wanted.
     #[cold]
     pub(super) fn release_wanted(&self, place: Place) {
         wake_all(self.put_back(place));
     }
 
-    /// Sees to the next who waits, as a permit was given back.
+    /// Serves the next waiter after a permit was given back.
     #[cold]
     pub(super) fn wake(&self) {
         wake_all(self.see_to_next());
     }
 
-    // Gives a permit back while some are wanted, and gives what wakes the task that has it then.
+    // Gives back a permit while some are wanted, and returns the waker of the task that gets it.
     fn put_back(&self, place: Place) -> Option<Waker> {
         match self.pass_on(place) {
             Ok(waker) => waker,
@@ -163,7 +163,7 @@ impl Bulkhead {
         }
     }
 
-    // Gives what wakes the next who waits, where it is a task's turn. One that waits has the gate from its try to its sleep.
+    // Returns the waker of the next waiter if it is a task's turn. A waiting thread holds the gate from its try to its sleep.
     fn see_to_next(&self) -> Option<Waker> {
         let mut row = locked(&self.gate);
         self.pay(&mut row);
@@ -177,8 +177,8 @@ impl Bulkhead {
         self.hand_on(&mut row)
     }
 
-    // Retires a permit where one is owed, or passes it on to the first task, where it is one's turn, and gives what wakes that; else it
-    // gives the permit.
+    // Retires a permit if one is owed, or passes it to the first task if it is a task's turn, and returns that task's waker. Otherwise it
+    // returns the permit.
     fn pass_on(&self, place: Place) -> Result<Option<Waker>, Place> {
         let mut row = locked(&self.gate);
         if row.owed > 0 {
@@ -193,12 +193,12 @@ impl Bulkhead {
         Ok(self.give(&mut row, Run { place, count: 1 }))
     }
 
-    /// Gives permits back, all of them, and then wakes who has them.
+    /// Gives back all these permits, and then wakes the tasks that got them.
     pub(super) fn put_back_all(&self, mut runs: Runs) {
         let mut wakers = Vec::new();
         while let Some(run) = runs.pop(SLICE) {
             if self.wanted.load(Ordering::SeqCst) > 0 {
-                // Each goes its own way.
+                // Each is passed on separately.
                 let one = |_| self.put_back(run.place);
                 wakers.extend((0..run.count).filter_map(one));
                 continue;
@@ -212,8 +212,7 @@ impl Bulkhead {
         wake_all(wakers);
     }
 
-    /// Takes permits that are free for the first task, and gives what wakes it: once it has all that it waits for, or where it is to go
-    /// on by itself.
+    /// Takes free permits for the first task. Returns its waker once it has all it waits for, or when it is to continue by itself.
     pub(super) fn hand_on(&self, row: &mut Row) -> Option<Waker> {
         self.pay(row);
         let (_, first) = row.waiting.first_mut()?;
@@ -234,17 +233,17 @@ impl Bulkhead {
         waker
     }
 
-    /// Hands on what is free to those tasks that it is enough for.
+    /// Hands on free permits to as many tasks as they are enough for.
     pub(super) fn hand_on_all(&self, row: &mut Row) -> Vec<Waker> {
         iter::from_fn(|| self.hand_on(row)).collect()
     }
 
-    /// How many threads and tasks wait.
+    /// The number of waiting threads and tasks.
     pub(super) fn waiting(&self, row: &Row) -> usize {
         self.wanted.load(Ordering::SeqCst) - row.owed as usize
     }
 
-    // Gives permits to the first task, not more than it waits for, and gives what wakes it where it has all.
+    // Gives permits to the first task, at most as many as it waits for, and returns its waker if it has all.
     fn give(&self, row: &mut Row, run: Run) -> Option<Waker> {
         let (_, first) = row.waiting.first_mut()?;
         if let Some(many) = &mut first.many {
@@ -263,8 +262,8 @@ impl Bulkhead {
         first.waker
     }
 
-    /// Has a task stand in the row for so many permits, at least one, unless too many do, and gives these where it has all, as the first
-    /// may. Nobody overtakes the tasks that stand there.
+    /// Queues a task for `count` permits (at least one), unless too many wait, and returns the permits if it has them all already, as the
+    /// first in the queue may. Nobody overtakes queued tasks.
     pub(super) fn stand(
         &self,
         ticket: &mut Option<u64>,
@@ -272,7 +271,7 @@ impl Bulkhead {
         waker: &Waker,
         most_waiting: usize,
     ) -> Result<Option<Given>, WaitEnd> {
-        // Wakers are made and dropped outside of the lock.
+        // Wakers are made and dropped outside the lock.
         let waker = waker.clone();
         let mut row = locked(&self.gate);
         if self.is_closed() {
@@ -302,9 +301,9 @@ impl Bulkhead {
         Ok(None)
     }
 
-    /// Fetches what was given to a task, all that it waits for; else this waker wakes it from here on.
+    /// Fetches everything that a task waits for, once it was given. Otherwise `waker` is the one to wake from now on.
     pub(super) fn fetch(&self, ticket: u64, waker: &Waker) -> Result<Option<Given>, WaitEnd> {
-        // As above.
+        // As in `stand`.
         let mut new = None;
         loop {
             let mut row = locked(&self.gate);
@@ -330,7 +329,7 @@ impl Bulkhead {
         }
     }
 
-    // Gathers more for the first task, which does so by itself, and gives all once it has all. What is left is for those behind it.
+    // Gathers more for the first task, which calls this itself, and returns all once it has all. What is left goes to those after it.
     fn go_on(&self, mut row: MutexGuard<'_, Row>, ticket: u64) -> Option<Given> {
         let own = self.hand_on(&mut row);
         let given = row.given.remove(&ticket);
@@ -341,13 +340,13 @@ impl Bulkhead {
         };
         let behind = self.hand_on_all(&mut row);
         drop(row);
-        // Given back where a waker panics.
+        // Given back if a waker panics.
         let held = HeldAll(self, given.all());
         wake_all(behind);
         Some(Given::Many(held.keep()))
     }
 
-    /// Leaves the row, and gives back what was given to this ticket.
+    /// Leaves the queue, and gives back what this ticket was given.
     pub(super) fn leave(&self, ticket: u64) {
         let mut row = locked(&self.gate);
         let gone = row.waiting.remove(ticket);
@@ -362,13 +361,13 @@ impl Bulkhead {
         }
         if let Some(many) = gone.and_then(|gone| gone.many) {
             self.put_back_all(many.runs);
-            // It may have left what is free.
+            // It may have left permits free for others.
             let woken = self.hand_on_all(&mut locked(&self.gate));
             wake_all(woken);
         }
     }
 
-    /// Dismisses all who wait for permits of a bulkhead that is closed: gives back what they have gathered, and wakes them.
+    /// Dismisses the waiters of a closed bulkhead: gives back what they have gathered, and wakes them.
     pub(super) fn dismiss(&self, dismissed: Vec<Waiting>) {
         let mut wakers = Vec::new();
         for Waiting { waker, many } in dismissed {

@@ -1,14 +1,14 @@
 //! Permits that are held together.
 use super::seats::Place;
 
-/// So many permits at one place.
+/// `count` permits held at one place.
 #[derive(Clone, Copy)]
 pub(super) struct Run {
     pub(super) place: Place,
     pub(super) count: u32,
 }
 
-/// Permits that are held together: so many at each place. Those that one thread takes at once are one run, however many.
+/// Permits that are held together: a count for each place. Those that one thread takes at once form one run, however many they are.
 #[derive(Default)]
 pub(super) struct Runs {
     runs: Vec<Run>,
@@ -28,7 +28,7 @@ impl Runs {
         }
     }
 
-    /// At most so many of those that came last.
+    /// Takes up to `most` of the permits that were added last.
     pub(super) fn pop(&mut self, most: u32) -> Option<Run> {
         let last = self.runs.last_mut()?;
         let count = last.count.min(most);
@@ -41,7 +41,7 @@ impl Runs {
         Some(Run { place, count })
     }
 
-    /// Parts with so many, at most as many as there are.
+    /// Splits off `count` permits, or all if there are fewer.
     pub(super) fn split(&mut self, count: u32) -> Runs {
         let mut parts = Runs::default();
         while parts.count < count {
@@ -61,7 +61,7 @@ impl Runs {
         self.runs.iter().copied()
     }
 
-    /// The same permits, at what this makes of their places.
+    /// The same permits, with each place replaced by what this function returns for it.
     pub(super) fn map(mut self, place: impl Fn(Place) -> Place) -> Runs {
         for run in &mut self.runs {
             run.place = place(run.place);

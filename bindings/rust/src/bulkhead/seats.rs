@@ -1,11 +1,10 @@
-//! The passes of a bulkhead, and which of them takes a permit.
+//! A bulkhead's passes, and which of them takes a permit.
 //!
-//! The library's passes serve one call at a time. The thread of a number has the seat of this number, and its pass for
-//! as long as its permit is held, without a lock. Where the seat is taken, as by a call inside a call or by a permit
-//! that went elsewhere, and where there is none for the thread, a pass behind a lock serves, for one step on the
-//! permits.
+//! The library's passes serve one call at a time. Each thread with a low number has the seat of that number, and uses its pass without a
+//! lock for as long as its permit is held. If the seat is taken (by a call inside a call, or by a permit that went elsewhere), or if the
+//! thread has none, a pass with a lock serves instead, for a single operation on the permits.
 //!
-//! An observed bulkhead has its seats apart, so that one that isn't observed doesn't ask whether it is.
+//! An observed bulkhead keeps its seats separately, so that one that isn't observed needn't check.
 use super::error::{BulkheadError, NoPermit};
 use super::runs::{Run, Runs};
 use crate::lock::locked;
@@ -17,20 +16,20 @@ use std::sync::atomic::{AtomicBool, Ordering};
 use std::sync::{Mutex, MutexGuard};
 use std::time::Duration;
 
-// On cache lines of its own, since each step writes to it.
+// On its own cache lines, since each operation writes to it.
 #[repr(align(128))]
 struct Seat {
     taken: AtomicBool,
     pass: UnsafeCell<Pass>,
 }
 
-// SAFETY: a pass may go to another thread, and only one thread at a time reaches that of a seat. No two threads that
-// live have the same number, so only one turns `taken` from false to true, and it reaches the pass then. From there on
-// whoever gives the permit back does, and turns `taken` to false behind it, which the thread of the seat sees before it
-// turns it again. The next thread of a number comes after all that the last one did, by the lock of the numbers.
+// SAFETY: a pass may move to another thread, and only one thread at a time accesses that of a seat. No two live threads have the same
+// number, so only one sets `taken` from false to true, and then it accesses the pass. After that, the thread that gives the permit back
+// does, and then sets `taken` to false; the seat's thread sees this before it sets it again. The next thread with a number comes after
+// everything that the last one did, by the lock of the numbers.
 unsafe impl Sync for Seat {}
 
-// A call that panics gives its permit back as any other.
+// A call that panics gives its permit back like any other.
 impl RefUnwindSafe for Seat {}
 
 impl Seat {
@@ -41,7 +40,7 @@ impl Seat {
         })
     }
 
-    // Takes the seat of this thread, and says whether it was free.
+    // Takes this thread's seat, and returns whether it was free.
     #[inline]
     fn take(&self) -> bool {
         let free = !self.taken.load(Ordering::Acquire);
@@ -56,7 +55,7 @@ impl Seat {
     // SAFETY: this thread has taken the seat.
     #[inline]
     unsafe fn acquire(&self) -> Result<(), NoPermit> {
-        // SAFETY: as is asked of the caller.
+        // SAFETY: required of the caller.
         match unsafe { (*self.pass.get()).acquire() } {
             Ok(()) => Ok(()),
             Err(full) => {
@@ -66,12 +65,12 @@ impl Seat {
         }
     }
 
-    // Does this with the permit that is held here, and frees the seat.
+    // Applies this function to the permit that is held here, and frees the seat.
     //
     // SAFETY: the seat was taken for a permit, which is given up by this call.
     #[inline]
     unsafe fn give_up(&self, permit: impl FnOnce(&mut Pass) -> bool) -> bool {
-        // SAFETY: as is asked of the caller.
+        // SAFETY: required of the caller.
         let had = permit(unsafe { &mut *self.pass.get() });
         self.taken.store(false, Ordering::Release);
         had
@@ -86,7 +85,7 @@ pub(super) enum Place {
 }
 
 impl Place {
-    /// The same place, with this time where it has room for it and times are wanted.
+    /// The same place, with this time if it has room for one and times are wanted.
     pub(super) fn at(self, now: Option<u64>) -> Place {
         match (self, now) {
             (Place::Elsewhere(stamp), Some(now)) => Place::Elsewhere(stamp.at(now)),
@@ -94,7 +93,7 @@ impl Place {
         }
     }
 
-    /// How long before this time the permit was taken, where that is known.
+    /// How long before this time the permit was taken; zero if that isn't known.
     pub(super) fn until(self, now: u64) -> Duration {
         match self {
             Place::Elsewhere(stamp) => stamp.until(now),
@@ -103,7 +102,7 @@ impl Place {
     }
 }
 
-/// A seat of an observed bulkhead or, by the numbers behind those, a spare pass; and when the permit was taken, of an observed one.
+/// A seat of an observed bulkhead, or a spare pass (numbered after the seats). In an observed bulkhead, also when the permit was taken.
 #[derive(Debug, Clone, Copy, PartialEq, Eq)]
 pub(super) struct Stamp(u64);
 
@@ -118,12 +117,12 @@ impl Stamp {
         (self.0 & ((1 << Stamp::PLACE_BITS) - 1)) as usize
     }
 
-    /// The same place, with a time since the making of the bulkhead in nanoseconds, of which it keeps 56 bits: two years.
+    /// The same place, with a time in nanoseconds since the bulkhead was made. It keeps 56 bits of it: two years.
     pub(super) fn at(self, time: u64) -> Stamp {
         Stamp((time << Stamp::PLACE_BITS) | self.place() as u64)
     }
 
-    /// How long before this time it was.
+    /// How long before `time` the stamp's time was.
     pub(super) fn until(self, time: u64) -> Duration {
         let begun = self.0 - self.place() as u64;
         let passed = (time << Stamp::PLACE_BITS).wrapping_sub(begun);
@@ -131,18 +130,18 @@ impl Stamp {
     }
 }
 
-// On a cache line of its own.
+// On its own cache line.
 #[repr(align(64))]
 struct Spare(Mutex<Pass>);
 
 pub(super) struct Seats {
-    // None in an observed bulkhead, which has the others.
+    // Empty in an observed bulkhead, which has the others.
     plain: Box<[Seat]>,
     observed: Box<[Seat]>,
     spare: Box<[Spare]>,
 }
 
-// So many, each made of a pass. Only the room for them may be missing here.
+// Makes this many, each with a pass. Only the allocation can fail here.
 fn made<T>(
     count: usize,
     mut make: impl FnMut() -> Result<T, BulkheadError>,
@@ -157,7 +156,7 @@ fn made<T>(
 }
 
 impl Seats {
-    /// Seats and spare passes for these permits.
+    /// Makes seats and spare passes for these permits.
     pub(super) fn new(first: &mut Pass) -> Result<Seats, BulkheadError> {
         let count = thread_number::places();
         let seats = made(count, || Seat::new(first))?;
@@ -169,7 +168,7 @@ impl Seats {
         })
     }
 
-    /// The same for an observed bulkhead.
+    /// The same seats for an observed bulkhead.
     pub(super) fn observed(self) -> Seats {
         Seats {
             observed: self.plain,
@@ -178,14 +177,14 @@ impl Seats {
         }
     }
 
-    /// Takes a permit, and says where it is held.
+    /// Takes a permit, and returns where it is held.
     #[inline]
     pub(super) fn acquire(&self) -> Result<Place, NoPermit> {
         self.acquire_or(|number| self.acquire_elsewhere(number))
     }
 
-    /// The same, but by this function, which is given the thread's number, where the bulkhead is observed, and where the
-    /// thread's seat isn't free or isn't there.
+    /// Like `acquire`, but calls this function with the thread's number if the bulkhead is observed, or if the thread's seat is taken or
+    /// missing.
     #[inline]
     pub(super) fn acquire_or(
         &self,
@@ -207,7 +206,7 @@ impl Seats {
         self.acquire_observed(number)
     }
 
-    /// Takes a permit by a seat of an observed bulkhead, or else by a spare pass.
+    /// Takes a permit through a seat of an observed bulkhead, or else a spare pass.
     #[inline]
     pub(super) fn acquire_observed(&self, number: usize) -> Result<Place, NoPermit> {
         match self.observed.get(number) {
@@ -220,7 +219,7 @@ impl Seats {
         }
     }
 
-    /// Takes a permit by a spare pass.
+    /// Takes a permit through a spare pass.
     #[inline]
     pub(super) fn acquire_spare(&self, number: usize) -> Result<Place, NoPermit> {
         let index = number % self.spare.len();
@@ -228,7 +227,7 @@ impl Seats {
         Ok(Place::Elsewhere(Stamp::new(MOST_PLACES + index)))
     }
 
-    /// Takes at most so many permits by a spare pass, under its lock, as long as there is one; at least one.
+    /// Takes up to `most` permits, while there are any, through a spare pass under its lock. None if there isn't even one.
     pub(super) fn acquire_run(&self, most: u32) -> Option<Run> {
         let index = thread_number::current() % self.spare.len();
         let mut pass = self.spare(index);
@@ -238,7 +237,7 @@ impl Seats {
         Some(Run { place, count })
     }
 
-    /// Gives the permits of a run back, as one, but at once.
+    /// Gives back the permits of a run under one lock.
     pub(super) fn release_run(&self, run: Run) {
         let stamp = match run.place {
             Place::Elsewhere(stamp) => stamp.place().checked_sub(MOST_PLACES),
@@ -255,20 +254,20 @@ impl Seats {
         }
     }
 
-    /// Gives a permit back. It was acquired, and is given back once.
+    /// Gives a permit back. It must have been acquired, and is given back only once.
     #[inline]
     pub(super) fn release(&self, place: Place) {
         let given = self.give_up(place, Pass::release);
         debug_assert!(given);
     }
 
-    /// Keeps a permit back for good. It was acquired, and isn't given back.
+    /// Keeps a permit for good. It must have been acquired, and is never given back.
     pub(super) fn forget(&self, place: Place) {
         let had = self.give_up(place, Pass::keep_back);
         debug_assert!(had);
     }
 
-    /// Keeps permits back for good.
+    /// Keeps permits for good.
     pub(super) fn forget_all(&self, runs: &Runs) {
         for run in runs.iter() {
             (0..run.count).for_each(|_| self.forget(run.place));
@@ -281,7 +280,7 @@ impl Seats {
             // SAFETY: the seat was taken for this permit, which is given up once.
             Place::Seat(index) => unsafe { self.plain[index].give_up(permit) },
             Place::Elsewhere(stamp) => match stamp.place().checked_sub(MOST_PLACES) {
-                // SAFETY: so here.
+                // SAFETY: as above.
                 None => unsafe { self.observed[stamp.place()].give_up(permit) },
                 Some(index) => permit(&mut self.spare(index)),
             },

@@ -1,12 +1,12 @@
-//! What is kept by tickets.
+//! A map ordered by ticket.
 use std::collections::VecDeque;
 
-/// Values in the order of their tickets, of which any may be taken out.
+/// Values in the order of their tickets. Any of them can be removed.
 ///
-/// What is taken out of the middle leaves a gap. Once gaps are most of it they are closed, so that a removal takes as long however many
-/// there are, but for a search; and the memory of what is gone comes back.
+/// A removal from the middle leaves a gap. Once most entries are gaps, they are closed. So a removal takes the same time however many
+/// entries there are, apart from the search, and the memory of removed entries is released.
 pub(super) struct Tickets<T> {
-    // None in a gap. The first isn't one.
+    // None in a gap. The first entry is never a gap.
     entries: VecDeque<(u64, Option<T>)>,
     gaps: usize,
 }
@@ -21,14 +21,14 @@ impl<T> Default for Tickets<T> {
 }
 
 impl<T> Tickets<T> {
-    // Few values keep their memory.
+    // At or below this capacity the memory is kept.
     const FEW: usize = 64;
 
     pub(super) fn is_empty(&self) -> bool {
         self.entries.is_empty()
     }
 
-    /// The ticket is above all that are there.
+    /// The ticket must be above all those present.
     pub(super) fn push(&mut self, ticket: u64, value: T) {
         self.entries.push_back((ticket, Some(value)));
     }

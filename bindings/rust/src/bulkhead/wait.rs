@@ -14,13 +14,13 @@ use std::sync::atomic::Ordering;
 use std::task::{Context, Poll, Waker};
 use std::time::Duration;
 
-/// A call that waits for permits of a bulkhead, which it has by a reference or in an `Arc`. Dropped, it leaves the row.
+/// A call that waits for permits of a bulkhead, which it has by reference or in an `Arc`. Dropping it leaves the queue.
 pub(super) struct Wait<B: Deref<Target = Bulkhead>> {
-    // None once it is over.
+    // None after it is over.
     bulkhead: Option<B>,
-    // Its place in the row: none before the first poll, and once it is over.
+    // Its place in the queue: none before the first poll, and after it is over.
     ticket: Option<u64>,
-    // Since when it waits: none before, and where no observer is told.
+    // When the wait began: none before that, and without an observer.
     since: Option<Duration>,
     most_waiting: usize,
 }
@@ -36,16 +36,16 @@ impl<B: Deref<Target = Bulkhead>> Wait<B> {
         }
     }
 
-    /// It doesn't wait where so many do already.
+    /// Makes the call not wait if this many already do.
     pub(super) fn set_most_waiting(&mut self, most: usize) {
         self.most_waiting = most;
     }
 
-    /// One permit.
+    /// Polls for one permit.
     #[inline]
     pub(super) fn poll_one(&mut self, waker: &Waker) -> Poll<Result<(B, Place), NoPermit>> {
         let own = self.bulkhead.as_deref();
-        let own = own.expect("a permit was awaited after it was there");
+        let own = own.expect("a permit's future was polled after completion");
         let asked = match self.ticket {
             None => own.ask_one(&mut self.ticket, waker, self.most_waiting),
             Some(ticket) => own.fetch_one(ticket, waker),
@@ -56,18 +56,18 @@ impl<B: Deref<Target = Bulkhead>> Wait<B> {
         };
         self.ticket = None;
         let place = own.told_wait(self.since, asked);
-        let own = self.bulkhead.take().expect("it is there until here");
+        let own = self.bulkhead.take().expect("it is set until here");
         Poll::Ready(place.map(|place| (own, place)))
     }
 
-    /// So many permits.
+    /// Polls for `count` permits.
     pub(super) fn poll_many(
         &mut self,
         count: u32,
         waker: &Waker,
     ) -> Poll<Result<(B, Runs), NoPermit>> {
         let own = self.bulkhead.as_deref();
-        let own = own.expect("permits were awaited after they were there");
+        let own = own.expect("a future of permits was polled after completion");
         let asked = match self.ticket {
             None => own.ask_many(&mut self.ticket, count, waker, self.most_waiting),
             Some(ticket) => own.fetch(ticket, waker),
@@ -78,11 +78,11 @@ impl<B: Deref<Target = Bulkhead>> Wait<B> {
         };
         self.ticket = None;
         let runs = own.told_wait_all(self.since, asked.map(Given::all));
-        let own = self.bulkhead.take().expect("it is there until here");
+        let own = self.bulkhead.take().expect("it is set until here");
         Poll::Ready(runs.map(|runs| (own, runs)))
     }
 
-    /// Leaves the row, and tells that the wait timed out. A poll after it panics.
+    /// Leaves the queue, and reports that the wait timed out. Polling it after that panics.
     pub(super) fn give_up(&mut self) -> NoPermit {
         if let Some(own) = self.bulkhead.take() {
             if let Some(ticket) = self.ticket.take() {
@@ -105,7 +105,7 @@ impl<B: Deref<Target = Bulkhead>> Drop for Wait<B> {
 }
 
 impl Bulkhead {
-    // Takes a permit where nobody waits, or has a task stand in the row.
+    // Takes a permit if nobody waits, or queues the task.
     #[inline]
     fn ask_one(
         &self,
@@ -130,9 +130,9 @@ impl Bulkhead {
     }
 }
 
-/// A permit that is awaited, or why there is none. [`Bulkhead::acquire_owned`] makes it.
+/// A future of a permit, or of why there is none. [`Bulkhead::acquire_owned`] returns it.
 ///
-/// It may be dropped at any time: it leaves the row, and a permit that it was given goes to the next.
+/// You can drop it at any time: it leaves the queue, and if it had been given a permit, that goes to the next waiter.
 #[must_use = "a future that isn't polled does nothing"]
 pub struct Acquire(Wait<Arc<Bulkhead>>);
 
@@ -142,7 +142,8 @@ impl Acquire {
         Acquire(Wait::new(bulkhead))
     }
 
-    /// The same, which doesn't wait where so many calls wait already, threads among them: then it is refused at once, by `Full`.
+    /// Returns the same future with a bound on waiters: if `most` calls already wait, threads included, it is refused at once with
+    /// `Full`.
     ///
     /// ```
     /// # use resil::{Bulkhead, NoPermit};
@@ -157,9 +158,9 @@ impl Acquire {
         self
     }
 
-    /// Leaves the row as a drop does, and tells the bulkhead's observer that the wait timed out. For the crate resil-tower.
+    /// Leaves the queue as a drop does, and reports to the bulkhead's observer that the wait timed out. For the crate resil-tower.
     ///
-    /// A poll after it panics.
+    /// Polling it after that panics.
     #[doc(hidden)]
     pub fn give_up(&mut self) -> NoPermit {
         self.0.give_up()
@@ -171,7 +172,7 @@ impl Future for Acquire {
 
     /// # Panics
     ///
-    /// Where it is polled once more after it was ready.
+    /// If it is polled again after it was ready.
     #[inline]
     fn poll(mut self: Pin<&mut Self>, context: &mut Context<'_>) -> Poll<Self::Output> {
         let permit = self.0.poll_one(context.waker());

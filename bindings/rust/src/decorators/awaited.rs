@@ -1,4 +1,4 @@
-//! A function that gives futures, with layers around it.
+//! A function that returns futures, with layers around it.
 use super::Decorators;
 use super::layer::{Function, OrElse, Retried, Sealed};
 use crate::bulkhead::Bulkhead;
@@ -10,14 +10,14 @@ use std::time::Duration;
 
 type Answer<L, A> = Result<<L as AsyncLayer<A>>::Value, CallError<<L as AsyncLayer<A>>::Error>>;
 
-/// What a chain of [`AsyncDecorators`] has inside, as [`Layer`](crate::Layer) of others.
+/// What a chain of [`AsyncDecorators`] contains, as [`Layer`](crate::Layer) is for the others.
 #[diagnostic::on_unimplemented(
-    message = "an async chain goes round a function that gives a future of a `Result`, with one argument or none"
+    message = "an async chain needs a function that returns a future of a `Result` and takes one argument or none"
 )]
 pub trait AsyncLayer<Arguments = ()>: Sealed {
-    /// What a call gives.
+    /// The value that a call returns.
     type Value;
-    /// The error of the function.
+    /// The function's error.
     type Error;
 
     #[doc(hidden)]
@@ -28,10 +28,10 @@ pub trait AsyncLayer<Arguments = ()>: Sealed {
     ) -> impl Future<Output = Answer<Self, Arguments>>;
 }
 
-/// A function that gives futures, with layers around it, innermost first. [`Decorators::of_async`] makes it.
+/// A function that returns futures, with layers around it, innermost first. Made by [`Decorators::of_async`].
 ///
-/// It is kept, and called by reference, by many tasks at once; so are its function and its fallbacks. All that is under way is dropped
-/// with the future of a call.
+/// The chain is kept and called by reference, from many tasks at once; so are its function and its fallbacks. Dropping the future of a
+/// call drops everything that the call has in progress.
 #[must_use = "nothing is called before `call_async`"]
 pub struct AsyncDecorators<L, Arguments = ()> {
     layers: L,
@@ -39,7 +39,8 @@ pub struct AsyncDecorators<L, Arguments = ()> {
 }
 
 impl<F> Decorators<Function<F>> {
-    /// The function alone, which gives futures and takes no argument, or one. Their errors are [`CallError::Failed`].
+    /// Starts a chain with the function alone, which returns futures and takes one argument or none. Its errors become
+    /// [`CallError::Failed`].
     ///
     /// ```
     /// use resil::{Bulkhead, CallError, Decorators, Retry};
@@ -50,7 +51,7 @@ impl<F> Decorators<Function<F>> {
     ///     let price = Decorators::of_async(async |id: u32| if id > 0 { Ok(42) } else { Err("no id") })
     ///         .inside_within(backend, Duration::from_millis(500))
     ///         .retried(retry);
-    ///     // With the sleep of the runtime, as `tokio::time::sleep`.
+    ///     // Pass your runtime's sleep, such as `tokio::time::sleep`.
     ///     price.call_async(7, sleep).await
     /// }
     /// ```
@@ -70,7 +71,7 @@ impl<L: AsyncLayer<Arguments>, Arguments> AsyncDecorators<L, Arguments> {
         }
     }
 
-    /// What stands so far, under a permit of this bulkhead, which each call awaits and holds until its answer is there.
+    /// Runs the chain so far under a permit of this bulkhead. Each call awaits the permit and holds it until it has its answer.
     pub fn inside<B: AsRef<Bulkhead>>(
         self,
         bulkhead: B,
@@ -78,7 +79,8 @@ impl<L: AsyncLayer<Arguments>, Arguments> AsyncDecorators<L, Arguments> {
         AsyncDecorators::new(Awaited(self.layers, bulkhead, None))
     }
 
-    /// The same, which waits for the permit as long as this at most. The error is [`CallError::TimedOut`] then.
+    /// Like [`inside`](AsyncDecorators::inside), but waits for the permit for at most `limit`, after which the error is
+    /// [`CallError::TimedOut`].
     pub fn inside_within<B: AsRef<Bulkhead>>(
         self,
         bulkhead: B,
@@ -87,7 +89,7 @@ impl<L: AsyncLayer<Arguments>, Arguments> AsyncDecorators<L, Arguments> {
         AsyncDecorators::new(Awaited(self.layers, bulkhead, Some(limit)))
     }
 
-    /// What stands so far, called again by this retry as [`Decorators::retried`] does; it waits by the sleep of the call.
+    /// Repeats the chain so far with this retry, as [`Decorators::retried`] does; it waits with the call's `sleep`.
     pub fn retried<R, Errors, Values, Pause>(
         self,
         retry: R,
@@ -105,7 +107,7 @@ impl<L: AsyncLayer<Arguments>, Arguments> AsyncDecorators<L, Arguments> {
         })
     }
 
-    /// What stands so far, and where that gives an error, what this function makes of it.
+    /// Calls this function if the chain so far returns an error, and returns its result instead.
     pub fn or_else<G>(self, fallback: G) -> AsyncDecorators<OrElse<L, G>, Arguments>
     where
         G: Fn(CallError<L::Error>) -> Answer<L, Arguments>,
@@ -118,11 +120,11 @@ impl<L: AsyncLayer<Arguments>, Arguments> AsyncDecorators<L, Arguments> {
 }
 
 impl<L: AsyncLayer> AsyncDecorators<L> {
-    /// Calls the function through its layers, from the outermost in. All waits are by the futures that `sleep` gives.
+    /// Calls the function through its layers, from the outermost in. All waits await futures that `sleep` returns.
     ///
     /// # Errors
     ///
-    /// `Failed` with the function's error, `Full`, `Closed` or `TimedOut` where a bulkhead refused, or what a fallback makes of these.
+    /// `Failed` with the function's error; `Full`, `Closed` or `TimedOut` if a bulkhead refused; or what a fallback makes of these.
     pub async fn call_async<P>(&self, sleep: impl Fn(Duration) -> P) -> Answer<L, ()>
     where
         P: Future<Output = ()>,
@@ -131,13 +133,13 @@ impl<L: AsyncLayer> AsyncDecorators<L> {
     }
 }
 
-/// Of a function that takes an argument.
+/// For a function that takes an argument.
 impl<L: AsyncLayer<(A,)>, A> AsyncDecorators<L, (A,)> {
-    /// Calls the function with this, as one without arguments. Each attempt of a retry is given a copy.
+    /// Calls the function with this argument, like `call_async` of one without arguments. Each attempt of a retry gets a copy.
     ///
     /// # Errors
     ///
-    /// As there.
+    /// Those of a function without arguments.
     pub async fn call_async<P>(&self, argument: A, sleep: impl Fn(Duration) -> P) -> Answer<L, (A,)>
     where
         P: Future<Output = ()>,
@@ -186,7 +188,7 @@ where
     }
 }
 
-// What is inside, the bulkhead, and how long a call may wait for it.
+// The chain inside, the bulkhead, and how long a call may wait for it.
 pub struct Awaited<B, L>(L, B, Option<Duration>);
 
 impl<B, L> Sealed for Awaited<B, L> {}

@@ -1,29 +1,29 @@
-//! The layers of a chain. Each has the one inside it, and calls it as its kind says.
+//! The layers of a chain. Each owns the one inside it, and calls it in its own way.
 use crate::bulkhead::Bulkhead;
 use crate::call_error::CallError;
 use crate::retry::{ErrorTest, Retry, ValueTest};
 use std::marker::PhantomData;
 use std::time::Duration;
 
-/// What a chain of [`Decorators`](crate::Decorators) has inside: a function, with layers or without.
+/// What a chain of [`Decorators`](crate::Decorators) contains: a function, with or without layers.
 ///
-/// `Arguments` are those of the function: `()`, or `(T,)` of one that is called with a `T`. This crate alone has such types. A
-/// function that takes or gives a chain says by this trait what the chain gives:
+/// `Arguments` are the function's: `()`, or `(T,)` if it is called with a `T`. Only this crate implements the trait. A function that
+/// takes or returns a chain uses it to say what the chain returns.
 #[diagnostic::on_unimplemented(
-    message = "a chain goes round a function that gives a `Result`, with one argument or none",
-    note = "an async function goes into `Decorators::of_async`, or is called by `Bulkhead::call_async` or `Retry::call_async`"
+    message = "a chain needs a function that returns a `Result` and takes one argument or none",
+    note = "pass an async function to `Decorators::of_async`, or call it with `Bulkhead::call_async` or `Retry::call_async`"
 )]
 pub trait Layer<Arguments = ()>: Sealed {
-    /// What a call gives.
+    /// The value that a call returns.
     type Value;
-    /// The error of the function.
+    /// The function's error.
     type Error;
 
     #[doc(hidden)]
     fn call(&mut self, arguments: Arguments) -> Result<Self::Value, CallError<Self::Error>>;
 }
 
-/// What a chain has inside that is kept: it is called by reference.
+/// What a kept chain contains: it is called by reference.
 pub trait KeptLayer<Arguments>: Layer<Arguments> {
     #[doc(hidden)]
     fn call_kept(&self, arguments: Arguments) -> Result<Self::Value, CallError<Self::Error>>;
@@ -88,7 +88,7 @@ impl<A, B: AsRef<Bulkhead>, L: KeptLayer<A>> KeptLayer<A> for Inside<B, L> {
     }
 }
 
-// What `R` refers to.
+// The type that `R` refers to.
 type Kind<T> = PhantomData<fn() -> T>;
 
 pub struct Retried<R, Errors, Values, Pause, L> {

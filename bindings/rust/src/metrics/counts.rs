@@ -1,4 +1,4 @@
-//! What is counted of one bulkhead, retry or pool.
+//! The counts of one bulkhead, retry or pool.
 use super::page::Page;
 use crate::observer::{Observer, WaitEnd};
 use crate::rule::Reply;
@@ -19,7 +19,7 @@ impl Counter {
         self.add(1, false);
     }
 
-    // One thread that counts alone needs no atomic sum.
+    // If only one thread counts, it needs no atomic addition.
     #[inline]
     fn add(&self, count: u64, is_alone: bool) {
         if is_alone {
@@ -35,8 +35,8 @@ impl Counter {
     }
 }
 
-/// The upper ends of the parts of a histogram, in nanoseconds and as the text has them in seconds: about three for each power
-/// of ten from a millisecond to ten seconds, with one more part behind them.
+/// The upper ends of a histogram's buckets, in nanoseconds, and in seconds as they are written: about three for each power of ten from a
+/// millisecond to ten seconds. One more bucket follows.
 pub(super) const ENDS: [(u64, &str); 13] = [
     (1_000_000, "0.001"),
     (2_500_000, "0.0025"),
@@ -53,14 +53,14 @@ pub(super) const ENDS: [(u64, &str); 13] = [
     (10_000_000_000, "10"),
 ];
 
-/// How many times are of which length.
+/// How many times fall into each bucket.
 #[derive(Default)]
 struct Histogram {
     parts: [Counter; ENDS.len() + 1],
     nanoseconds: Counter,
 }
 
-/// What histograms have counted: how many times in each part, and the sum of all in nanoseconds.
+/// The counts of histograms: how many times are in each bucket, and their sum in nanoseconds.
 #[derive(Default)]
 pub(super) struct Lengths {
     pub(super) parts: [u64; ENDS.len() + 1],
@@ -89,14 +89,14 @@ impl<'a> Sum<&'a Histogram> for Lengths {
     }
 }
 
-/// What is counted of a bulkhead: by each thread that has a place in its own, and by all others in one.
+/// The counts of a bulkhead: each thread with a place counts in its own, and all others share one.
 pub(super) struct Calls {
     places: Box<[CallCounts]>,
     shared: CallCounts,
     is_timed: bool,
 }
 
-// On cache lines of its own.
+// On its own cache lines.
 #[derive(Default)]
 #[repr(align(64))]
 struct CallCounts {
@@ -126,7 +126,7 @@ impl CallCounts {
     }
 }
 
-/// How waits end, by the names that they have in the text.
+/// The ends of waits, with their names in the text.
 const WAIT_ENDS: [(WaitEnd, &str); 6] = [
     (WaitEnd::Abandoned, "abandoned"),
     (WaitEnd::Closed, "closed"),
@@ -146,7 +146,7 @@ impl Calls {
         }
     }
 
-    // Where this thread counts, and whether it does so alone: no two threads that live have one number.
+    // Where this thread counts, and whether it is the only one there: no two live threads have the same number.
     #[inline]
     fn own(&self) -> (&CallCounts, bool) {
         match self.places.get(thread_number::current()) {
@@ -180,19 +180,19 @@ impl Calls {
         );
         page.numbers(
             "counter",
-            "resil_bulkhead_timed_out_calls_total The number of calls that gave their permit back unused, since they were out of time",
+            "resil_bulkhead_timed_out_calls_total The number of calls that gave their permit back unused because they were out of time",
             all,
             |calls| calls.sum(|counts| &counts.timed_out),
         );
         page.counters(
-            "resil_bulkhead_waits_total The number of calls that were ready to wait for a permit, by how that ended",
+            "resil_bulkhead_waits_total The number of calls that may wait for a permit, by how the wait ended",
             all,
             |calls| {
                 WAIT_ENDS.map(|(end, kind)| (kind, calls.sum(|counts| counts.ends(end))))
             },
         );
         page.histograms(
-            "resil_bulkhead_wait_seconds How long these calls waited, whatever the end",
+            "resil_bulkhead_wait_seconds How long these calls waited, however the wait ended",
             all,
             |calls| calls.lengths(|counts| &counts.waits),
         );

@@ -1,4 +1,4 @@
-//! Prometheus' text, family by family.
+//! Prometheus' text format, one metric family after the other.
 use super::counts::{ENDS, Lengths};
 use crate::bulkhead::Bulkhead;
 use crate::thread_pool::ThreadPool;
@@ -31,12 +31,12 @@ impl Page {
     }
 
     fn line(&mut self, line: impl Display) {
-        // A text takes whatever is written to it.
+        // Writing to a string can't fail.
         let _written = writeln!(self.text, "{line}");
     }
 
-    /// What these lines tell of each, by its name; nothing where there is none. A head is the name of the family and, behind a
-    /// space, what it is.
+    /// Writes a family: these lines for each entry, by name, or nothing if there are no entries. A head is the family's name, a space,
+    /// and its description.
     fn family<K: AsRef<str>, N>(
         &mut self,
         kind: &str,
@@ -56,7 +56,7 @@ impl Page {
         }
     }
 
-    /// One number of each.
+    /// Writes one number of each entry.
     pub(super) fn numbers<K: AsRef<str>, N>(
         &mut self,
         kind: &str,
@@ -70,7 +70,7 @@ impl Page {
         });
     }
 
-    /// Counters of each, by their kinds.
+    /// Writes counters of each entry, by kind.
     pub(super) fn counters<K: AsRef<str>, N, const KINDS: usize>(
         &mut self,
         head: &str,
@@ -86,7 +86,7 @@ impl Page {
         });
     }
 
-    /// A histogram of each that has one.
+    /// Writes a histogram of each entry that has one.
     pub(super) fn histograms<K: AsRef<str>, N>(
         &mut self,
         head: &str,
@@ -114,7 +114,7 @@ impl Page {
         });
     }
 
-    // Gauges of each; of two that bear one name, those of the last.
+    // Writes gauges of each entry. If two have the same name, those of the last.
     fn gauges<'a, const COUNT: usize>(
         &mut self,
         heads: [&str; COUNT],

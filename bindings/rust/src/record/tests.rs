@@ -21,7 +21,7 @@ fn opened(system: SystemTime) -> Result<RecordedRule, PoolError> {
     RecordedRule::new(PoolRule::builder(1, 2).queue(3).open()?, Some(&plan))
 }
 
-// The part up to here. The next one begins when the clock of the record is at this moment, and that of the system at that one.
+// The part up to here. The next one begins when the record's clock shows `at` and the system's shows `system`.
 fn part(rule: &mut RecordedRule, at: u64, system: SystemTime) -> Result<String, PoolError> {
     let part = rule.begin_part(memory_for(5)?, Anchor { at, system });
     Ok(part.map_or_else(String::new, |part| part.text()))
@@ -112,7 +112,7 @@ fn a_record_that_is_full_while_jobs_are_given_back_is_what_came_before() -> Resu
     (2..=4).for_each(|number| rule.remove(number));
     let text = part(&mut rule, 0, UNIX_EPOCH)?;
     assert!(text.contains("missing.") && text.ends_with("\nclose,,,,,,0\n"));
-    // Those that came back don't wait, though the library's rule still has them.
+    // Those that were given back don't wait, though the library's rule still has them.
     let text = part(&mut rule, 0, UNIX_EPOCH)?;
     assert!(text.ends_with(",at\nsubmit,1,1,core,,,0\nclose,,,,,,0\n"));
     assert_eq!((rule.numbers().waiting, rule.numbers().finished), (0, 3));

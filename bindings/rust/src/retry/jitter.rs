@@ -1,4 +1,4 @@
-//! A stream of numbers that many threads draw on, and the waits that come of it.
+//! A stream of numbers that many threads draw from, and the waits made from it.
 use crate::interval::milliseconds;
 use std::collections::hash_map::RandomState;
 use std::hash::{BuildHasher, Hasher};
@@ -6,11 +6,11 @@ use std::sync::Arc;
 use std::sync::atomic::{AtomicU64, Ordering};
 use std::time::Duration;
 
-// The generator is SplitMix64 (Steele, Lea, Flood, Fast Splittable Pseudorandom Number Generators, 2014): a number that
-// grows by the odd part of the golden ratio, and is mixed. So threads need no lock to draw.
+// The generator is SplitMix64 (Steele, Lea, Flood, Fast Splittable Pseudorandom Number Generators, 2014): a number that grows by the odd
+// part of the golden ratio, and is mixed. So threads draw without a lock.
 const STEP: u64 = 0x9e37_79b9_7f4a_7c15;
 
-// Clones draw on one stream: two that drew the same numbers would wait in step.
+// Clones draw from one stream: two that drew the same numbers would wait in step.
 #[derive(Debug, Clone)]
 pub(super) struct Jitter {
     state: Arc<AtomicU64>,
@@ -23,7 +23,7 @@ impl Jitter {
         }
     }
 
-    // The standard library draws the keys of its maps from the system.
+    // The standard library gets the keys of its maps from the system.
     pub(super) fn unseeded() -> Jitter {
         Jitter::new(RandomState::new().build_hasher().finish())
     }
@@ -36,7 +36,7 @@ impl Jitter {
         mixed ^ (mixed >> 31)
     }
 
-    // A wait from half of this one to the whole of it, each whole millisecond as likely as another.
+    // A wait between half of this one and all of it. All whole milliseconds are equally likely.
     pub(super) fn draw(&self, whole: Duration) -> Duration {
         let ms = milliseconds(whole);
         let span = ms / 2 + 1;
@@ -49,7 +49,7 @@ impl Jitter {
 mod tests {
     use super::*;
 
-    // The first numbers of SplitMix64 for the seed 1234567, as its other implementations are tested by.
+    // The first numbers of SplitMix64 for the seed 1234567, which other implementations are tested with.
     #[test]
     fn the_numbers_are_those_of_splitmix64() {
         let jitter = Jitter::new(1_234_567);

@@ -1,35 +1,34 @@
-//! Which outcomes are to be retried, and which errors say when.
+//! Which outcomes are to be retried, and which errors say how long to wait.
 use std::time::Duration;
 
-/// Which errors of a type a retry retries.
+/// A test of which errors of a type a retry retries.
 ///
-/// Functions of a reference to the error are such tests: [`Retry::retry_if`](crate::Retry::retry_if) takes them.
+/// Functions of a reference to the error implement it: pass one to [`Retry::retry_if`](crate::Retry::retry_if).
 pub trait ErrorTest<E> {
     /// Whether the error is to be retried.
     fn is_retried(&self, error: &E) -> bool;
 
-    /// How long to wait after this error of an attempt, which are numbered from 1; none where the retry's interval says
-    /// it, as it does for each test but [`WaitBy`](crate::WaitBy).
+    /// How long to wait after this error of this attempt (numbered from 1), or `None` if the retry's interval decides, as it does for
+    /// each test but [`WaitBy`](crate::WaitBy).
     #[inline]
     fn wait(&self, _error: &E, _attempt: u32) -> Option<Duration> {
         None
     }
 }
 
-/// Which values of a type a retry retries.
+/// A test of which values of a type a retry retries.
 ///
-/// Functions of a reference to the value are such tests: [`Retry::retry_value_if`](crate::Retry::retry_value_if) takes
-/// them.
+/// Functions of a reference to the value implement it: pass one to [`Retry::retry_value_if`](crate::Retry::retry_value_if).
 pub trait ValueTest<T> {
     /// Whether the value is to be retried.
     fn is_retried(&self, value: &T) -> bool;
 }
 
-/// The test of a retry that retries each error, of whatever type.
+/// The test of a retry that retries every error, of any type.
 #[derive(Debug, Clone, Copy)]
 pub struct EveryError;
 
-/// The test of a retry that retries no value, of whatever type.
+/// The test of a retry that retries no value, of any type.
 #[derive(Debug, Clone, Copy)]
 pub struct NoValue;
 
@@ -47,8 +46,7 @@ impl<E, F: Fn(&E) -> bool> ErrorTest<E> for F {
     }
 }
 
-/// A test of errors, and a function by which an error may say how long to wait. [`Retry::wait_by`](crate::Retry::wait_by)
-/// makes it.
+/// A test of errors, with a function that lets an error say how long to wait. Made by [`Retry::wait_by`](crate::Retry::wait_by).
 #[derive(Debug, Clone, Copy)]
 pub struct WaitBy<Errors, F> {
     pub(super) test: Errors,

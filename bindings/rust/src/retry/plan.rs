@@ -1,4 +1,4 @@
-//! What a retry does whatever is called: how often, after which waits, until when, and who is told.
+//! What a retry does, whatever it calls: how many attempts, which waits, until when, and which observer hears of it.
 use super::jitter::Jitter;
 use crate::interval::Interval;
 use crate::observer::Watch;
@@ -9,7 +9,7 @@ pub(super) struct Plan {
     pub(super) attempts: u32,
     pub(super) interval: Interval,
     pub(super) jitter: Option<Jitter>,
-    // What few retries have, so that a call of another one asks for it once.
+    // Boxed because few retries have it, so that other retries' calls make one check.
     more: Option<Box<More>>,
 }
 
@@ -19,14 +19,14 @@ struct More {
     observer: Option<Watch>,
 }
 
-/// How far a call has come: for loops of one's own, as a policy of a client's. [`Retry::begin`](crate::Retry::begin) makes it.
+/// How far a call has come: for loops of your own, such as a client's policy. Made by [`Retry::begin`](crate::Retry::begin).
 #[derive(Debug, Clone)]
 pub struct Attempts {
-    // The attempt that was made last, from 1.
+    // The number of the last attempt, from 1.
     attempt: u32,
-    // Whether no other follows.
+    // Whether no other attempt follows.
     is_over: bool,
-    // When it began, where there is a limit, and how long all waits so far were.
+    // When the call began, if there is a limit, and the sum of all waits so far.
     began: Option<Instant>,
     waited: Duration,
 }
@@ -73,7 +73,7 @@ impl Plan {
         }
     }
 
-    /// The wait after the last attempt, or this one where it is asked for; none where no other attempt follows.
+    /// The wait after the last attempt, or `asked` if that is set. None if no other attempt follows.
     pub(super) fn wait(
         &self,
         attempts: &mut Attempts,
@@ -82,7 +82,7 @@ impl Plan {
         self.next(attempts, asked).ok()
     }
 
-    /// The same, of which the observer is told.
+    /// Like `wait`, but reports it to the observer.
     #[cold]
     pub(super) fn wait_told(
         &self,
@@ -101,7 +101,7 @@ impl Plan {
         next.ok()
     }
 
-    /// Tells that a call ends with a value or with an error that isn't retried.
+    /// Reports that a call ended with a value, or with an error that isn't retried.
     #[inline]
     pub(super) fn tell_answer(&self, attempts: &Attempts, is_value: bool) {
         if self.more.is_some() {
@@ -155,14 +155,14 @@ impl More {
 }
 
 impl Attempts {
-    /// The number of the attempt that was made last, from 1.
+    /// The number of the last attempt, from 1.
     #[must_use]
     pub fn count(&self) -> u32 {
         self.attempt
     }
 }
 
-/// The waits between the attempts of one call. [`Retry::waits`](crate::Retry::waits) makes it.
+/// The waits between the attempts of one call. Made by [`Retry::waits`](crate::Retry::waits).
 #[derive(Debug, Clone)]
 #[must_use = "an iterator does nothing by itself"]
 pub struct Waits<'a> {

@@ -1,17 +1,17 @@
-//! Why a call of a pool is refused.
+//! Why a pool's calls are refused.
 use crate::texts::error_texts;
 
-/// Why a pool wasn't made, or a call of it was refused; where more than one holds, the first of these. Nothing was changed.
+/// Why a pool couldn't be made, or a call of it was refused. If several reasons hold, it is the first of them. Nothing was changed.
 #[derive(Debug, Clone, Copy, PartialEq, Eq, Hash)]
 #[non_exhaustive]
 pub enum PoolError {
-    /// The pool's name has a byte 0, which no thread's name may have.
+    /// The pool's name contains a zero byte, which no thread's name may.
     NulInName,
-    /// The record of a pool isn't for 1 to 100,000 events.
+    /// The number of events to record isn't from 1 to 100,000.
     RecordOutOfRange,
-    /// The core size isn't from 1 to 64.
+    /// The core size isn't from 1 to 1,024, or at a resize of a pool that was made with a maximum size of at most 64, from 1 to 64.
     CoreOutOfRange,
-    /// The greatest size isn't from the core size to 64; of a resize, to that at making.
+    /// The maximum size isn't from the core size to 1,024, or at a resize, to the maximum size that the pool was made with.
     MaxOutOfRange,
     /// The queue capacity isn't from 1 to 65,536.
     QueueOutOfRange,
@@ -23,19 +23,19 @@ pub enum PoolError {
     NoCaller,
     /// The job's number isn't one more than its caller's submissions so far.
     WrongNumber,
-    /// No job of this id was picked at this place and isn't finished.
+    /// No job with this id was picked at this place, or it is finished already.
     NotOut,
 }
 
 error_texts! { PoolError {
-    NulInName => "the name has a byte 0",
+    NulInName => "the name contains a zero byte",
     RecordOutOfRange => "the record is not for 1 to 100000 events",
-    CoreOutOfRange => "the core size is not from 1 to 64",
-    MaxOutOfRange => "the greatest size is not from the core size to the largest one allowed",
+    CoreOutOfRange => "the core size is not from 1 to 1024, or at a resize of a pool for at most 64 threads from 1 to 64",
+    MaxOutOfRange => "the maximum size is not from the core size to 1024, or at a resize to that of the opening",
     QueueOutOfRange => "the queue capacity is not from 1 to 65536",
     CallersOutOfRange => "the number of callers is not from 1 to 65535",
     Memory => "out of memory",
     NoCaller => "not one of the callers",
     WrongNumber => "not the caller's next number",
-    NotOut => "no job of this id is out",
+    NotOut => "no job with this id is running",
 }}

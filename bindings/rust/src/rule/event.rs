@@ -1,16 +1,16 @@
-//! What is told of a pool: jobs, replies, events and numbers.
+//! What a pool reports: jobs, replies, events and numbers.
 use crate::library::{PoolCounts, PoolEvent, PoolJob};
 
-/// The name of a job: its caller, and the number that the caller counts, from 1.
+/// The id of a job: its caller, and the caller's own number for it, counted from 1.
 #[derive(Debug, Clone, Copy, PartialEq, Eq, Hash)]
 pub struct JobId {
-    /// Who submits, from 1.
+    /// The caller that submits it, from 1.
     pub caller: u16,
     /// Which of that caller's submissions it is, counted from 1.
     pub number: u64,
 }
 
-/// The answer to a submission.
+/// The reply to a submission.
 #[derive(Debug, Clone, Copy, PartialEq, Eq, Hash)]
 #[non_exhaustive]
 pub enum Reply {
@@ -20,7 +20,7 @@ pub enum Reply {
     Queued,
     /// Accepted: a worker is started for it, since the queue is full.
     Extra,
-    /// Refused: the queue is full and there are as many workers as the greatest size.
+    /// Refused: the queue is full and there are as many workers as the maximum size.
     Full,
     /// Refused: the pool is closed.
     Closed,
@@ -49,14 +49,14 @@ pub enum Origin {
     Queue,
 }
 
-/// A job that was picked, by which it is finished.
+/// A job that was picked, and what is needed to finish it.
 #[derive(Debug, Clone, Copy, PartialEq, Eq, Hash)]
 pub struct Picked {
-    /// Its name.
+    /// Its id.
     pub id: JobId,
     /// What was submitted with it.
     pub work: u64,
-    /// The place that it has until it is finished.
+    /// The place that it keeps until it is finished.
     pub place: u32,
     /// Where it comes from.
     pub origin: Origin,
@@ -80,7 +80,7 @@ impl Picked {
 #[derive(Debug, Clone, Copy, PartialEq, Eq, Hash)]
 #[non_exhaustive]
 pub enum Event {
-    /// A submission and its answer.
+    /// A submission and its reply.
     Submit(JobId, Reply),
     /// A worker took this job from the front of the queue.
     Take(JobId),
@@ -90,11 +90,11 @@ pub enum Event {
     IdleEnd,
     /// The pool was closed.
     Close,
-    /// The core size and the greatest size, in workers, are these from here on.
+    /// The core size and the maximum size, in workers, from now on.
     Resized {
         /// The core size.
         core: u32,
-        /// The greatest size.
+        /// The maximum size.
         max: u32,
     },
 }
@@ -120,26 +120,26 @@ impl Event {
     }
 }
 
-/// The numbers of a pool, all of one moment: `accepted = running + waiting + finished`.
+/// A pool's numbers, all of one moment: `accepted = running + waiting + finished`.
 #[derive(Debug, Clone, Copy, PartialEq, Eq, Hash)]
 pub struct PoolNumbers {
-    /// The core size now, in workers.
+    /// The current core size, in workers.
     pub core: u32,
-    /// The greatest size now, in workers.
+    /// The current maximum size, in workers.
     pub max: u32,
     /// The capacity of the queue, in jobs.
     pub capacity: u32,
-    /// How many workers there are.
+    /// The number of workers.
     pub workers: u32,
-    /// How many jobs have a worker.
+    /// The number of jobs that have a worker.
     pub running: u32,
-    /// How many jobs wait in the queue.
+    /// The number of jobs that wait in the queue.
     pub waiting: u32,
-    /// How many submissions were accepted.
+    /// The number of accepted submissions.
     pub accepted: u64,
-    /// How many submissions were refused.
+    /// The number of refused submissions.
     pub refused: u64,
-    /// How many jobs were finished.
+    /// The number of finished jobs.
     pub finished: u64,
 }
 

@@ -1,8 +1,7 @@
-//! What the threads of a pool share behind its lock: the rule, the tasks that it speaks of, and who works, searches,
-//! sleeps and joins.
+//! What a pool's threads share under its lock: the rule, its tasks, and which threads work, search, sleep and join.
 //!
-//! By the rule a worker that is idle may pick whatever waits. Where the sizes were lowered there may be more workers than
-//! the greatest size; a thread doesn't pick then while as many jobs run as the greatest size, and holds back.
+//! By the rule an idle worker may pick any waiting job. After the sizes were lowered there may be more workers than the maximum size.
+//! While as many jobs run as the maximum size, a thread then doesn't pick, but holds back.
 use super::inbox::{Inbox, Ring};
 use super::inside::Caller;
 use super::joins::{Joins, Threads};
@@ -13,7 +12,7 @@ use std::collections::VecDeque;
 use std::mem;
 use std::thread::{JoinHandle, ThreadId};
 
-// The submissions of a pool are those of one caller of its rule, counted under the lock.
+// All submissions of a pool belong to one caller of its rule, and are counted under the lock.
 const CALLER: u16 = 1;
 
 /// A task that a worker has picked.
@@ -22,7 +21,7 @@ pub(super) struct Job {
     pub(super) picked: Picked,
 }
 
-// A job that waits in the queue of the rule.
+// A job in the rule's queue.
 struct Queued {
     number: u64,
     work: u64,
@@ -30,45 +29,44 @@ struct Queued {
 
 pub(super) struct Book {
     rule: RecordedRule,
-    // What is submitted without the lock, and whether nothing is.
+    // What is submitted without the lock. If `by_lock` is set, nothing is.
     pub(super) inbox: Inbox,
     by_lock: bool,
     submitted: u64,
-    // The jobs that wait.
+    // The waiting jobs.
     queue: VecDeque<Queued>,
-    // Jobs that were picked for threads that are about to start, and those of them whose thread couldn't be started.
+    // Jobs that were picked for threads that are about to start, and jobs whose thread couldn't be started.
     firsts: VecDeque<Job>,
     orphans: VecDeque<Job>,
     /// How many jobs have a worker of the rule.
     pub(super) running: usize,
-    // The sizes, of which the greatest bounds how many jobs run.
+    // The sizes. The maximum size limits how many jobs run.
     core: usize,
     max: usize,
     capacity: usize,
     pub(super) closed: bool,
-    /// How many threads were started, or should have been.
+    /// How many threads were started, or failed to start.
     pub(super) started: u64,
-    /// How many threads work here, or are about to be started: with those that are missing, the workers of the rule.
+    /// How many threads work here or are about to be started. Together with the missing ones these are the rule's workers.
     pub(super) threads: usize,
-    /// For how many workers of the rule no thread could be started.
+    /// The number of the rule's workers for which no thread could be started.
     pub(super) missing: usize,
-    /// Whether a thread looks for a job before it goes to sleep. There is one at most.
+    /// Whether a thread searches for a job before it sleeps. At most one does at a time.
     pub(super) searching: bool,
-    /// How many threads sleep and weren't called, and how many of them hold back.
+    /// How many threads sleep without having been called, and how many of them hold back.
     pub(super) asleep: usize,
     pub(super) held: usize,
-    /// How many of those that sleep were called, whichever wakes first.
+    /// How many sleeping threads were called; whichever wake first take the calls.
     pub(super) called: usize,
-    /// How often all that slept were called.
+    /// How many times all sleeping threads were called.
     pub(super) alarms: u64,
     pub(super) joins: Joins,
-    // Those of the threads that can be joined, once the pool is closed, and threads that ended before their handle was
-    // kept.
+    // The handles of threads that can be joined once the pool is closed, and the ids of threads that ended before their handle was kept.
     handles: Vec<JoinHandle<()>>,
     early: Vec<ThreadId>,
 }
 
-// A list with room for so many.
+// A list with room for `count` entries.
 fn room<T>(count: usize) -> Result<VecDeque<T>, PoolError> {
     let mut list = VecDeque::new();
     let reserved = list.try_reserve_exact(count);
@@ -81,7 +79,7 @@ impl Book {
         let numbers = rule.numbers();
         let sizes = [numbers.core, numbers.max, numbers.capacity];
         let [core, max, capacity] = sizes.map(|size| size as usize);
-        let ring = Ring::new(0)?;
+        let ring = Ring::new(capacity, 0)?;
         Ok(Book {
             rule,
             by_lock,
@@ -105,24 +103,23 @@ impl Book {
             joins: Joins::default(),
             handles: room(max)?.into(),
             early: Vec::new(),
-            // It takes memory that can't be refused, so it comes last.
+            // Its allocation can't be refused, so it comes last.
             inbox: Inbox::new(ring),
         })
     }
 
-    /// Begins a turn at this time of a recorded pool.
+    /// Begins a turn at this time, in a recorded pool.
     #[inline]
     pub(super) fn begin_turn(&mut self, at: Option<u64>) {
         self.rule.begin_turn(at);
     }
 
-    /// What was recorded up to here, where the pool is recorded.
+    /// What has been recorded so far, if the pool is recorded.
     pub(super) fn begin_part(&mut self, memory: Vec<Noted>, start: Anchor) -> Option<Part> {
         self.rule.begin_part(memory, start)
     }
 
-    /// Submits a worker's share of a task, by its number. Where a thread is to start for it, it is picked as the first job of
-    /// that thread.
+    /// Submits a worker's share of a task, by its number. If a thread is to start for it, it is picked as that thread's first job.
     pub(super) fn submit(&mut self, work: u64) -> Reply {
         self.end_grant();
         let reply = self.submit_by_rule(work);
@@ -130,13 +127,14 @@ impl Book {
         reply
     }
 
-    // Lets no more be submitted without the lock, and tells the rule what was: whatever changes its replies comes after this.
+    // Stops submissions without the lock, and passes those made so far to the rule. Anything that changes the rule's replies comes after
+    // this.
     fn end_grant(&mut self) {
         self.inbox.take_back_grant();
         self.tell_rule();
     }
 
-    // Lets as many be submitted without the lock as the rule will queue.
+    // Allows as many submissions without the lock as the rule will queue.
     fn grant(&mut self) {
         let has_core = self.missing == 0 && self.threads >= self.core;
         if has_core && !self.closed && !self.by_lock {
@@ -144,7 +142,7 @@ impl Book {
         }
     }
 
-    // Tells the rule what was submitted without the lock, as far as that is known.
+    // Passes to the rule the submissions made without the lock that are known.
     fn tell_rule(&mut self) {
         while let Some(work) = self.inbox.pop() {
             let reply = self.submit_by_rule(work);
@@ -152,13 +150,13 @@ impl Book {
         }
     }
 
-    // Tells the rule all that was submitted without the lock up to here.
+    // Passes to the rule all submissions made without the lock so far.
     fn catch_up(&mut self) {
         self.inbox.look();
         self.take_in();
     }
 
-    // The same as far as it is known, and then grants more.
+    // Passes on those that are known, and then allows more.
     fn take_in(&mut self) {
         let before = self.submitted;
         self.tell_rule();
@@ -175,7 +173,7 @@ impl Book {
             number,
         };
         let reply = self.rule.submit(id, work);
-        let reply = reply.expect("the one caller counts its submissions");
+        let reply = reply.expect("the only caller counts its submissions");
         match reply {
             Reply::Full | Reply::Closed => {}
             Reply::Queued => self.queue.push_back(Queued { number, work }),
@@ -189,18 +187,18 @@ impl Book {
         reply
     }
 
-    /// Takes down that nobody searches any more.
+    /// Records that no thread searches any more.
     pub(super) fn end_search(&mut self) {
         self.searching = false;
         self.set_calls();
     }
 
-    /// The first job of a thread that starts.
+    /// The first job of a starting thread.
     pub(super) fn first(&mut self) -> Option<Job> {
         self.firsts.pop_front()
     }
 
-    /// Takes down that a thread couldn't be started, whose first job is one for any. The next submission tries again.
+    /// Records that a thread couldn't be started. Its first job is then anybody's. The next submission tries again.
     pub(super) fn do_without(&mut self) {
         self.end_grant();
         self.threads -= 1;
@@ -209,8 +207,7 @@ impl Book {
         self.orphans.extend(first);
     }
 
-    /// Picks the job that is to run next. Where nothing waits, that may be the first of a thread that is still to
-    /// start.
+    /// Picks the job to run next. If no job waits, that may be the first job of a thread that has yet to start.
     pub(super) fn pick(&mut self) -> Option<Job> {
         self.rule.finish_removed();
         if let Some(orphan) = self.orphans.pop_front() {
@@ -226,13 +223,13 @@ impl Book {
         self.firsts.pop_front()
     }
 
-    /// Whether there is a job to pick, for a thread that has none.
+    /// Whether there is a job to pick, for a thread without one.
     #[inline]
     pub(super) fn has_work(&mut self) -> bool {
         !self.orphans.is_empty() || (self.waits() && self.running < self.max)
     }
 
-    /// Whether a job waits that isn't to be picked now, since as many run as the greatest size.
+    /// Whether a job waits that may not be picked now, since as many jobs run as the maximum size.
     pub(super) fn holds_back(&mut self) -> bool {
         self.waits() && !self.has_work()
     }
@@ -249,8 +246,8 @@ impl Book {
         !self.queue.is_empty()
     }
 
-    /// Takes down whether a submission calls a thread that sleeps, now that one searches or sleeps which didn't, or the other way round.
-    /// What was submitted before a thread says that it sleeps may call nobody, so it looks for a job once more after this.
+    /// Updates whether a submission calls a sleeping thread, after the number of searching or sleeping threads has changed. Submissions
+    /// made before a thread says that it sleeps may call nobody, so it looks for a job once more after this.
     pub(super) fn set_calls(&mut self) {
         let calls = self.asleep > 0 && self.called == 0 && !self.searching;
         self.inbox.set_calls(calls);
@@ -262,9 +259,8 @@ impl Book {
             let front = self.queue.pop_front();
             debug_assert_eq!(front.map(|job| job.number), Some(picked.id.number));
         }
-        // SAFETY: the rule was given the number of a task, of which it got a share, by each submission that it
-        // accepted, and gives each of these to one pick: that is proved of it. What was given back was in its queue when
-        // that was the last of it, and is picked by `finish_removed`.
+        // SAFETY: each submission that the rule accepted gave it the number of a task with one share, and it returns each number from
+        // just one pick: that is proved. The jobs that were given back were the last in its queue, and are picked by `finish_removed`.
         let work = unsafe { Work::of(picked.work) };
         Some(Job { work, picked })
     }
@@ -301,8 +297,8 @@ impl Book {
         for queued in mem::take(&mut self.queue) {
             self.rule.remove(queued.number);
             self.joins.count(queued.number);
-            // SAFETY: it has waited in the rule's queue with the share of its task. The pool is closed, so nothing comes
-            // behind it, and what the rule picks from here on was given back and isn't made a `Work` again.
+            // SAFETY: it waited in the rule's queue with its task's share. The pool is closed, so nothing follows it, and whatever the
+            // rule picks from now on was given back and isn't made a `Work` again.
             works.push(unsafe { Work::of(queued.work) });
         }
         self.rule.finish_removed();
@@ -324,18 +320,18 @@ impl Book {
         self.end_missing();
     }
 
-    /// The numbers, in which a job that was given back is finished.
+    /// The numbers. A job that was given back counts as finished.
     pub(super) fn numbers(&mut self) -> PoolNumbers {
         self.catch_up();
         self.rule.numbers()
     }
 
-    /// Whether the rule lets an idle worker end after a while: where it is above the core size and nothing waits.
+    /// Whether the rule lets an idle worker end after a while: if there are more than the core size and no job waits.
     pub(super) fn is_above_core(&mut self) -> bool {
         self.threads + self.missing > self.core && !self.waits()
     }
 
-    /// Ends an idle worker where the rule lets one end, one without a thread first; whether this thread ends.
+    /// Ends an idle worker if the rule allows it, first one without a thread. Returns whether this thread ends.
     pub(super) fn ends_idle(&mut self) -> bool {
         self.catch_up();
         while self.rule.idle_end() {
@@ -347,22 +343,22 @@ impl Book {
         false
     }
 
-    /// Ends an idle worker of a closed pool whose thread ends. Where a submitter runs a job in its place, that is one
-    /// without a thread from here on.
+    /// Ends an idle worker of a closed pool whose thread ends. If a submitter runs a job in its place, the worker counts as one without a
+    /// thread from now on.
     pub(super) fn ends_closed(&mut self) {
         if !self.ends_idle() {
             self.missing += 1;
         }
     }
 
-    /// Ends the idle workers that have no thread, where the rule lets them end.
+    /// Ends the idle workers that have no thread, if the rule allows it.
     pub(super) fn end_missing(&mut self) {
         while self.missing > 0 && self.rule.idle_end() {
             self.missing -= 1;
         }
     }
 
-    /// Calls one of those that sleep; whether there was one. It is woken by the bell.
+    /// Calls a sleeping thread, and returns whether there was one. The bell wakes it.
     pub(super) fn call_one(&mut self) -> bool {
         let sleeps = self.asleep > 0;
         if sleeps {
@@ -373,7 +369,7 @@ impl Book {
         sleeps
     }
 
-    /// Calls all that sleep.
+    /// Calls all sleeping threads.
     pub(super) fn call_all(&mut self) {
         self.alarms += 1;
         self.held = 0;
@@ -388,7 +384,7 @@ impl Book {
         }
     }
 
-    /// Takes down that the thread of this id ends. While the pool is open nobody joins it.
+    /// Records that the thread with this id ends. While the pool is open, nobody joins it.
     pub(super) fn leave(&mut self, id: ThreadId) {
         self.threads -= 1;
         if self.closed {
@@ -400,7 +396,7 @@ impl Book {
         }
     }
 
-    /// The handles of the threads but for that of this id.
+    /// The threads' handles, except the one with this id.
     pub(super) fn take_handles(&mut self, own: Option<ThreadId>) -> Vec<JoinHandle<()>> {
         if let Some(index) = own.and_then(|id| self.handle_of(id)) {
             drop(self.handles.swap_remove(index));
@@ -413,14 +409,14 @@ impl Book {
         handles.position(|handle| handle.thread().id() == id)
     }
 
-    /// Begins to join, and gives the id of this join.
+    /// Begins a join, and returns its id.
     pub(super) fn begin_join(&mut self, caller: Caller) -> u64 {
         self.catch_up();
         let left = self.running + self.queue.len();
         self.joins.begin(caller, self.submitted, left)
     }
 
-    /// Looks which joins are done, and says whether there are new ones.
+    /// Updates which joins are done, and returns whether there are new ones.
     pub(super) fn settle(&mut self) -> bool {
         self.joins.settle(Threads {
             count: self.threads,

@@ -1,7 +1,8 @@
-//! The sizes of a pool that is to be opened.
+//! Options of a pool that is to be opened.
 use super::ThreadPool;
 use super::book::Book;
 use super::crew::{Crew, Kind, Recorded};
+use super::ends::Ends;
 use crate::observer::{Observer, Watch};
 use crate::record::{Anchor, MOST_EVENTS, Plan, RecordedRule};
 use crate::rule::{PoolError, PoolRule, QUEUE};
@@ -10,10 +11,10 @@ use std::panic::{RefUnwindSafe, UnwindSafe};
 use std::sync::Arc;
 use std::time::{Duration, Instant, SystemTime};
 
-// How long an idle thread above the core size stays, where nothing else is said: Resilience4j's `keepAliveDuration`.
+// The default keep-alive of idle threads above the core size: Resilience4j's `keepAliveDuration`.
 const KEEP_ALIVE: Duration = Duration::from_millis(20);
 
-/// The sizes of a [`ThreadPool`] that is to be opened, and what its threads are like.
+/// Builds a [`ThreadPool`]: its sizes and the properties of its threads.
 #[derive(Clone)]
 #[must_use]
 pub struct ThreadPoolBuilder {
@@ -43,50 +44,49 @@ impl ThreadPoolBuilder {
         }
     }
 
-    /// The capacity of the queue, in jobs: 1 to 65,536, and 100 where none is named.
+    /// Sets the capacity of the queue, in jobs: 1 to 65,536. The default is 100.
     pub fn queue(mut self, capacity: u32) -> Self {
         self.queue = capacity;
         self
     }
 
-    /// How long an idle thread above the core size stays before it ends; 20 milliseconds where nothing is said.
+    /// Sets how long an idle thread above the core size stays before it exits. The default is 20 milliseconds.
     pub fn keep_alive(mut self, time: Duration) -> Self {
         self.kind.keep_alive = time;
         self
     }
 
-    /// The name of the pool; `pool` where none is given. Its threads bear it with a number behind it, counted from 1 over
-    /// all that are started. Linux shows the first 15 bytes.
+    /// Sets the pool's name, `pool` by default. Each thread's name is this followed by a number, counted from 1 over all threads started.
+    /// Linux shows the first 15 bytes.
     pub fn name(mut self, name: impl Into<String>) -> Self {
         self.kind.name = name.into();
         self
     }
 
-    /// The size of each thread's stack, in bytes, which the system may round up; where none is named, that of
-    /// [`std::thread::Builder::stack_size`]. Functions, what they call, and their answers lie on it. A thread whose stack
-    /// can't be had can't be started.
+    /// Sets the size of each thread's stack, in bytes; the system may round it up. The default is that of
+    /// [`std::thread::Builder::stack_size`]. Functions, what they call, and their answers are on it. If a stack of this size can't be
+    /// allocated, the thread can't be started.
     pub fn stack_size(mut self, bytes: usize) -> Self {
-        // What is above can't be had, and couldn't be rounded up either.
+        // A larger one can't be allocated, and couldn't be rounded up either.
         self.kind.stack_size = Some(bytes.min(isize::MAX as usize));
         self
     }
 
-    /// Has this observer told of the pool's jobs: of each that is accepted or refused, and when it begins and ends, by the
-    /// thread that runs it.
+    /// Reports the pool's jobs to this observer: each one that is accepted or refused, and its start and end, which the thread that runs
+    /// it reports.
     pub fn observed(mut self, observer: Arc<dyn Observer>) -> Self {
         self.observer = Some(observer);
         self
     }
 
-    /// Has the pool record what happens, for [`history`](ThreadPool::history): up to this many events at a time, 1 to 100,000. Their
-    /// memory is taken when the pool is opened, 24 bytes each. Without this call nothing is recorded.
+    /// Makes the pool record what happens, for [`history`](ThreadPool::history): up to this many events at a time, from 1 to 100,000.
+    /// Their memory, 24 bytes each, is allocated when the pool is opened. By default nothing is recorded.
     ///
-    /// An event is noted while the pool's lock is held, by the call of the rule that makes it, so the order is that of the
-    /// decisions: each submission with its reply, refused ones included, each take from the queue, the finish of each job, also of
-    /// one that panicked, each removal of a job that [`close_now`](ThreadPool::close_now) gives back, each idle end, each resize and
-    /// the closing. Its time is read before the lock is taken, in microseconds since the opening, and never goes back. If there are
-    /// more events than that, the record ends until the next call of `history`, whose text says how many are missing; the pool goes
-    /// on.
+    /// An event is recorded by the call of the rule that causes it, under the pool's lock, so the events are in the order of the
+    /// decisions: each submission with its reply (refused ones too), each take from the queue, the finish of each job (even if it
+    /// panicked), each removal of a job that [`close_now`](ThreadPool::close_now) gives back, each idle end, each resize and the closing.
+    /// An event's time is read before the lock is taken, in microseconds since the pool was opened, and never goes back. When the record
+    /// is full, later events are only counted until the next call of `history`, whose text says how many are missing; the pool continues.
     ///
     /// ```
     /// let pool = resil::ThreadPool::builder(1, 1).record(1_000).open()?;
@@ -100,21 +100,21 @@ impl ThreadPoolBuilder {
         self
     }
 
-    /// What starts the threads.
+    /// The function that starts the threads.
     #[cfg(test)]
     pub(super) fn start(mut self, start: super::crew::Start) -> Self {
         self.kind.start = start;
         self
     }
 
-    /// Opens the pool. No thread is started yet.
+    /// Opens the pool. It doesn't start a thread yet.
     ///
     /// # Errors
     ///
-    /// In this order: `NulInName` where the name has a byte 0; `RecordOutOfRange`; `CoreOutOfRange` where the core size isn't from
-    /// 1 to 64; `MaxOutOfRange` where the greatest size isn't from the core size to 64; `QueueOutOfRange`; `Memory` where there is
-    /// none for the library's pool, the record or the queue. What else is taken here and for each job, some hundred bytes, is taken as
-    /// everywhere in Rust: the process ends where it can't be had.
+    /// In this order: `NulInName` where the name has a byte 0; `RecordOutOfRange`; `CoreOutOfRange` where the core size isn't from 1 to
+    /// 1,024; `MaxOutOfRange` where the greatest size isn't from the core size to 1,024; `QueueOutOfRange`; `Memory` where there is none
+    /// for the library's pool, the record, the queue or the ends of jobs. What else is taken here and for each job, some hundred bytes, is
+    /// taken as everywhere in Rust: the process ends where it can't be had.
     ///
     /// ```
     /// let pool = resil::ThreadPool::builder(2, 4).queue(10).name("letters").open()?;
@@ -148,7 +148,8 @@ impl ThreadPoolBuilder {
             let own = observer.of_pool(&self.kind.name);
             Arc::new(Watch::new(&self.kind.name, observer, own))
         });
-        let crew = Crew::new(book, self.kind, recorded);
+        let ends = Ends::new(self.max as usize)?;
+        let crew = Crew::new(book, ends, self.kind, recorded);
         Ok(ThreadPool::new(Arc::new(crew), watch))
     }
 }

@@ -1,4 +1,4 @@
-//! A pool as its submitters see it: how jobs come in, how threads are started and called, and how all of it ends.
+//! A pool as its submitters see it: how jobs are submitted, how threads are started and called, and how it ends.
 use super::book::{Book, Job};
 use super::door::{Door, try_lock};
 use super::ends::Ends;
@@ -17,56 +17,56 @@ use std::sync::{Arc, Condvar, Mutex, MutexGuard};
 use std::thread::{self, JoinHandle};
 use std::time::{Duration, Instant, SystemTime};
 
-/// What starts a thread.
+/// The function that starts a thread.
 pub(super) type Start = fn(thread::Builder, Box<dyn FnOnce() + Send>) -> io::Result<JoinHandle<()>>;
 
 pub(super) type Guard<'a> = MutexGuard<'a, Book>;
 
-/// The threads of a pool, and the book that they share.
+/// A pool's threads, and the book that they share.
 pub(super) struct Crew {
     book: Mutex<Book>,
-    /// That of the book's inbox, for submissions without the lock.
+    /// The ring of the book's inbox, for submissions without the lock.
     pub(super) ring: Arc<Ring>,
-    /// Jobs that have ended while the book was taken.
+    /// Jobs that ended while the book was locked.
     pub(super) ends: Ends,
-    /// Where submitters wait that find the book taken, and where workers do that have run a job.
+    /// Where submitters that find the book locked wait. `workers` is the same for workers that have run a job.
     pub(super) submitters: Door,
     pub(super) workers: &'static Door,
-    /// Something was submitted while a thread searched.
+    /// Set if something was submitted while a thread searched.
     pub(super) found: AtomicBool,
-    /// Where threads sleep that have no job.
+    /// Where threads without a job sleep.
     pub(super) bell: Condvar,
-    /// Where those sleep that join.
+    /// Where joining threads sleep.
     pub(super) quiet: Condvar,
     pub(super) kind: Kind,
-    // Where it is recorded.
+    // Set if the pool is recorded.
     recorded: Option<Recorded>,
 }
 
-/// What is known of a record without the lock: when the pool was opened, and for how many events there is room. Each turn reads it,
-/// so it has a cache line that nobody writes to.
+/// What can be read of a record without the lock: when the pool was opened, and for how many events there is room. Each turn reads it, so
+/// it has a cache line that nobody writes to.
 #[repr(align(64))]
 pub(super) struct Recorded {
     pub(super) opened: Instant,
     pub(super) events: usize,
 }
 
-/// What the threads of a pool are like.
+/// What a pool's threads are like.
 #[derive(Clone)]
 pub(super) struct Kind {
     pub(super) name: String,
     pub(super) keep_alive: Duration,
     pub(super) stack_size: Option<usize>,
     pub(super) start: Start,
-    /// Whether each submission and each end of a job takes the lock, as a record wants it: its times are read just before.
+    /// Whether each submission and each end of a job takes the lock. A record needs this, since it reads each time just before.
     pub(super) by_lock: bool,
 }
 
 impl Crew {
-    pub(super) fn new(book: Book, kind: Kind, recorded: Option<Recorded>) -> Crew {
+    pub(super) fn new(book: Book, ends: Ends, kind: Kind, recorded: Option<Recorded>) -> Crew {
         Crew {
             ring: book.inbox.ring(),
-            ends: Ends::new(),
+            ends,
             book: Mutex::new(book),
             submitters: Door::of_submitters(),
             workers: Door::of_workers(),
@@ -93,7 +93,7 @@ impl Crew {
         }
     }
 
-    // Submits a task to the rule, and sees to a thread for it.
+    // Submits a task to the rule, and makes sure that a thread runs it.
     fn accept(self: &Arc<Self>, task: u64) -> Result<Reply, Refusal> {
         if let Some(calls) = self.ring.submit(task) {
             if calls {
@@ -102,6 +102,11 @@ impl Crew {
             return Ok(Reply::Queued);
         }
         let mut book = self.lock_to_submit();
+        // While this thread waited for the lock, another one may have been granted places.
+        if self.ring.submit(task).is_some() {
+            self.call(book);
+            return Ok(Reply::Queued);
+        }
         let reply = book.submit(task);
         match reply {
             Reply::Full => return Err(Refusal::Full),
@@ -118,7 +123,7 @@ impl Crew {
     pub(super) fn resize(&self, core: u32, max: u32) -> Result<(), PoolError> {
         let mut book = self.lock();
         book.resize(core, max)?;
-        // Those that sleep look whether they may end now.
+        // Sleeping threads check whether they may end now.
         book.call_all();
         drop(book);
         self.bell.notify_all();
@@ -139,7 +144,7 @@ impl Crew {
         waiting.into_iter().map(Unstarted::new).collect()
     }
 
-    // All look again at what there is to do: threads that sleep or search, and joins.
+    // Makes everyone check again what there is to do: sleeping or searching threads, and joins.
     fn wake_all(&self, mut book: Guard<'_>) {
         book.call_all();
         book.settle();
@@ -157,7 +162,7 @@ impl Crew {
         self.lock_settled().numbers()
     }
 
-    /// The text of what was recorded up to here, where the pool is recorded.
+    /// The text of what has been recorded so far, if the pool is recorded.
     pub(super) fn history(&self) -> Option<String> {
         let memory = memory_for(self.recorded.as_ref()?.events).ok()?;
         let system = SystemTime::now();
@@ -166,7 +171,7 @@ impl Crew {
         part.map(|part| part.text())
     }
 
-    /// Waits until a join is done, and joins the threads of a closed pool. None of both waits for this thread.
+    /// Waits until a join is done, and joins the threads of a closed pool. Neither waits for this thread.
     pub(super) fn join(&self) {
         let caller = Caller::of(self);
         let is_inside = caller.is_inside;
@@ -182,7 +187,7 @@ impl Crew {
         }
     }
 
-    /// Waits until a join is done, at most until the deadline; whether it is done.
+    /// Waits until a join is done or the deadline is over, and returns whether it is done.
     pub(super) fn join_until(&self, deadline: Option<Instant>) -> bool {
         self.wait_for_join(Caller::of(self), deadline).1
     }
@@ -205,7 +210,7 @@ impl Crew {
         (book, is_done)
     }
 
-    /// Wakes those whose join is done by what has changed.
+    /// Wakes the threads whose join is now done.
     pub(super) fn settle(&self, book: &mut Guard<'_>) {
         if book.settle() {
             self.quiet.notify_all();
@@ -216,7 +221,7 @@ impl Crew {
         self.turn(locked)
     }
 
-    // The same for whoever asks which jobs are finished.
+    // The same for callers that need to know which jobs are finished.
     fn lock_settled(&self) -> Guard<'_> {
         let mut book = self.lock();
         self.ends.settle();
@@ -233,7 +238,7 @@ impl Crew {
         self.turn(|book| self.workers.lock(book))
     }
 
-    /// Takes the lock for a worker whose answer isn't out yet: in a recorded pool, and else if it is free.
+    /// Takes the lock for a worker whose answer isn't out yet. In a pool that isn't recorded, only if it is free.
     pub(super) fn lock_to_end(&self) -> Option<Guard<'_>> {
         if self.kind.by_lock {
             return Some(self.lock_at_door());
@@ -244,7 +249,7 @@ impl Crew {
         Some(book)
     }
 
-    // Finishes the jobs that have ended without the lock, whose answers are out.
+    // Finishes the jobs that ended without the lock, once their answers are out.
     fn take_ends(&self, book: &mut Guard<'_>) {
         let before = book.running;
         self.ends
@@ -254,7 +259,7 @@ impl Crew {
         }
     }
 
-    // Takes the lock for a turn. Its time is read before, while nobody waits for it.
+    // Takes the lock for a turn. Its time is read before, so that no other thread waits for the clock.
     fn turn<'a>(&'a self, lock: impl FnOnce(&'a Mutex<Book>) -> Guard<'a>) -> Guard<'a> {
         let at = self.now();
         let mut book = lock(&self.book);
@@ -269,8 +274,7 @@ impl Crew {
         Some(time.as_secs() * 1_000_000 + u64::from(time.subsec_micros()))
     }
 
-    // Sees to it that what was queued is picked: by a thread that searches or sleeps, else by the next that has
-    // finished.
+    // Makes sure that the queued job is picked: by a thread that searches or sleeps, or else by the next one that finishes its job.
     fn see_to_queue(self: &Arc<Self>, mut book: Guard<'_>) {
         if book.missing > 0 {
             book.missing -= 1;
@@ -282,7 +286,7 @@ impl Crew {
         }
     }
 
-    /// Picks a job. Where the last one that waited is picked, those that held back are idle from here on.
+    /// Picks a job. After the last waiting job is picked, threads that held back are idle.
     pub(super) fn pick(&self, book: &mut Guard<'_>) -> Option<Job> {
         self.take_ends(book);
         let job = book.pick();
@@ -293,7 +297,7 @@ impl Crew {
         job
     }
 
-    /// Calls a thread where there is a job that it may pick.
+    /// Calls a thread if there is a job that it may pick.
     pub(super) fn call(&self, mut book: Guard<'_>) {
         if !book.has_work() {
             return;
@@ -306,7 +310,7 @@ impl Crew {
         }
     }
 
-    // Starts a thread that is counted already.
+    // Starts a thread, which is counted already.
     fn start_thread(self: &Arc<Self>) {
         let crew = Arc::clone(self);
         let number = {
@@ -325,8 +329,8 @@ impl Crew {
         }
     }
 
-    // There is one thread less than was counted. What was accepted is picked by another thread or, where there is none,
-    // by this one.
+    // Records that there is one thread fewer than counted. The accepted job is picked by another thread or, if there is none, run by this
+    // one.
     fn do_without(&self) {
         let mut book = self.lock();
         book.do_without();
@@ -351,7 +355,7 @@ impl Crew {
         }
     }
 
-    /// Finishes a job and hands its answer out, so that who has the answer and who has joined see the same.
+    /// Finishes a job and hands out its answer, so that the caller with the answer and a caller that has joined see the same numbers.
     pub(super) fn finish(&self, picked: &Picked, out: &mut HandOut<'_>, book: &mut Guard<'_>) {
         book.finish(picked);
         out.hand_out();
@@ -359,7 +363,7 @@ impl Crew {
     }
 }
 
-/// A submitter that runs a job, since there is no thread.
+/// A submitter that runs a job because there is no thread.
 struct Helper<'a> {
     crew: &'a Crew,
     running: &'a Running,

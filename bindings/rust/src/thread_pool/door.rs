@@ -1,37 +1,38 @@
-//! The doors of a pool, where threads wait that find its lock taken: one for submitters, one for workers that have run a job.
+//! A pool's doors, where threads wait if its lock is taken: one for submitters, one for workers that have run a job.
 //!
-//! The lock is held for short turns by threads that soon come again. Who finds it taken pauses, twice as long after each try,
-//! and then sleeps. No release wakes a sleeper: a wake-up takes as long as many turns, and what the lock guards would move to
-//! the cache of another processor each time. So the lock is left to those that are awake, and a worker lies down sooner than
-//! a submitter, who has more work to bring. Since a worker of a recorded pool has an answer in hand at its door, and any other may run
-//! the next job, whoever waits for an answer calls the workers in; a worker that finds nothing to do calls all in. No sleep needs a call: it ends with its time, each one takes
-//! twice as long as the one before, and behind the last a thread waits in the mutex's own row, where a release wakes the next.
+//! The lock is held for short turns, by threads that soon come back. A thread that finds it taken pauses, twice as long after each try,
+//! and then sleeps. Releasing the lock wakes nobody: a wake-up takes as long as many turns, and each time the guarded data would move to
+//! another processor's cache. So the lock is left to threads that are awake. A worker goes to sleep sooner than a submitter, which brings
+//! more jobs. A recorded pool's worker has an answer in hand at its door, and any other worker may run the next job. So a caller that
+//! waits for an answer ends the workers' sleeps, and a worker that finds nothing to do ends all sleeps. No sleep depends on this: each
+//! ends on its own and is twice as long as the one before, and after the last one the thread waits in the mutex's own queue, where a
+//! release wakes the next.
 use crate::lock::locked;
 use std::hint;
 use std::sync::atomic::{AtomicBool, AtomicUsize, Ordering};
 use std::sync::{Condvar, Mutex, MutexGuard, TryLockError};
 use std::time::Duration;
 
-/// How often a submitter and a worker pause, at first for one hint to the processor and then each time twice as long.
+/// How often a submitter and a worker pause: first for one hint to the processor, then each time twice as long.
 const PAUSES_OF_SUBMITTERS: u32 = 7;
-const PAUSES_OF_WORKERS: u32 = 4;
+const PAUSES_OF_WORKERS: u32 = 2;
 
-/// The first sleep, and how many there are.
+/// The length of the first sleep, and the number of sleeps.
 const FIRST_SLEEP: Duration = Duration::from_micros(100);
 const SLEEPS: u32 = 5;
 
-/// A door.
+/// A place where threads wait for a lock.
 pub(super) struct Door {
     pauses: u32,
-    // Somebody sleeps here, or did when it was set.
+    // Whether a thread sleeps here, or did when this was set.
     is_slept_at: AtomicBool,
-    // Whoever is about to sleep has it from when it sets that until it sleeps: so no call comes in between.
+    // A thread that is about to sleep holds it from when it sets `is_slept_at` until it sleeps, so that no call comes in between.
     threshold: Mutex<()>,
     bell: Condvar,
 }
 
-// A handle may call at the door of a pool that is gone. So the doors of workers are here for ever, and pools share them where there
-// are more: then a call ends sleeps of another pool too, which is too early at worst.
+// A handle may call at the door of a pool that no longer exists. So workers' doors live for ever, and pools share them if there are more
+// pools than doors. A call then also ends sleeps of another pool, at worst too early.
 static OF_WORKERS: [Door; 16] = [const { Door::new(PAUSES_OF_WORKERS) }; 16];
 static POOLS: AtomicUsize = AtomicUsize::new(0);
 
@@ -45,12 +46,12 @@ impl Door {
         }
     }
 
-    /// A door for the submitters of a pool.
+    /// A door for a pool's submitters.
     pub(super) const fn of_submitters() -> Door {
         Door::new(PAUSES_OF_SUBMITTERS)
     }
 
-    /// A door for the workers of the next pool.
+    /// A door for the next pool's workers.
     pub(super) fn of_workers() -> &'static Door {
         &OF_WORKERS[POOLS.fetch_add(1, Ordering::Relaxed) % OF_WORKERS.len()]
     }
@@ -81,7 +82,7 @@ impl Door {
         drop(woken);
     }
 
-    /// Ends the sleeps, where there are any.
+    /// Ends the sleeps, if there are any.
     pub(super) fn call_in(&self) {
         if self.is_slept_at.load(Ordering::Relaxed) {
             self.is_slept_at.store(false, Ordering::Relaxed);

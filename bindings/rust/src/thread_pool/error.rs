@@ -10,7 +10,7 @@ use std::sync::{Mutex, PoisonError};
 pub enum JobError {
     /// The function panicked.
     Panicked(JobPanic),
-    /// The pool was closed before the job began, and whoever had the job then dropped it.
+    /// The pool was closed before the job began, and then its holder dropped the job.
     Cancelled,
 }
 
@@ -34,10 +34,10 @@ impl fmt::Display for JobError {
 
 impl Error for JobError {}
 
-/// A panic of a job's function, with its payload.
+/// The panic of a job's function, with its payload.
 pub struct JobPanic {
     message: Option<String>,
-    // A payload may go to another thread, but not be shared: so it is reached by its owner alone.
+    // A payload may move to another thread but not be shared, so only its owner accesses it.
     payload: Mutex<Box<dyn Any + Send>>,
 }
 
@@ -51,13 +51,13 @@ impl JobPanic {
         }
     }
 
-    /// The message, where the payload is one.
+    /// The message, if the payload is a string.
     #[must_use]
     pub fn message(&self) -> Option<&str> {
         self.message.as_deref()
     }
 
-    /// The payload, as for [`resume_unwind`](std::panic::resume_unwind).
+    /// The payload, for [`resume_unwind`](std::panic::resume_unwind).
     #[must_use]
     pub fn into_payload(self) -> Box<dyn Any + Send> {
         let payload = self.payload.into_inner();
@@ -65,7 +65,7 @@ impl JobPanic {
     }
 }
 
-/// Two are equal where they have the same message. Payloads that are no text aren't compared: such a panic equals none.
+/// Equal if both have the same message. Payloads that aren't strings aren't compared: such a panic equals no other.
 impl PartialEq for JobPanic {
     fn eq(&self, other: &JobPanic) -> bool {
         self.message.is_some() && self.message == other.message

@@ -1,4 +1,4 @@
-//! What a caller has of a job that was accepted.
+//! A caller's handle of an accepted job.
 use super::door::Door;
 use super::error::JobError;
 use super::task::Held;
@@ -9,12 +9,12 @@ use std::pin::Pin;
 use std::task::{Context, Poll};
 use std::time::{Duration, Instant};
 
-/// The caller's hold of a job that was accepted, for its answer, by a wait or as a future on any runtime. A job whose
-/// handle is dropped is run all the same.
+/// A handle of an accepted job: it waits for the job's answer, or is a future of it on any runtime. Dropping the handle doesn't stop the
+/// job.
 ///
-/// A job that waits for another job of its own pool keeps its worker meanwhile. Where all workers wait so, none is left
-/// to run what they wait for, and nothing moves: neither does it where jobs wait for each other, or a job for its caller
-/// while that waits for the job. [`wait_for`](JobHandle::wait_for) gives up in time.
+/// A job that waits for another job of its own pool blocks its worker. If every worker does, none is left to run the others: a deadlock.
+/// The same happens if jobs wait for each other, or if a job waits for its caller while the caller waits for the job.
+/// [`wait_for`](JobHandle::wait_for) has a timeout.
 #[must_use = "a job runs without its handle, but its answer is lost"]
 pub struct JobHandle<T> {
     reply: Reply,
@@ -37,16 +37,16 @@ impl<T> JobHandle<T> {
         self.reply
     }
 
-    /// Waits for the answer, asleep. The job is finished in the pool's numbers then.
+    /// Blocks until the answer is there. The job then counts as finished in the pool's numbers.
     ///
     /// # Errors
     ///
-    /// `Panicked` where the function panicked; `Cancelled` where the pool was closed by
-    /// [`close_now`](crate::ThreadPool::close_now) before the job began, and what that gave back was dropped.
+    /// `Panicked` if the function panicked; `Cancelled` if the pool was closed by [`close_now`](crate::ThreadPool::close_now) before the
+    /// job began, and the returned job was dropped.
     ///
     /// # Panics
     ///
-    /// Where it was polled before, and was ready.
+    /// If it was polled before and was ready.
     ///
     /// ```
     /// # let pool = resil::ThreadPool::builder(1, 1).open()?;
@@ -57,22 +57,22 @@ impl<T> JobHandle<T> {
     pub fn wait(self) -> Result<T, JobError> {
         self.is_not_given();
         loop {
-            // SAFETY: the handle is this call's, and it ends with the answer.
+            // SAFETY: only this call has the handle, which ends with the answer.
             if let Some(answer) = unsafe { self.held.task().wait(self.workers, None) } {
                 return answer;
             }
         }
     }
 
-    /// Waits for the answer, asleep, for as long as this; `Duration::MAX` is a wait without an end.
+    /// Blocks for at most `limit` until the answer is there. `Duration::MAX` waits without a limit.
     ///
     /// # Errors
     ///
-    /// The handle, where the answer isn't there by then. Inside, as [`wait`](JobHandle::wait).
+    /// The handle, if there is no answer by then. Inside, those of [`wait`](JobHandle::wait).
     ///
     /// # Panics
     ///
-    /// As [`wait`](JobHandle::wait).
+    /// Those of [`wait`](JobHandle::wait).
     ///
     /// ```
     /// # use std::time::Duration;
@@ -86,16 +86,16 @@ impl<T> JobHandle<T> {
         self.is_not_given();
         match Instant::now().checked_add(limit) {
             None => Ok(self.wait()),
-            // SAFETY: the handle is this call's, which keeps it where there is an answer.
+            // SAFETY: only this call has the handle, which is dropped if there is an answer.
             deadline => unsafe { self.held.task().wait(self.workers, deadline) }.ok_or(self),
         }
     }
 
-    // A handle gives its answer once.
+    // A handle returns its answer only once.
     fn is_not_given(&self) {
         assert!(
             !self.held.task().is_given(),
-            "a job was asked after its answer"
+            "a job's handle was used after it returned the answer"
         );
     }
 
@@ -106,16 +106,16 @@ impl<T> JobHandle<T> {
     }
 }
 
-/// The answer, as [`wait`](JobHandle::wait) gives it.
+/// The answer, as [`wait`](JobHandle::wait) returns it.
 impl<T> Future for JobHandle<T> {
     type Output = Result<T, JobError>;
 
     /// # Panics
     ///
-    /// Where it is polled once more after it was ready.
+    /// If it is polled again after it was ready.
     fn poll(self: Pin<&mut Self>, context: &mut Context<'_>) -> Poll<Self::Output> {
         self.is_not_given();
-        // SAFETY: the handle is this call's alone, and hasn't given the answer.
+        // SAFETY: only this call has the handle, and it hasn't returned the answer.
         let answer = unsafe { self.held.task().poll(context.waker()) };
         if answer.is_pending() {
             self.workers.call_in();
@@ -124,7 +124,7 @@ impl<T> Future for JobHandle<T> {
     }
 }
 
-// A panic in a function is its answer, and leaves no handle half done.
+// A function's panic is its answer, and leaves no handle half done.
 impl<T> UnwindSafe for JobHandle<T> {}
 impl<T> RefUnwindSafe for JobHandle<T> {}
 

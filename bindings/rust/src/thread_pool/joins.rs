@@ -1,13 +1,13 @@
-//! Who waits in `join`, and for what.
+//! The callers that wait in `join`, and what they wait for.
 //!
-//! A join counts the jobs that were accepted before it and aren't finished. Each finish counts down, so what is
-//! submitted later is nothing to it. A join that was done once is done, whatever happens before its thread wakes.
+//! A join counts the jobs that were accepted before it and aren't finished. Each finish counts down, so later submissions don't matter to
+//! it. Once a join is done it stays done, whatever happens before its thread wakes.
 use super::inside::Caller;
 
-/// What the joins of a pool are judged by.
+/// The state that decides whether a pool's joins are done.
 #[derive(Clone, Copy)]
 pub(super) struct Threads {
-    /// How many threads work, or are about to be started.
+    /// How many threads work or are about to be started.
     pub(super) count: usize,
     pub(super) closed: bool,
 }
@@ -15,7 +15,7 @@ pub(super) struct Threads {
 struct Join {
     id: u64,
     caller: Caller,
-    // The number of the last submission before it, and how many jobs up to there aren't finished.
+    // The number of the last submission before it, and how many jobs up to that one aren't finished.
     last: u64,
     left: usize,
     is_done: bool,
@@ -28,7 +28,7 @@ pub(super) struct Joins {
 }
 
 impl Joins {
-    /// Begins a join after this submission, while so many jobs aren't finished, and gives its id.
+    /// Begins a join after submission `last`, with `left` unfinished jobs, and returns its id.
     pub(super) fn begin(&mut self, caller: Caller, last: u64, left: usize) -> u64 {
         self.begun += 1;
         self.all.push(Join {
@@ -51,24 +51,24 @@ impl Joins {
         self.all.iter().any(|join| join.id == id && join.is_done)
     }
 
-    /// How many there are.
+    /// The number of joins.
     #[cfg(test)]
     pub(super) fn count_all(&self) -> usize {
         self.all.len()
     }
 
-    /// Counts the end of the job of this number.
+    /// Counts the finish of the job with this number.
     pub(super) fn count(&mut self, number: u64) {
         for join in &mut self.all {
             join.left -= usize::from(number <= join.last);
         }
     }
 
-    /// Looks which joins are done, and says whether there are new ones.
+    /// Updates which joins are done, and returns whether there are new ones.
     ///
-    /// One that isn't called by a job waits for all that it counts and, where the pool is closed, until all threads have
-    /// ended. One that a job calls waits neither for this job nor for others that wait so; where the pool is closed, it
-    /// waits for the other threads. Where no other thread is left, nobody would do what it waits for.
+    /// A join that no job calls waits for all the jobs it counts and, if the pool is closed, until all threads have ended. A join that a
+    /// job calls waits neither for this job nor for others that are joining; if the pool is closed, it waits for the other threads. If no
+    /// other thread is left, it returns, since nobody would do what it waits for.
     pub(super) fn settle(&mut self, threads: Threads) -> bool {
         let mut any = false;
         for index in 0..self.all.len() {

@@ -1,4 +1,4 @@
-//! Jobs of an observed pool, which tell themselves when they begin and end.
+//! Jobs of an observed pool, which report their own start and end.
 use super::crew::Crew;
 use super::handle::JobHandle;
 use super::refused::Refused;
@@ -20,7 +20,7 @@ impl<T, F: FnOnce() -> T> Function<T> for Observed<F> {
         let Watch { name, observer, .. } = &*self.watch;
         let begun = self.watch.now();
         observer.job_started(name, begun.saturating_sub(self.submitted));
-        // The observer is called outside of the unwinding.
+        // The observer is called outside the unwinding.
         match catch_unwind(AssertUnwindSafe(self.function)) {
             Ok(answer) => {
                 observer.job_finished(name, self.watch.since(begun));
@@ -34,10 +34,10 @@ impl<T, F: FnOnce() -> T> Function<T> for Observed<F> {
     }
 }
 
-// Tells what has happened to a submission, whose outcome is the submitter's whatever the observer does.
+// Reports what happened to a submission. The submitter gets its result whatever the observer does.
 fn quietly(tell: impl FnOnce()) {
     if let Err(payload) = catch_unwind(AssertUnwindSafe(tell)) {
-        // The drop of a payload may panic again.
+        // Dropping a payload may panic again.
         std::mem::forget(payload);
     }
 }

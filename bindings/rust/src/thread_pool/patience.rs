@@ -1,28 +1,28 @@
-//! How long a thread looks for an answer or a job before it sleeps. A sleep and its end cost some microseconds of processor time, so it
-//! looks for longer if its last looks found something, and for a moment if they didn't: then another thread may want its processor.
-//! Once in a while it looks for longer all the same, or it would never find that this pays again.
+//! How long a thread spins for an answer or a job before it sleeps. Going to sleep and waking cost a few microseconds of processor time.
+//! So a thread spins longer if its last spins found something, and only briefly if they didn't, since another thread may want its
+//! processor. Now and then it spins longer anyway, or it would never notice that spinning pays again.
 use std::cell::Cell;
 use std::hint;
 use std::time::{Duration, Instant};
 
-/// The longest look, and the shortest.
+/// The longest and the shortest spin.
 const LONGEST: Duration = Duration::from_micros(20);
 const SHORTEST: Duration = Duration::from_nanos(500);
 
-/// After how many looks without success one is longer, and how long it is.
+/// After this many spins without success comes a longer one, and its length.
 const TRIAL: u32 = 8;
 const LONGER: Duration = Duration::from_micros(4);
 
-/// The longest pause between two looks, in hints to the processor. The first one is one hint, and each other one twice as long as
-/// before: meanwhile the worker that is to write the answer has it in its cache.
+/// The longest pause between two checks, in hints to the processor. The first is one hint, and each later one is twice as long: meanwhile
+/// the worker that is about to write the answer has it in its cache.
 const LONGEST_PAUSE: u32 = 8;
 
 thread_local! {
-    // For how long this thread looks next, and how many looks before found nothing.
+    // How long this thread spins next, and how many spins in a row found nothing.
     static LIMIT: Cell<(Duration, u32)> = const { Cell::new((SHORTEST, TRIAL - 1)) };
 }
 
-/// Looks for a while whether it is there, not beyond the deadline.
+/// Spins for a while, but not beyond the deadline, and returns whether it is there.
 pub(super) fn looks(deadline: Option<Instant>, is_there: impl Fn() -> bool) -> bool {
     let (begun, (usual, failed)) = (Instant::now(), LIMIT.get());
     let is_trial = failed % TRIAL == TRIAL - 1;

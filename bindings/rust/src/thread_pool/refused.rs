@@ -1,13 +1,13 @@
-//! What a submission that isn't accepted gives back.
+//! What a refused submission returns.
 use crate::texts::error_texts;
 use std::error::Error;
 use std::fmt;
 
-/// Why a job is refused.
+/// Why a job was refused.
 #[derive(Debug, Clone, Copy, PartialEq, Eq, Hash)]
 #[non_exhaustive]
 pub enum Refusal {
-    /// The queue is full and there are as many workers as the greatest size.
+    /// The queue is full and there are as many workers as the maximum size.
     Full,
     /// The pool is closed.
     Closed,
@@ -18,9 +18,9 @@ error_texts! { Refusal {
     Closed => "the pool is closed",
 }}
 
-/// A job that a pool refused: why, and its function, which wasn't called.
+/// A refused job: the reason, and its function, which wasn't called.
 pub struct Refused<F> {
-    /// Why it was refused.
+    /// Why the job was refused.
     pub reason: Refusal,
     /// The function that was submitted.
     pub function: F,

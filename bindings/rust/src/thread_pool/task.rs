@@ -1,11 +1,11 @@
-//! A function that was submitted, and its answer. A worker and a handle share it.
+//! A submitted function and its answer. A worker and a handle share it.
 //!
-//! The worker has the function, and writes the answer before it says `ANSWERED`; the handle reads the answer after it
-//! has seen that. One that finds no answer writes who it is before it says `AWAITED`, and sleeps; the worker that finds
-//! this wakes it. So nothing is locked. A worker knows a task by its address, which is the work that the rule keeps.
+//! The worker has the function, and writes the answer before it sets `ANSWERED`; the handle reads the answer after it has seen that. A
+//! handle that finds no answer writes how to wake it before it sets `AWAITED`, and sleeps; the worker that sees this wakes it. So there
+//! is no lock. A worker knows a task by its address, which is the work that the rule keeps.
 //!
-//! Each of the two says when it reaches the task for the last time, the worker with the answer where it wakes nobody. The one that
-//! finds that the other has left frees the task.
+//! Each of the two says when it accesses the task for the last time. The worker says so together with the answer if it wakes nobody.
+//! Whichever finds that the other has left frees the task.
 use super::door::Door;
 use super::error::JobError;
 use super::patience;
@@ -22,12 +22,12 @@ use std::time::Instant;
 const ANSWERED: u8 = 1;
 // The waiter is written, and the handle sleeps.
 const AWAITED: u8 = 2;
-// The worker reaches the task no more.
+// The worker no longer accesses the task.
 const WORKER_LEFT: u8 = 4;
-// The handle reaches the task no more.
+// The handle no longer accesses the task.
 const HANDLE_LEFT: u8 = 8;
 
-/// What a task runs: a function, or one that is observed.
+/// What a task runs: a function, or an observed one.
 pub(super) trait Function<T> {
     fn run(self) -> T;
 }
@@ -40,25 +40,25 @@ impl<T, F: FnOnce() -> T> Function<T> for F {
 
 /// What a worker does around the end of a task.
 pub(super) trait Worker {
-    /// Ends the job, and hands the answer out when it is time.
+    /// Ends the job, and hands out the answer at the right time.
     fn end(&mut self, out: &mut HandOut<'_>);
 
-    /// Tells the pool's rule of the end, if it doesn't know: a waker, which is code of the user's, may take long.
+    /// Reports the end to the pool's rule, unless it knows: a waker is user code, and may take long.
     fn tell(&mut self);
 
-    /// Makes ready for code of the user's: the drop of an answer that nobody asks for any more.
+    /// Prepares for user code: the drop of an answer that nobody wants any more.
     fn before_drop(&mut self);
 }
 
-/// An answer that is written and is to be handed out, where somebody asks for it.
+/// A written answer to hand out, if anyone wants it.
 pub(super) struct HandOut<'a> {
     state: Option<&'a AtomicU8>,
-    // What the state was before.
+    // The state before that.
     before: u8,
 }
 
 impl HandOut<'_> {
-    /// Hands the answer out, once. Where nobody is to be woken the worker has left.
+    /// Hands out the answer, once. If nobody is to be woken, the worker has left with this.
     pub(super) fn hand_out(&mut self) {
         let Some(state) = self.state.take() else {
             return;
@@ -72,15 +72,15 @@ impl HandOut<'_> {
     }
 }
 
-// Drops a value, whatever its drop does.
+// Drops a value, even if its drop panics.
 fn drop_quietly<V>(value: V) {
     if let Err(payload) = catch_unwind(AssertUnwindSafe(|| drop(value))) {
-        // The drop of a payload may panic again.
+        // Dropping a payload may panic again.
         std::mem::forget(payload);
     }
 }
 
-/// Who has a task that no pool runs.
+/// The worker of a task that no pool runs.
 pub(super) struct Absent;
 
 impl Worker for Absent {
@@ -89,7 +89,7 @@ impl Worker for Absent {
     fn before_drop(&mut self) {}
 }
 
-/// Who is to be woken by an answer.
+/// What an answer is to wake.
 enum Waiter {
     Thread(Thread),
     Task(Waker),
@@ -99,7 +99,7 @@ impl Waiter {
     fn wake(self) {
         match self {
             Waiter::Thread(thread) => thread.unpark(),
-            // The worker lives on, whatever the task's runtime does.
+            // The worker survives whatever the task's runtime does.
             Waiter::Task(waker) => {
                 if let Err(payload) = catch_unwind(AssertUnwindSafe(|| waker.wake())) {
                     std::mem::forget(payload);
@@ -109,47 +109,47 @@ impl Waiter {
     }
 }
 
-/// What becomes of the function of a task.
+/// What happens to a task's function.
 #[derive(Clone, Copy)]
 enum Fate {
     Called,
     Dropped,
 }
 
-/// The beginning of each task: how it is ended, whatever its types.
+/// The beginning of every task: how to end it, whatever its types.
 struct Header {
     end: unsafe fn(*const Header, Fate, &mut dyn Worker),
 }
 
 union Body<T, F> {
-    // From the making until a worker starts.
+    // Valid from when the task is made until a worker starts it.
     function: ManuallyDrop<F>,
-    // From `ANSWERED` until it is given.
+    // Valid from `ANSWERED` until it is given.
     answer: ManuallyDrop<Result<T, JobError>>,
 }
 
-// The header is first, so that its address is that of the task.
+// The header comes first, so that its address is the task's.
 #[repr(C)]
 pub(super) struct Task<T, F> {
     header: Header,
     state: AtomicU8,
-    // Whether the function was taken; the worker's, and after it the drop's.
+    // Whether the function was taken. Belongs to the worker, and then to the drop.
     started: UnsafeCell<bool>,
     // Whether the handle has taken the answer.
     given: AtomicBool,
-    // The handle's while it isn't `AWAITED`, and then the worker's.
+    // Belongs to the handle while the task isn't `AWAITED`, and then to the worker.
     waiter: UnsafeCell<Option<Waiter>>,
-    // The worker's until it is `ANSWERED`, and then the handle's.
+    // Belongs to the worker until the task is `ANSWERED`, and then to the handle.
     body: UnsafeCell<Body<T, F>>,
 }
 
-// SAFETY: the function goes to the worker and the answer to the handle. Each cell is reached by one of the two at a
-// time, as is said beside it: the atomic state hands it over.
+// SAFETY: the function goes to the worker and the answer to the handle. Only one of the two accesses a cell at a time, as its comment
+// says: the atomic state passes it from one to the other.
 unsafe impl<T: Send, F: Send> Send for Task<T, F> {}
 // SAFETY: as for `Send`.
 unsafe impl<T: Send, F: Send> Sync for Task<T, F> {}
 
-/// A task that its submitter alone has. Where it is accepted, it becomes a worker's and a handle's.
+/// A task that only its submitter has. If it is accepted, a worker and a handle share it.
 pub(super) struct Made<T, F>(NonNull<Task<T, F>>);
 
 impl<T, F> Made<T, F>
@@ -173,23 +173,23 @@ where
         Made(NonNull::from(Box::leak(task)))
     }
 
-    /// The number by which a worker knows it. Where it is accepted, that is the worker's share, which is given up by
-    /// [`Work::run`] or [`Work::cancel`].
+    /// The number by which a worker knows the task. If the task is accepted, this is the worker's share, which [`Work::run`] or
+    /// [`Work::cancel`] gives up.
     pub(super) fn number(&self) -> u64 {
         self.0.as_ptr().expose_provenance() as u64
     }
 
-    /// The handle's share of a task that is accepted.
+    /// The handle's share of an accepted task.
     pub(super) fn into_held(self) -> Held<T> {
         Held(self.0)
     }
 
-    /// The function of a task that is refused.
+    /// The function of a refused task.
     pub(super) fn into_function(self) -> F {
-        // SAFETY: it is a box that was leaked, and no share of it was given away.
+        // SAFETY: it is a leaked box, and no share of it was given away.
         let mut task = unsafe { Box::from_raw(self.0.as_ptr()) };
         *task.started.get_mut() = true;
-        // SAFETY: it wasn't started, so the function is there; `started` says that it is taken now.
+        // SAFETY: the task wasn't started, so the function is there; `started` now says that it is taken.
         unsafe { ManuallyDrop::take(&mut task.body.get_mut().function) }
     }
 }
@@ -199,12 +199,11 @@ where
     T: Send,
     F: Function<T> + Send,
 {
-    // SAFETY: the header is that of a task of these types, whose worker's share is this call's; no other call of it was
-    // made.
+    // SAFETY: the header is that of a task of these types, this call has the worker's share, and it is the only such call.
     unsafe fn end(header: *const Header, fate: Fate, worker: &mut dyn Worker) {
         let task = header.cast::<Task<T, F>>().cast_mut();
-        // SAFETY: the task is there until the worker has left, which is below. One call starts it, so the function is
-        // there, and nobody else reaches it.
+        // SAFETY: the task exists until the worker leaves, below. Only one call starts it, so the function is there, and nobody else
+        // accesses it.
         let (function, state) = unsafe {
             *(*task).started.get() = true;
             let function = ManuallyDrop::take(&mut (*(*task).body.get()).function);
@@ -219,14 +218,14 @@ where
                 Err(JobError::Cancelled)
             }
         };
-        // Where the handle is gone, nobody asks for the answer.
+        // If the handle is gone, nobody wants the answer.
         let asked = state.load(Ordering::Relaxed) & HANDLE_LEFT == 0;
         let mut out = HandOut {
             state: asked.then_some(state),
             before: HANDLE_LEFT,
         };
         if asked {
-            // SAFETY: it isn't answered yet, so the body is this call's.
+            // SAFETY: the task isn't answered yet, so the body is this call's.
             unsafe { (*(*task).body.get()).answer = ManuallyDrop::new(answer) };
         } else {
             drop_quietly(answer);
@@ -235,7 +234,7 @@ where
         out.hand_out();
         let mut before = out.before;
         if before & AWAITED != 0 {
-            // SAFETY: it was awaited when it was answered, so the waiter is this call's, which leaves behind that.
+            // SAFETY: the task was awaited when it was answered, so the waiter is this call's, and the worker leaves only after this.
             let waiter = unsafe {
                 let waiter = (*(*task).waiter.get()).take();
                 before = (*task).state.fetch_or(WORKER_LEFT, Ordering::AcqRel);
@@ -246,14 +245,14 @@ where
             }
             waiter.into_iter().for_each(Waiter::wake);
         }
-        // The handle may have gone meanwhile, and left the answer here, or a waker before.
+        // The handle may have left meanwhile, and left the answer here, or an earlier waker.
         if before & HANDLE_LEFT != 0 {
             if asked {
                 worker.before_drop();
             }
-            // What the handle did comes before this.
+            // Everything that the handle did comes before this.
             atomic::fence(Ordering::Acquire);
-            // SAFETY: it is a box that was leaked, and the handle had left it when the worker did.
+            // SAFETY: it is a leaked box, and the handle had left it when the worker did.
             drop_quietly(unsafe { Box::from_raw(task) });
         }
     }
@@ -274,18 +273,18 @@ impl<T, F> Drop for Task<T, F> {
     }
 }
 
-/// A worker's share of a task, of whatever types.
+/// A worker's share of a task, of any types.
 pub(super) struct Work(*const Header);
 
-// SAFETY: a task is made of a function and an answer that may go to another thread.
+// SAFETY: a task consists of a function and an answer that may move to another thread.
 unsafe impl Send for Work {}
 
 impl Work {
-    /// The share of a task by its number.
+    /// Makes the share of a task from its number.
     ///
     /// # Safety
     ///
-    /// The number is that of a task, of which a share was made that no other `Work` has.
+    /// The number must be that of a task with a share that no other `Work` has.
     #[allow(
         clippy::cast_possible_truncation,
         reason = "the number was made of an address"
@@ -294,35 +293,32 @@ impl Work {
         Work(ptr::with_exposed_provenance(number as usize))
     }
 
-    /// Calls the function, has the worker end the job, and wakes a handle that sleeps. It doesn't panic, whatever the
-    /// function does.
+    /// Calls the function, makes the worker end the job, and wakes a sleeping handle. This doesn't panic, whatever the function does.
     pub(super) fn run(self, worker: &mut dyn Worker) {
         self.end(Fate::Called, worker);
     }
 
-    /// Drops the function, which is answered by [`JobError::Cancelled`], and else does what `run` does.
+    /// Drops the function, with the answer [`JobError::Cancelled`], and otherwise does what `run` does.
     pub(super) fn cancel(self, worker: &mut dyn Worker) {
         self.end(Fate::Dropped, worker);
     }
 
     fn end(self, fate: Fate, worker: &mut dyn Worker) {
-        // SAFETY: it is the one share of a task, given up by this call, so the header is there, and is that of its
-        // types.
+        // SAFETY: it is the only share of a task, given up by this call, so the header is there and is that of the task's types.
         unsafe { ((*self.0).end)(self.0, fate, worker) }
     }
 }
 
 /// What a handle does with a task.
 pub(super) trait Answer<T>: Send + Sync {
-    /// The answer, once it is there; none where it isn't at the deadline. While it looks for it, it calls in those that sleep at
-    /// this door.
+    /// Returns the answer once it is there, or `None` if it isn't there by the deadline. While it waits, it ends sleeps at this door.
     ///
     /// # Safety
     ///
-    /// One thread at a time calls it, and none once it has given the answer.
+    /// Only one thread at a time may call it, and none once it has returned the answer.
     unsafe fn wait(&self, door: &Door, deadline: Option<Instant>) -> Option<Result<T, JobError>>;
 
-    /// The answer, where it is there; else the waker is woken once it is.
+    /// Returns the answer if it is there. Otherwise `waker` is woken once it is.
     ///
     /// # Safety
     ///
@@ -341,18 +337,18 @@ pub(super) trait Answer<T>: Send + Sync {
 
 impl<T: Send, F: Send> Answer<T> for Task<T, F> {
     unsafe fn wait(&self, door: &Door, deadline: Option<Instant>) -> Option<Result<T, JobError>> {
-        // SAFETY: as is asked of the caller.
+        // SAFETY: required of the caller.
         if !self.is_there() && !unsafe { self.sleep(door, deadline) } {
             return None;
         }
-        // SAFETY: it is answered, and the answer wasn't given before.
+        // SAFETY: the task is answered, and the answer hasn't been given.
         Some(unsafe { self.give() })
     }
 
     unsafe fn poll(&self, waker: &Waker) -> Poll<Result<T, JobError>> {
-        // SAFETY: as is asked of the caller.
+        // SAFETY: required of the caller.
         if self.is_there() || unsafe { self.is_answered_or_wakes(Waiter::Task(waker.clone())) } {
-            // SAFETY: it is answered, and the answer wasn't given before.
+            // SAFETY: the task is answered, and the answer hasn't been given.
             return Poll::Ready(unsafe { self.give() });
         }
         Poll::Pending
@@ -372,18 +368,18 @@ impl<T: Send, F: Send> Answer<T> for Task<T, F> {
 }
 
 impl<T: Send, F: Send> Task<T, F> {
-    // Hands the answer to the handle.
+    // Gives the answer to the handle.
     //
-    // SAFETY: it is there, and wasn't given.
+    // SAFETY: the answer must be there, and not given yet.
     unsafe fn give(&self) -> Result<T, JobError> {
         self.given.store(true, Ordering::Relaxed);
-        // SAFETY: it is answered, so the body is the handle's, and the answer wasn't taken before.
+        // SAFETY: the task is answered, so the body is the handle's, and the answer hasn't been taken.
         unsafe { ManuallyDrop::take(&mut (*self.body.get()).answer) }
     }
 
-    // Whether the answer is there; else the waiter is woken once it is, in place of one before.
+    // Returns whether the answer is there. If not, this waiter is woken once it is, instead of an earlier one.
     //
-    // SAFETY: one thread at a time calls it.
+    // SAFETY: only one thread at a time may call it.
     unsafe fn is_answered_or_wakes(&self, waiter: Waiter) -> bool {
         // From here on the waiter is the handle's again, unless there is an answer.
         if self.state.load(Ordering::Relaxed) & AWAITED != 0
@@ -391,14 +387,14 @@ impl<T: Send, F: Send> Task<T, F> {
         {
             return true;
         }
-        // SAFETY: it isn't awaited, so the waiter is the handle's.
+        // SAFETY: the task isn't awaited, so the waiter is the handle's.
         unsafe { *self.waiter.get() = Some(waiter) };
         self.state.fetch_or(AWAITED, Ordering::AcqRel) & ANSWERED != 0
     }
 
-    // Sleeps until there is an answer, and says whether there is.
+    // Sleeps until there is an answer or the deadline is over, and returns whether there is one.
     //
-    // SAFETY: one thread at a time calls it.
+    // SAFETY: only one thread at a time may call it.
     unsafe fn sleep(&self, door: &Door, deadline: Option<Instant>) -> bool {
         let looks = || {
             door.call_in();
@@ -407,7 +403,7 @@ impl<T: Send, F: Send> Task<T, F> {
         if patience::looks(deadline, looks) {
             return true;
         }
-        // SAFETY: as is asked of the caller.
+        // SAFETY: required of the caller.
         if unsafe { self.is_answered_or_wakes(Waiter::Thread(thread::current())) } {
             return true;
         }
@@ -429,14 +425,14 @@ impl<T: Send, F: Send> Task<T, F> {
 /// A handle's share of a task.
 pub(super) struct Held<T>(NonNull<dyn Answer<T>>);
 
-// SAFETY: it is a reference to an `Answer`, which is `Sync`, and frees it at most, which is `Send`.
+// SAFETY: it is a reference to an `Answer`, which is `Sync`, and at most it frees it, which is `Send`.
 unsafe impl<T> Send for Held<T> {}
 // SAFETY: as for `Send`.
 unsafe impl<T> Sync for Held<T> {}
 
 impl<T> Held<T> {
     pub(super) fn task(&self) -> &dyn Answer<T> {
-        // SAFETY: the task is there until the handle has left, which is its drop.
+        // SAFETY: the task exists until the handle leaves, in its drop.
         unsafe { self.0.as_ref() }
     }
 }
@@ -444,14 +440,14 @@ impl<T> Held<T> {
 impl<T> Drop for Held<T> {
     fn drop(&mut self) {
         let state: *const AtomicU8 = self.task().state();
-        // SAFETY: the task is there until the last of these two steps, by which the handle leaves. From there on nothing of it
-        // is borrowed.
+        // SAFETY: the task exists until the last of these two operations, in which the handle leaves. After that nothing of it is
+        // borrowed.
         let is_last = unsafe {
             (*state).load(Ordering::Acquire) & WORKER_LEFT != 0
                 || (*state).fetch_or(HANDLE_LEFT, Ordering::AcqRel) & WORKER_LEFT != 0
         };
         if is_last {
-            // SAFETY: it is a box that was leaked, and the worker had left it when the handle did.
+            // SAFETY: it is a leaked box, and the worker had left it when the handle did.
             drop(unsafe { Box::from_raw(self.0.as_ptr()) });
         }
     }

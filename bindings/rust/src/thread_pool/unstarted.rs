@@ -1,11 +1,10 @@
-//! A job that its pool gives back.
+//! A job that its pool has given back.
 use super::task::{Absent, Work};
 use std::fmt;
 
-/// A job that was accepted and hadn't begun when its pool was closed by
-/// [`close_now`](crate::ThreadPool::close_now), with its function.
+/// A job that was accepted but hadn't begun when its pool was closed by [`close_now`](crate::ThreadPool::close_now), with its function.
 ///
-/// Whoever has it runs it or drops it. Its handle has the answer then, or [`Cancelled`](crate::JobError::Cancelled).
+/// Run it or drop it: its handle then gets the answer, or [`Cancelled`](crate::JobError::Cancelled).
 #[must_use = "a job that is dropped is cancelled"]
 pub struct Unstarted {
     // Taken when it is run.
@@ -17,8 +16,8 @@ impl Unstarted {
         Unstarted { work: Some(work) }
     }
 
-    /// Calls the function on this thread, and hands its answer to the handle. It doesn't panic: where the function does,
-    /// that is the answer.
+    /// Calls the function on this thread, and passes its answer to the handle. This doesn't panic: if the function does, that is the
+    /// answer.
     pub fn run(mut self) {
         if let Some(work) = self.work.take() {
             work.run(&mut Absent);

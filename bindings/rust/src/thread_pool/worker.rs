@@ -1,8 +1,7 @@
-//! The life of a thread: how it looks for jobs, runs them, sleeps and ends.
+//! A thread's life: how it finds jobs, runs them, sleeps and ends.
 //!
-//! A submission that is queued calls a thread where one sleeps. A thread that finds nothing looks on for a moment, one
-//! at a time, and then sleeps; what is submitted meanwhile wakes nobody, and the one that finds it calls the next where
-//! there is more.
+//! A queued submission calls a sleeping thread, if there is one. A thread that finds no job keeps searching for a moment, one thread at a
+//! time, and then sleeps. Submissions made meanwhile wake nobody; the thread that finds one calls the next if there are more.
 use super::book::Job;
 use super::crew::{Crew, Guard};
 use super::inside::{self, Running};
@@ -17,14 +16,14 @@ use std::time::Instant;
 /// What a thread does next.
 enum Next {
     Run(Job),
-    /// From when this was the next place of the inbox.
+    /// The inbox's next place when the search began.
     Search(u64),
     Sleep,
     End,
 }
 
 impl Crew {
-    /// Works until the pool is closed and nothing is left, or until an idle thread may end.
+    /// Works until the pool is closed and no job is left, or until an idle thread may end.
     pub(super) fn work(&self) {
         inside::begin();
         let mut book = self.lock();
@@ -43,7 +42,7 @@ impl Crew {
         }
     }
 
-    // Runs and finishes a job, and picks the next while the lock is held.
+    // Runs and finishes a job, and picks the next one under the same lock.
     fn run(&self, job: Job) -> Next {
         let running = Running::new(self, job.picked.id.number, true);
         let mut member = Member {
@@ -70,9 +69,9 @@ impl Crew {
         Next::Search(book.inbox.taken)
     }
 
-    // Looks for a moment whether something is submitted.
+    // Checks for a moment whether something is submitted.
     fn search(&self, taken: u64) -> Next {
-        // Who sleeps at a door may have work for this thread.
+        // A thread that sleeps at a door may have a job for this one.
         self.submitters.call_in();
         self.workers.call_in();
         patience::looks(None, || {
@@ -97,7 +96,7 @@ impl Crew {
             let called;
             (book, called) = self.wait(book);
             if called {
-                // Where the call comes too late, the next may be near.
+                // If the call came too late, the next job may come soon.
                 let next = self.next(&mut book);
                 self.call(book);
                 return next;
@@ -114,8 +113,8 @@ impl Crew {
         Next::End
     }
 
-    // Waits until this thread is called, or until the keep-alive is over; whether it was called. One that holds back is
-    // called once the queue is empty or the sizes are others.
+    // Waits until this thread is called or the keep-alive is over, and returns whether it was called. A thread that holds back is called
+    // once the queue is empty or the sizes have changed.
     fn wait<'a>(&self, mut book: Guard<'a>) -> (Guard<'a>, bool) {
         book.asleep += 1;
         book.set_calls();
@@ -179,7 +178,7 @@ impl Worker for Member<'_> {
         }
     }
 
-    // A thread that does other things doesn't search.
+    // A thread that does other things must not be the one that searches.
     fn before_drop(&mut self) {
         self.tell();
         if let Some(Next::Search(_)) = self.next {

@@ -1,4 +1,4 @@
-//! What several tests have in common. Each takes a part of it.
+//! Shared by several tests. Each uses a part of it.
 #![allow(dead_code)]
 
 use resil::{Bulkhead, JobHandle, ThreadPool};
@@ -28,7 +28,7 @@ pub fn until(mut is_so: impl FnMut() -> bool) -> bool {
     true
 }
 
-/// The memory that this process has now, in KiB, without what is mapped from files. Linux says it.
+/// The memory that this process has now, in KiB, without mapped files, as Linux reports it.
 pub fn resident() -> Result<u64, Box<dyn Error>> {
     let status = std::fs::read_to_string("/proc/self/status")?;
     let line = status.lines().find(|line| line.starts_with("RssAnon:"));
@@ -75,7 +75,7 @@ pub fn in_time<T>(job: JobHandle<T>) -> Result<T, Box<dyn Error>> {
     Ok(job.wait_for(PATIENCE).map_err(|_| "a job isn't run")??)
 }
 
-/// What this gives on another thread.
+/// What this returns on another thread.
 pub fn elsewhere<T: Send + 'static>(f: impl FnOnce() -> T + Send + 'static) -> Result<T, String> {
     thread::spawn(f).join().map_err(|_| "it panicked".into())
 }
@@ -118,7 +118,7 @@ pub fn block_on<F: Future>(future: F) -> F::Output {
     }
 }
 
-/// What a look at a future gives; none where it is pending.
+/// What a poll of a future returns; none while it is pending.
 pub fn poll_by<F: Future + Unpin>(future: &mut F, caller: &Arc<Caller>) -> Option<F::Output> {
     look(future, &Waker::from(Arc::clone(caller)))
 }

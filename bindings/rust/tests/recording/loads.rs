@@ -1,5 +1,5 @@
-//! Random loads of recorded pools: each seed is one, whatever the threads make of it. `RESIL_LOADS='FIRST COUNT FOLDER'` has the ignored
-//! test write the texts of so many into a folder, for `tools/check_bindings`.
+//! Random loads of recorded pools: each seed is one load, whatever the threads make of it. `RESIL_LOADS='FIRST COUNT FOLDER'` makes the
+//! ignored test write the texts of that many into a folder, for `tools/check_bindings`.
 use super::common::Checked;
 use super::text::Text;
 use resil::{ThreadPool, Unstarted};
@@ -9,10 +9,10 @@ use std::sync::atomic::{AtomicU64, Ordering};
 use std::time::{Duration, SystemTime};
 use std::{env, fs, panic, thread};
 
-/// How many loads go at once.
+/// How many loads run at the same time.
 const AT_ONCE: u64 = 4;
 
-/// Numbers by a seed, as xorshift64* makes them.
+/// Numbers from a seed, made by xorshift64*.
 struct Random(u64);
 
 impl Random {
@@ -47,7 +47,7 @@ struct Counted {
     dropped: AtomicU64,
 }
 
-/// A load: when it was opened, its pool, the greatest size, the keep-alive in microseconds, and what its callers have counted.
+/// A load: when it was opened, its pool, the maximum size, the keep-alive in microseconds, and what its callers have counted.
 struct Load {
     opened: SystemTime,
     pool: Arc<ThreadPool>,
@@ -58,7 +58,9 @@ struct Load {
 
 impl Load {
     fn open(random: &mut Random) -> Result<Load, Box<dyn Error>> {
-        let core = 1 + random.below(6);
+        // Some have more threads than a byte can count, or a word has bits.
+        let more = [0, 0, 0, 0, 0, 0, 0, 0, 61, 300][random.below(10) as usize];
+        let core = 1 + random.below(6) + more;
         let max = core + random.below(5);
         let room = [100_000, 25_000, 25_000, 400, 50][random.below(5) as usize];
         let most = [40, 40, 400][random.below(3) as usize];
@@ -76,7 +78,7 @@ impl Load {
         })
     }
 
-    // Submits jobs, of which some panic, some submit another one, and some are waited for.
+    // Submits jobs: some panic, some submit another one, and some are waited for.
     fn call(&self, random: &mut Random) {
         let pause = 1 + random.below(300);
         for _ in 0..10 + random.below(50) {
@@ -111,7 +113,7 @@ impl Load {
         }
     }
 
-    // Resizes the pool, begins the record anew, and maybe closes the pool in the middle.
+    // Resizes the pool, begins new parts of the record, and maybe closes the pool in the middle.
     fn manage(&self, random: &mut Random) -> Result<Vec<String>, Box<dyn Error>> {
         let mut texts = Vec::new();
         for _ in 0..random.below(12) {
@@ -160,7 +162,7 @@ impl Load {
         Ok(texts)
     }
 
-    // Holds the texts against what the pool and the callers have counted, and against each other.
+    // Checks the texts against what the pool and the callers have counted, and against each other.
     fn check(&self, texts: &[String]) -> Checked {
         let texts = texts.iter().map(|text| Text::of(text));
         let texts = texts.collect::<Result<Vec<_>, _>>()?;
@@ -200,7 +202,7 @@ impl Load {
             assert_eq!(submitted, self.counted.submitted.load(Ordering::SeqCst));
             assert_eq!(refused, self.counted.refused.load(Ordering::SeqCst));
             assert_eq!(sum("submit", "full,,") + sum("submit", "closed,,"), refused);
-            // What came back is removed, and nobody takes or finishes it.
+            // Jobs that were given back are removed, and nobody takes or finishes them.
             let back = self.counted.back.load(Ordering::SeqCst);
             assert_eq!(sum("remove", ""), back);
             assert_eq!(sum("take", ""), sum("submit", "queued,,") - back);
@@ -221,7 +223,7 @@ where
     job
 }
 
-// The texts of the load of a seed, which fit.
+// The texts of the load with this seed, checked.
 fn load(seed: u64) -> Result<Vec<String>, Box<dyn Error>> {
     let mut random = Random::new(seed);
     let load = Load::open(&mut random)?;
@@ -230,7 +232,7 @@ fn load(seed: u64) -> Result<Vec<String>, Box<dyn Error>> {
     Ok(texts)
 }
 
-// Does these loads, some at once.
+// Runs these loads, several at a time.
 fn each(first: u64, count: u64, done: impl Fn(u64, Vec<String>) -> Checked + Sync) {
     let next = AtomicU64::new(first);
     let some = || {

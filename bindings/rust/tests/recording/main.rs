@@ -1,4 +1,4 @@
-//! The record of a pool: what is noted, where it ends and begins anew, and that nothing is recorded where nobody asks.
+//! A pool's record: what is recorded, where it ends and begins again, and that nothing is recorded unless asked for.
 #[path = "../common/mod.rs"]
 mod common;
 mod loads;
@@ -35,7 +35,7 @@ fn what_no_history_says_is_refused_at_the_opening() {
     };
     assert_eq!(refused(1, 1, 1, 0), Some(PoolError::RecordOutOfRange));
     assert_eq!(refused(1, 1, 1, 100_001), Some(PoolError::RecordOutOfRange));
-    assert_eq!(refused(64, 64, 65_536, 100_000), None);
+    assert_eq!(refused(1_024, 1_024, 65_536, 100_000), None);
     let told = PoolError::RecordOutOfRange.to_string();
     assert_eq!(told, "the record is not for 1 to 100000 events");
 }
@@ -113,7 +113,7 @@ fn the_longest_record_is_an_input() -> Checked {
     for _ in 2..100_000 {
         assert!(pool.submit(|| ()).is_err());
     }
-    // The 100,001st event isn't noted, but counted, and the pool goes on.
+    // The 100,001st event isn't recorded, but counted, and the pool goes on.
     end(running)?;
     end(waiting)?;
     pool.submit(|| 42)?.wait()?;
@@ -129,7 +129,7 @@ fn the_longest_record_is_an_input() -> Checked {
     Ok(())
 }
 
-// One job runs and five wait: six events would make that.
+// One job runs and five wait: it would take six events to recreate that.
 #[test]
 fn a_record_is_empty_where_more_jobs_wait_than_it_has_room_for() -> Checked {
     let pool = ThreadPool::builder(1, 1).queue(5).record(5).open()?;
@@ -174,7 +174,7 @@ fn a_part_begins_with_the_state_of_the_pool() -> Checked {
     ];
     assert_eq!(text.events, wanted);
     assert_eq!((text.sizes, text.made), ([2, 4, 2], 8));
-    // The fourth one comes back: it waits no more, and nobody takes it.
+    // The fourth one is given back: it no longer waits, and nobody takes it.
     drop(pool.close_now());
     let text = history(&pool)?;
     assert_eq!((text.sizes, text.made, text.version), ([1, 4, 2], 7, 4));
@@ -278,14 +278,14 @@ fn a_head_says_when_its_first_event_was() -> Checked {
     let pool = ThreadPool::builder(1, 1).record(100).open()?;
     thread::sleep(pause);
     pool.submit(|| ())?.wait()?;
-    // The two clocks may part by some microseconds.
+    // The two clocks may drift apart by some microseconds.
     thread::sleep(moment_more);
     let between = now()?;
     let first = moment(&pool, &["submit,1,1,core,,", "finish,1,1,,,"])?;
     assert!(before + pause <= first && first <= between);
     thread::sleep(moment_more);
     let after = now()?;
-    // What makes the state was at the end of the first part.
+    // The events that recreate the state have the time at which the first part ended.
     let second = moment(&pool, &["submit,2,1,core,,", "finish,2,1,,,"])?;
     assert!(between <= second && second <= after);
     Ok(())

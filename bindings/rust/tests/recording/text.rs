@@ -1,4 +1,4 @@
-//! A text of a history, read: its head, its events, and the state of the pool that they come to.
+//! The text of a history, parsed: its head, its events, and the pool's state that follows from them.
 use std::error::Error;
 use std::str::FromStr;
 use std::time::{Duration, SystemTime, UNIX_EPOCH};
@@ -7,24 +7,24 @@ type Read<T> = Result<T, Box<dyn Error>>;
 
 /// A text of a history.
 pub struct Text {
-    /// The core size, the greatest size and the queue's capacity of its head.
+    /// The core size, the maximum size and the queue's capacity in its head.
     pub sizes: [u32; 3],
     /// After how many microseconds an idle worker may end, and when the first event was.
     pub idle_for: u64,
     pub began: Option<SystemTime>,
     /// The version of the text.
     pub version: u32,
-    /// How many events make the state at its beginning, and how many are missing behind its last one.
+    /// How many events recreate the state at its beginning, and how many are missing after its last one.
     pub made: usize,
     pub missed: u64,
-    /// Whether it has no events for want of room.
+    /// Whether it has no events for lack of room.
     pub is_empty: bool,
     /// The events without their times and the empty field before these that version 4 has, and the times.
     pub events: Vec<String>,
     pub times: Vec<u64>,
 }
 
-/// What is to be seen of a pool.
+/// The observable state of a pool.
 #[derive(Debug, Default, PartialEq)]
 pub struct State {
     workers: u32,
@@ -34,7 +34,7 @@ pub struct State {
     is_closed: bool,
 }
 
-// The number behind these words, or 0 where they aren't there.
+// The number after these words, or 0 if they aren't there.
 fn number_behind<T: Default + FromStr>(text: &str, words: &str) -> T {
     let rest = text.split_once(words).map_or("", |(_, rest)| rest);
     let number = rest.split(' ').next().unwrap_or_default();
@@ -113,14 +113,14 @@ impl Text {
         })
     }
 
-    /// How many events behind those that make the state begin and end with these words.
+    /// How many events after those that recreate the state begin and end with these words.
     pub fn count(&self, first: &str, last: &str) -> u64 {
         let events = self.events[self.made..].iter();
         let events = events.filter(|event| event.starts_with(first) && event.ends_with(last));
         events.count() as u64
     }
 
-    /// The state behind the first events.
+    /// The state after the first events.
     pub fn state_behind(&self, count: usize) -> Read<State> {
         let [core, max, _] = self.sizes;
         let mut state = State {

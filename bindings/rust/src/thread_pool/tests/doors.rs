@@ -6,7 +6,7 @@ use std::sync::Mutex;
 use std::thread;
 use std::time::{Duration, Instant};
 
-// Threads that each take a lock so often while it is held for a while, and then count.
+// Threads that each take a lock this often while it is held for a while, and then count.
 fn count_behind(door: &Door, threads: u32, times: u32, held: Duration) -> u32 {
     let count = Mutex::new(0);
     let first = door.lock(&count);
@@ -23,7 +23,7 @@ fn count_behind(door: &Door, threads: u32, times: u32, held: Duration) -> u32 {
 
 #[test]
 fn a_lock_that_is_held_for_long_is_had_in_the_end() {
-    // Longer than all sleeps take.
+    // Longer than all sleeps together.
     let held = Duration::from_millis(20);
     assert_eq!(count_behind(&Door::of_submitters(), 3, 1, held), 3);
     assert_eq!(count_behind(Door::of_workers(), 3, 1, held), 3);

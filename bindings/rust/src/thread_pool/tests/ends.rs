@@ -28,7 +28,7 @@ fn all(ends: &Ends) -> Vec<(u32, u64)> {
 
 #[test]
 fn an_end_is_told_once_when_its_answer_is_out() {
-    let ends = Ends::new();
+    let ends = Ends::new(64).expect("memory");
     end(&ends, 63, 7, || ());
     end(&ends, 0, 9, || {
         assert_eq!(all(&ends), [(63, 7)]);
@@ -40,8 +40,22 @@ fn an_end_is_told_once_when_its_answer_is_out() {
 }
 
 #[test]
+fn ends_at_any_of_1024_places_are_told_by_their_place() {
+    let ends = Ends::new(1_024).expect("memory");
+    let places = [0, 63, 64, 127, 128, 1_023];
+    for place in places {
+        end(&ends, place, u64::from(place) + 1, || ());
+    }
+    assert_eq!(
+        all(&ends),
+        places.map(|place| (place, u64::from(place) + 1))
+    );
+    assert_eq!(all(&ends), []);
+}
+
+#[test]
 fn whoever_asks_waits_for_answers_that_are_on_their_way() {
-    let (ends, is_out) = (Ends::new(), AtomicBool::new(false));
+    let (ends, is_out) = (Ends::new(6).expect("memory"), AtomicBool::new(false));
     let (begins, begun) = mpsc::channel();
     let hand_out = || {
         let _told = begins.send(());

@@ -1,12 +1,13 @@
 //! Submissions without the lock: their order, their grants, and places that are written too late.
-use super::super::inbox::{Inbox, LAST_PLACE, RING, Ring};
+use super::super::inbox::{Inbox, LAST_PLACE, Ring};
 use std::thread;
 
-// More than the ring has.
+// How many places the ring has, and a number above that.
+const RING: u64 = 256;
 const MANY: usize = 1_000;
 
 fn opened(laps: u64) -> Inbox {
-    Inbox::new(Ring::new(laps).expect("there is memory"))
+    Inbox::new(Ring::new(200, laps * RING).expect("there is memory"))
 }
 
 fn all(inbox: &mut Inbox) -> Vec<u64> {
@@ -14,7 +15,7 @@ fn all(inbox: &mut Inbox) -> Vec<u64> {
     std::iter::from_fn(|| inbox.pop()).collect()
 }
 
-// Submits tasks from this one on, as many as come in.
+// Submits tasks, starting with this one, as many as there are granted places for.
 fn fill(ring: &Ring, first: u64) -> Vec<u64> {
     let tasks = (first..).step_by(2);
     tasks
@@ -50,6 +51,19 @@ fn as_many_come_in_as_were_granted_and_not_taken_back() {
 }
 
 #[test]
+fn there_are_as_many_places_as_the_queue_needs_up_to_4096() {
+    for (capacity, places) in [(1, 1), (3, 4), (100, 128), (4096, 4096), (65_536, 4096)] {
+        let mut inbox = Inbox::new(Ring::new(capacity, 0).expect("there is memory"));
+        let ring = inbox.ring();
+        for first in [2, 10_002] {
+            inbox.grant(usize::MAX);
+            assert_eq!(fill(&ring, first).len(), places);
+            assert_eq!(all(&mut inbox).len(), places);
+        }
+    }
+}
+
+#[test]
 fn a_submission_reads_whether_it_calls() {
     let mut inbox = opened(0);
     let ring = inbox.ring();
@@ -63,14 +77,14 @@ fn a_submission_reads_whether_it_calls() {
 
 #[test]
 fn a_place_that_stays_unwritten_is_voided() {
-    // In the last lap too, behind which places are counted from 0 on.
+    // In the last lap too, after which places are counted from 0.
     for laps in [0, LAST_PLACE / RING] {
         let mut inbox = opened(laps);
         let ring = inbox.ring();
         inbox.grant(MANY);
         let [late, other] = [(); 2].map(|()| ring.take().expect("it is granted").0);
         assert!(ring.fill(other, 4));
-        // The first one holds up nobody, and comes too late, also once its place is used again.
+        // The first one delays nobody, and comes too late, even after its place is used again.
         assert_eq!(all(&mut inbox), [4]);
         let mut filled = 0;
         while filled < 2 * RING {
@@ -90,7 +104,7 @@ fn a_place_that_stays_unwritten_is_voided() {
 fn each_comes_out_once_and_in_its_submitters_order() {
     const SUBMITTERS: u64 = 4;
     const TASKS: u64 = 5_000;
-    // Behind the last place they are counted from 0 on.
+    // After the last place they are counted from 0.
     let mut inbox = opened(LAST_PLACE / RING - 10);
     let (ring, mut came) = (inbox.ring(), Vec::new());
     thread::scope(|scope| {

@@ -16,7 +16,7 @@ fn gated(pool: &ThreadPool) -> Result<(Sender<()>, JobHandle<()>), Box<dyn Error
     Ok((gate, handle))
 }
 
-// Waits until so many joins of a pool have begun and haven't ended.
+// Waits until this many joins of a pool have begun and haven't ended.
 fn until_joins(pool: &ThreadPool, count: usize) -> Result<(), Box<dyn Error>> {
     let began = Instant::now();
     while pool.crew.lock().joins.count_all() != count {
@@ -72,7 +72,7 @@ fn a_join_waits_for_what_came_before_it() -> Result<(), Box<dyn Error>> {
     let late = join();
     until_joins(&pool, 2)?;
     drop(second_gate);
-    // In whatever order they end.
+    // They end in any order.
     drop(third_gate);
     third.wait()?;
     assert!(!early.is_finished() && !late.is_finished());
@@ -124,7 +124,7 @@ fn jobs_join_beside_a_join_from_outside() -> Result<(), Box<dyn Error>> {
     Ok(())
 }
 
-// What came back isn't waited for.
+// Jobs that were given back aren't waited for.
 #[test]
 fn a_close_at_once_ends_joins() -> Result<(), Box<dyn Error>> {
     let pool = Arc::new(ThreadPool::builder(1, 1).open()?);

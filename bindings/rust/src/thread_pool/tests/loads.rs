@@ -1,4 +1,4 @@
-//! The random loads of tests/recording, of pools that are recorded although their jobs come and end without the lock.
+//! The random loads of tests/recording, for recorded pools whose jobs come and end without the lock all the same.
 use super::super::{ThreadPool, ThreadPoolBuilder};
 use crate::rule::PoolError;
 

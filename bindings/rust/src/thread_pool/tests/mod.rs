@@ -1,4 +1,4 @@
-//! What only the inside of a pool can bring about or see.
+//! Tests of what only a pool's inside can cause or see.
 mod doors;
 mod ends;
 mod inbox;

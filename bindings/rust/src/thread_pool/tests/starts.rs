@@ -125,8 +125,8 @@ fn a_pool_whose_threads_are_missing_ends() -> Result<(), Box<dyn Error>> {
     Ok(())
 }
 
-// A pool none of whose threads can be started has its submitter run a job, which submits to another such pool, whose job
-// joins the first one. Nobody else is there to end what it would wait for.
+// A pool that can't start any thread makes its submitter run a job. That job submits to another such pool, whose job joins the first one.
+// Nobody else is there to end what it would wait for.
 #[test]
 fn a_job_joins_the_pool_of_the_job_around_it() -> Result<(), Box<dyn Error>> {
     let outer = Arc::new(builder(1, 1).open()?);
@@ -167,13 +167,13 @@ fn submitter_at_work(pool: &Arc<ThreadPool>) -> Result<(Sender<()>, Submitter), 
     Ok((open, submitter))
 }
 
-// The greatest size holds for a submitter that runs jobs too, and a thread that held back is called when it ends one.
+// The maximum size also limits jobs that a submitter runs, and a thread that held back is called when the submitter ends one.
 #[test]
 fn a_submitter_that_ends_a_job_calls_a_thread_that_held_back() -> Result<(), Box<dyn Error>> {
     let pool = Arc::new(builder(1, 1).open()?);
     allow(0);
     let (open, submitter) = submitter_at_work(&pool)?;
-    // A thread is there now, but the one job that may run is the submitter's.
+    // A thread is there now, but the only job that may run is the submitter's.
     allow(1);
     let second = pool.submit(|| thread::current().id())?;
     assert_eq!((second.reply(), STARTS.get()), (Reply::Queued, 0));
@@ -188,7 +188,7 @@ fn a_submitter_that_ends_a_job_calls_a_thread_that_held_back() -> Result<(), Box
     Ok(())
 }
 
-// The second job has a worker by the rule, so it is finished there; the third one waits.
+// By the rule the second job has a worker, so it is finished there; the third one waits.
 #[test]
 fn what_is_given_back_without_a_thread_is_finished_in_the_record() -> Result<(), Box<dyn Error>> {
     let pool = builder(2, 2).queue(1).record(10).open()?;
@@ -222,7 +222,7 @@ fn what_is_given_back_without_a_thread_is_finished_in_the_record() -> Result<(),
     Ok(())
 }
 
-// A thread of a closed pool ends while a submitter runs a job in the place of the one worker.
+// A closed pool's thread ends while a submitter takes the place of the only worker and runs a job.
 #[test]
 fn a_submitter_is_the_last_of_a_closed_pool() -> Result<(), Box<dyn Error>> {
     let pool = Arc::new(builder(1, 1).open()?);
