@@ -86,7 +86,7 @@ def build_c(name, libraries=()):
 
 
 def build_java():
-    sources = sorted((ROOT / "bench/java").glob("*.java"))
+    sources = [*sorted((ROOT / "bench/java").glob("*.java")), ROOT / "bindings/java/RecordedThreadPoolExecutor.java"]
     built = is_there("java/", "javac", "java") and is_built("java/", ["javac", "-d", OUT, *sources])
     return ["java", "-cp", str(OUT)] if built else None
 

@@ -1,40 +1,39 @@
-/* The rule of a thread pool, for C and C++: the proved rule of crates/resil_rule, for a service that has threads of its
- * own and runs for as long as it likes.
+/* The rule of a thread pool, for C and C++: the proved rule of crates/resil_rule, for programs with their own threads that
+ * run for any length of time.
  *
- * The pool is a book of jobs, and starts no thread. The service asks it what becomes of a submission, which job is to
- * run next, and tells it when a job has ended; it runs the jobs itself. A job is known by its caller and by its number,
- * which the caller counts from 1, or the library by resil_pool_submit_next. It brings 64 bits of the service's own, its
- * work, which the pool keeps until the job is picked. The rule is that of java.util.concurrent.ThreadPoolExecutor, as the
- * manual, docs/FORMATS.md, has it under 'How rows are carried out'. After CORE or EXTRA the service starts one worker, which
- * begins with that job, and each worker picks, runs and finishes one job after the other, and asks by resil_pool_idle_end
- * whether it may end where there is none to pick.
+ * The pool keeps track of jobs, and starts no threads. Your program asks it what happens to a submission and which job to
+ * run next, and reports when a job has ended; it runs the jobs itself. A job is identified by its caller and by its
+ * number, which is counted from 1 by the caller, or by the library in resil_pool_submit_next. It carries 64 bits of your
+ * own, its work, which the pool keeps until the job is picked. The rule is that of
+ * java.util.concurrent.ThreadPoolExecutor, as described in the manual, docs/FORMATS.md, under 'How rows are carried out'.
+ * After CORE or EXTRA your program starts one worker, which begins with that job. Each worker picks, runs and finishes one
+ * job after the other; when there is none to pick, it asks with resil_pool_idle_end whether it may end.
  *
- * Where a thread can't be started, the pool has that worker all the same: it counts among its workers, and jobs are queued
- * for it. The service keeps a count of the threads that it owes, and those that submit make up for them: one whose job was
- * accepted, as CORE, EXTRA or QUEUED, while the count isn't 0, starts a thread, which takes one off the count; where it
- * can't, it is the worker itself: it picks, runs and finishes until there is none to pick, and then asks
- * resil_pool_idle_end once, whose ENDED takes one off the count. So each job that was accepted is run. pool_threads.c, among
- * the examples, does this.
+ * If a thread can't be started, the pool has that worker all the same: it counts among the pool's workers, and jobs are
+ * queued for it. Your program counts the threads that it owes, and submitters make up for them. If the count isn't 0 when
+ * a job is accepted (CORE, EXTRA or QUEUED), its submitter starts a thread, which takes one off the count. If it can't, it
+ * acts as the worker itself: it picks, runs and finishes until there is no job to pick, and then calls resil_pool_idle_end
+ * once; ENDED takes one off the count. So each accepted job is run. The example pool_threads.c does this.
  *
- * resil_pool_new takes all the memory that the pool will have. No other call takes any, or can fail for want of it. The
- * pool keeps its numbers and, where that was asked for, the last events; what came before is forgotten.
+ * resil_pool_new allocates all the memory that the pool will ever have. No other function allocates any, or can fail for
+ * lack of it. The pool keeps its numbers and, if asked to, the last events; earlier ones are forgotten.
  *
- * A pool that is {0} is empty. Each call of one answers RESIL_EMPTY, or 0 where the answer is a count, and
- * resil_pool_free does nothing. The library sees to that, and it is proved. A null pointer to write to is answered in the
- * same way: the functions at the end of this header see to that. Nothing is done or written then.
+ * A pool that is {0} is empty. Called with an empty pool, a function returns RESIL_EMPTY, or 0 if it returns a count, and
+ * resil_pool_free does nothing. The library ensures this, and it is proved. A null pointer to write to gives the same
+ * result: the functions at the end of this header ensure that. In both cases nothing is done or written.
  *
- * What the caller owes, since nothing checks it:
- *   - a pool begins as {0}; one that isn't empty was filled by resil_pool_new, and wasn't freed since: resil_pool_free
- *     doesn't empty it, so that it is set to {0} where it may be handed in again;
- *   - what is written to `out` overwrites it: a pool that is still to be freed is lost, with its memory;
- *   - `back` is where the pool that is handed in lies: call resil_pool_close(pool, &pool); what else is written to lies
+ * The caller must ensure the following, since nothing checks it:
+ *   - a pool starts as {0}; one that isn't empty was filled by resil_pool_new, and hasn't been freed since.
+ *     resil_pool_free doesn't empty it, so set it to {0} if it may be passed in again;
+ *   - writing to `out` overwrites it: a pool in it that hasn't been freed is lost, with its memory;
+ *   - `back` points to the pool that is passed in: call resil_pool_close(pool, &pool). Other pointers to write to point
  *     elsewhere;
- *   - a pool isn't copied, and is used by one call at a time: threads that share it put one lock around each call;
- *   - what the pointer points to is neither read nor written;
- *   - malloc, realloc and free are of one allocator, and malloc aligns as the C standard asks;
- *   - no call comes from a signal handler, nor from the forked child of a process with threads.
+ *   - a pool isn't copied, and only one call at a time uses it: threads that share it hold one lock around each call;
+ *   - what the pointer in a pool points to is neither read nor written;
+ *   - malloc, realloc and free belong to the same allocator, and malloc aligns as the C standard requires;
+ *   - no function is called from a signal handler, or in the forked child of a process with threads.
  *
- * Link libresil.a, or in its place libresil_c.a and, behind it, liblibc_c.a of the toolchain. */
+ * Link libresil.a, or instead libresil_c.a followed by the toolchain's liblibc_c.a. */
 #ifndef RESIL_POOL_H
 #define RESIL_POOL_H
 
@@ -47,7 +46,7 @@
 extern "C" {
 #endif
 
-/* A pool: one pointer, which goes in by value and comes back through `back`. */
+/* A pool: one pointer, which is passed in by value and returned through `back`. */
 typedef struct resil_pool {
     void *at;
 } resil_pool;
@@ -56,162 +55,163 @@ typedef struct resil_pool {
 typedef struct resil_pool_job {
     uint64_t work;   /* what was submitted with it */
     uint64_t number; /* its number */
-    uint32_t place;  /* the place that it has until it is finished */
+    uint32_t place;  /* the place that it keeps until it is finished */
     uint16_t caller; /* its caller */
 } resil_pool_job;
 
-/* The numbers of a pool, all of one moment: accepted = running + waiting + finished. The counts of 64 bits stop at
- * 2^64 - 1, which then also stands for more. */
+/* The pool's numbers, all of one moment: accepted = running + waiting + finished. The 64-bit counts stop at 2^64 - 1,
+ * which then also stands for any larger number. */
 typedef struct resil_pool_counts {
     uint64_t accepted; /* how many submissions were accepted */
-    uint64_t refused;  /* how many the rule refused: answered by RESIL_POOL_FULL or RESIL_POOL_CLOSED */
+    uint64_t refused;  /* how many the rule refused, with RESIL_POOL_FULL or RESIL_POOL_CLOSED */
     uint64_t finished; /* how many jobs were finished */
-    uint32_t core;     /* the core size now, in workers */
-    uint32_t max;      /* the greatest size now, in workers */
-    uint32_t greatest; /* the greatest size at the opening, in workers: how far a resize may go */
+    uint32_t core;     /* the current core size, in workers */
+    uint32_t max;      /* the current maximum size, in workers */
+    uint32_t greatest; /* the maximum size it was made with, in workers: the limit of a resize */
     uint32_t capacity; /* the capacity of the queue, in jobs */
     uint32_t workers;  /* how many workers there are */
-    uint32_t running;  /* how many jobs have a worker, whether they were picked yet or not */
+    uint32_t running;  /* how many jobs have a worker, picked yet or not */
     uint32_t waiting;  /* how many jobs wait in the queue */
-    uint32_t closed;   /* 1 where the pool is closed, and else 0 */
+    uint32_t closed;   /* 1 if the pool is closed, otherwise 0 */
 } resil_pool_counts;
 
 /* An event: what happened at one call. */
 typedef struct resil_pool_entry {
-    uint64_t number; /* the job's number, and 0 where the event is of no job */
-    uint16_t caller; /* the job's caller, and 0 where the event is of no job */
+    uint64_t number; /* the job's number, or 0 if the event has no job */
+    uint16_t caller; /* the job's caller, or 0 if the event has no job */
     uint8_t kind;    /* what happened */
-    uint8_t reply;   /* of a submission its answer, and else RESIL_POOL_NO_REPLY */
-    uint32_t core;   /* of RESIL_POOL_RESIZED the new core size, and else 0 */
-    uint32_t max;    /* of RESIL_POOL_RESIZED the new greatest size, and else 0 */
+    uint8_t reply;   /* a submission's reply, otherwise RESIL_POOL_NO_REPLY */
+    uint32_t core;   /* the new core size of RESIL_POOL_RESIZED, otherwise 0 */
+    uint32_t max;    /* the new maximum size of RESIL_POOL_RESIZED, otherwise 0 */
 } resil_pool_entry;
 
-/* What resil_pool_new answers. */
+/* What resil_pool_new returns. */
 enum {
     RESIL_POOL_MADE = 0,
     RESIL_POOL_MEMORY = 1,        /* out of memory */
-    RESIL_POOL_CORE_RANGE = 2,    /* the core size isn't from 1 to 64 */
-    RESIL_POOL_MAX_RANGE = 3,     /* the greatest size isn't from the core size to 64 */
+    RESIL_POOL_CORE_RANGE = 2,    /* the core size isn't from 1 to 1,024 */
+    RESIL_POOL_MAX_RANGE = 3,     /* the maximum size isn't from the core size to 1,024 */
     RESIL_POOL_QUEUE_RANGE = 4,   /* the queue capacity isn't from 1 to 65,536 */
     RESIL_POOL_CALLERS_RANGE = 5  /* the number of callers isn't from 1 to 65,535 */
 };
 
-/* What resil_pool_submit answers. */
+/* What resil_pool_submit returns. */
 enum {
     RESIL_POOL_CORE = 0,         /* accepted: start a worker, there were fewer than the core size */
     RESIL_POOL_QUEUED = 1,       /* accepted: the job waits */
     RESIL_POOL_EXTRA = 2,        /* accepted: start a worker, the queue is full */
-    RESIL_POOL_FULL = 3,         /* refused by the rule: counted, and an event */
-    RESIL_POOL_CLOSED = 4,       /* refused by the rule: counted, and an event */
-    RESIL_POOL_WRONG_NUMBER = 5, /* not one more than the caller's submissions so far; nothing was changed */
-    RESIL_POOL_NO_CALLER = 6     /* the caller isn't from 1 to the number of callers; nothing was changed */
+    RESIL_POOL_FULL = 3,         /* refused by the rule: it is counted, and is an event */
+    RESIL_POOL_CLOSED = 4,       /* refused by the rule: it is counted, and is an event */
+    RESIL_POOL_WRONG_NUMBER = 5, /* not one more than the caller's submissions so far; nothing changed */
+    RESIL_POOL_NO_CALLER = 6     /* the caller isn't from 1 to the number of callers; nothing changed */
 };
 
-/* What resil_pool_pick answers. */
+/* What resil_pool_pick returns. */
 enum {
-    RESIL_POOL_PICKED_OWN = 0,   /* a job with a worker of its own since its submission */
+    RESIL_POOL_PICKED_OWN = 0,   /* a job that has had a worker of its own since its submission */
     RESIL_POOL_PICKED_QUEUE = 1, /* a job that was taken from the queue */
-    RESIL_POOL_NONE = 2          /* there is none to pick, and nothing was changed */
+    RESIL_POOL_NONE = 2          /* there is none to pick; nothing changed */
 };
 
-/* What resil_pool_finish answers. */
+/* What resil_pool_finish returns. */
 enum {
     RESIL_POOL_FINISHED = 0,
-    RESIL_POOL_NOT_OUT = 1       /* no job of this id was picked at this place and isn't finished; nothing was changed */
+    RESIL_POOL_NOT_OUT = 1       /* no unfinished job with this id was picked at this place; nothing changed */
 };
 
-/* What resil_pool_resize answers. */
+/* What resil_pool_resize returns. */
 enum {
-    RESIL_POOL_RESIZED_NOW = 0,       /* also where the sizes stay the same, and where the pool is closed */
-    RESIL_POOL_RESIZE_CORE_RANGE = 1, /* the core size isn't from 1 to 64; nothing was changed */
-    RESIL_POOL_RESIZE_MAX_RANGE = 2   /* the greatest size isn't from the core size to that of resil_pool_new; nothing
-                                       * was changed */
+    RESIL_POOL_RESIZED_NOW = 0,       /* even if the sizes stay the same or the pool is closed */
+    RESIL_POOL_RESIZE_CORE_RANGE = 1, /* the core size isn't from 1 to 64, or to 1,024 if the maximum size of
+                                       * resil_pool_new was above 64; nothing changed */
+    RESIL_POOL_RESIZE_MAX_RANGE = 2   /* the maximum size isn't from the core size to that of resil_pool_new; nothing
+                                       * changed */
 };
 
-/* What resil_pool_idle_end answers. */
+/* What resil_pool_idle_end returns. */
 enum {
     RESIL_POOL_ENDED = 0,        /* the worker ends */
-    RESIL_POOL_KEPT = 1          /* none may end, and nothing was changed */
+    RESIL_POOL_KEPT = 1          /* none may end; nothing changed */
 };
 
-/* What resil_pool_close answers. */
+/* What resil_pool_close returns. */
 enum {
     RESIL_POOL_CLOSED_NOW = 0,
-    RESIL_POOL_CLOSED_BEFORE = 1 /* nothing was changed */
+    RESIL_POOL_CLOSED_BEFORE = 1 /* nothing changed */
 };
 
-/* What resil_pool_numbers and resil_pool_event answer. */
+/* What resil_pool_numbers and resil_pool_event return. */
 enum {
     RESIL_POOL_TOLD = 0,
-    RESIL_POOL_NO_EVENT = 1      /* resil_pool_event: no more events are kept than the index; the entry is as it was */
+    RESIL_POOL_NO_EVENT = 1      /* resil_pool_event: the index isn't below the number of kept events; the entry is unchanged */
 };
 
 /* The kinds of events. The reply of a submission is one of RESIL_POOL_CORE to RESIL_POOL_CLOSED. */
 enum {
     RESIL_POOL_SUBMIT = 0,
-    RESIL_POOL_TAKE = 1,         /* a worker took the oldest job of the queue */
+    RESIL_POOL_TAKE = 1,         /* a worker took the oldest job in the queue */
     RESIL_POOL_FINISH = 2,
     RESIL_POOL_IDLE_END = 3,
     RESIL_POOL_CLOSE = 4,
-    RESIL_POOL_RESIZED = 5,      /* the core size and the greatest size are those of the entry from here on */
+    RESIL_POOL_RESIZED = 5,      /* from now on the core size and the maximum size are those of the entry */
     RESIL_POOL_NO_REPLY = 255
 };
 
-/* Makes an open pool: core size 1 to 64, greatest size from the core size to 64, queue capacity 1 to 65,536; for
- * callers from 1 to `callers`, which is 1 to 65,535; and for as many of the last events as `kept` says, 0 for none. MADE,
- * a range, the first of the four that is broken, or MEMORY; but for MADE `out` is as it was. */
+/* Makes an open pool: core size 1 to 1,024, maximum size from the core size to 1,024, queue capacity 1 to 65,536; for
+ * callers from 1 to `callers`, which is 1 to 65,535; and keeping the last `kept` events, 0 for none. Returns MADE, the
+ * first of the four ranges that is violated, or MEMORY. Unless it is MADE, `out` is unchanged. */
 RESIL_MUST_USE uint8_t resil_pool_new(uint32_t core, uint32_t max, uint32_t queue, uint32_t callers, uint32_t kept,
                                       resil_pool *out);
 
-/* Submits the caller's next job with its work, under the number that the caller has counted. CORE, QUEUED, EXTRA, FULL,
- * CLOSED, WRONG_NUMBER or NO_CALLER. But for the first three the pool doesn't have the work. */
+/* Submits the caller's next job with its work, under the number that the caller has counted. Returns CORE, QUEUED, EXTRA,
+ * FULL, CLOSED, WRONG_NUMBER or NO_CALLER. Except after the first three, the pool doesn't have the work. */
 RESIL_MUST_USE uint8_t resil_pool_submit(resil_pool pool, resil_pool *back, uint16_t caller, uint64_t number,
                                          uint64_t work);
 
-/* The same under the number that the library has counted, which is written to `number`: one more than the caller's
- * submissions so far, of which FULL and CLOSED are some, as the rule has refused them. The answers are those of
- * resil_pool_submit, but WRONG_NUMBER only where 2^64 - 1 are reached. After that and NO_CALLER `number` is as it was. */
+/* The same with a number counted by the library, which it writes to `number`: one more than the caller's submissions so
+ * far. These include FULL and CLOSED ones, which the rule has refused. Returns the same values as resil_pool_submit,
+ * WRONG_NUMBER only if 2^64 - 1 has been reached. After that and after NO_CALLER `number` is unchanged. */
 RESIL_MUST_USE uint8_t resil_pool_submit_next(resil_pool pool, resil_pool *back, uint16_t caller, uint64_t work,
                                               uint64_t *number);
 
-/* Picks the job that is to run next: the oldest with a worker of its own that wasn't picked, else the oldest of the
- * queue, where a worker is idle. PICKED_OWN, PICKED_QUEUE or NONE; `job` is written where one was picked. */
+/* Picks the job to run next: the oldest that has a worker of its own and wasn't picked yet; otherwise the oldest in the
+ * queue, if a worker is idle. Returns PICKED_OWN, PICKED_QUEUE or NONE; `job` is written if one was picked. */
 RESIL_MUST_USE uint8_t resil_pool_pick(resil_pool pool, resil_pool *back, resil_pool_job *job);
 
-/* Ends a job that was picked, by what resil_pool_pick wrote of it. FINISHED or NOT_OUT. */
+/* Finishes a job that was picked, given what resil_pool_pick wrote about it. Returns FINISHED or NOT_OUT. */
 uint8_t resil_pool_finish(resil_pool pool, resil_pool *back, uint16_t caller, uint64_t number, uint32_t place);
 
-/* Sets the core size and the greatest size, in workers, from here on. The queue's capacity and all jobs stay, and no
- * worker begins or ends by it: one begins with a submission, and one above the core size goes by resil_pool_idle_end.
- * So there may be more workers than the greatest size, but never more than that of resil_pool_new. RESIZED_NOW or a
- * range, the first of the two that is broken. */
+/* Sets the core size and the maximum size, in workers, from now on. The queue's capacity and all jobs stay the same. This
+ * starts and ends no worker: a worker starts with a submission, and one above the core size leaves by resil_pool_idle_end.
+ * So there may be more workers than the maximum size, but never more than the maximum of resil_pool_new. Returns
+ * RESIZED_NOW, or the first of the two ranges that is violated. */
 uint8_t resil_pool_resize(resil_pool pool, resil_pool *back, uint32_t core, uint32_t max);
 
-/* Ends an idle worker, where nothing waits and there are more workers than the core size or the pool is closed. ENDED
+/* Ends an idle worker if no job waits, and there are more workers than the core size or the pool is closed. Returns ENDED
  * or KEPT. */
 uint8_t resil_pool_idle_end(resil_pool pool, resil_pool *back);
 
-/* Closes the pool; jobs that were accepted are still picked. CLOSED_NOW or CLOSED_BEFORE. */
+/* Closes the pool. Accepted jobs are still picked. Returns CLOSED_NOW or CLOSED_BEFORE. */
 uint8_t resil_pool_close(resil_pool pool, resil_pool *back);
 
-/* Writes the numbers of the pool to `counts`, all of one moment. TOLD. */
+/* Writes the pool's numbers, all of one moment, to `counts`. Returns TOLD. */
 uint8_t resil_pool_numbers(resil_pool pool, resil_pool *back, resil_pool_counts *counts);
 
-/* How many of the last events are kept now: all there were, and at most as many as resil_pool_new was asked to keep. */
+/* Returns how many of the last events are kept now: all that have happened, up to `kept` of resil_pool_new. */
 size_t resil_pool_event_count(resil_pool pool, resil_pool *back);
 
-/* How many events came before those that are kept, and are lost. The count stops at 2^64 - 1. */
+/* Returns how many events came before the kept ones and are lost. The count stops at 2^64 - 1. */
 uint64_t resil_pool_lost(resil_pool pool, resil_pool *back);
 
-/* Writes one of the kept events to `event`, by its index from 0, oldest first. TOLD or NO_EVENT. */
+/* Writes one of the kept events to `event`, by its index from 0, oldest first. Returns TOLD or NO_EVENT. */
 uint8_t resil_pool_event(resil_pool pool, resil_pool *back, size_t index, resil_pool_entry *event);
 
-/* Lets a pool go, with all that is in it; an empty one has nothing to let go. */
+/* Frees a pool and everything in it. Does nothing if the pool is empty. */
 void resil_pool_free(resil_pool pool);
 
-/* Each answer as a text to be printed, "empty" for RESIL_EMPTY. What resil_pool_submit and resil_pool_submit_next answer is
- * a reply; what resil_pool_numbers and resil_pool_event answer is told. Replies and kinds of events are named as in the
- * histories that `resil audit` judges. */
+/* Each returned value as a string to print, "empty" for RESIL_EMPTY. The values of resil_pool_submit and
+ * resil_pool_submit_next are named by the reply function, those of resil_pool_numbers and resil_pool_event by the told
+ * function. Replies and kinds of events have the names used in the histories that `resil audit` judges. */
 static inline const char *resil_pool_new_name(uint8_t answer) {
     static const char *const names[] = {"made",             "out of memory",      "core out of range",
                                         "max out of range", "queue out of range", "callers out of range"};
@@ -258,7 +258,7 @@ static inline const char *resil_pool_kind_name(uint8_t kind) {
     return resil_name(names, sizeof names / sizeof *names, kind);
 }
 
-/* The same calls, which answer a null pointer too. Behind these lines each name stands for the one that looks. */
+/* The same functions, which also accept a null pointer. After these lines each name refers to the checked one. */
 RESIL_MUST_USE static inline uint8_t resil_pool_new_checked(uint32_t core, uint32_t max, uint32_t queue,
                                                             uint32_t callers, uint32_t kept, resil_pool *out) {
     return out ? resil_pool_new(core, max, queue, callers, kept, out) : RESIL_EMPTY;

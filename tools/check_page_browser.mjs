@@ -121,7 +121,7 @@ async function checkCommands() {
   want("a run", await open(`core = 1\nmax = 1\n[[layer]]\nkind = "retry"\n---\n${log(1).slice(0, 42)}close,,,\n\ncaller,number,outcome,calls,waits,asked\n1,1,V7,1,,\n`), { verdict: "legal", replies: 2, picture: "2" });
   want("a load", await open(`core = [1, 2]\nmax = 2\nqueue = [3, 4]\nidle_for = 5\n---\n${load}`), { off: true, verdict: /^a load/, isGood: true, pools: 4, isCarried: true, lists: "1, 2; 2; 3, 4; 5; " });
   want("a field of a load", await run('grey("simulated"); const it = by("sizes").elements.core; it.value = "1"; it.dispatchEvent(new Event("input", { bubbles: true }))').then(shown), { pools: 2, isCarried: true });
-  want("a log for other pools", await open(`core = 1\nmax = [1, 2]\ntakes = 7\n---\n${times}`), { off: true, verdict: /^a load/, pools: 2, lists: "1; 1, 2; 100; 20000; 7" });
+  want("a log for other pools", await open(`core = 1\nmax = [1, 2]\ntakes = 7\n---\n${times}`), { off: true, verdict: /^a load/, pools: 3, lists: "1; 1, 2; 100; 20000; 7" });
   want("fields after a load", await open(`${head}${times}`), { off: false, fields: "1,1,1", lists: "1; 1; 1, 2, 4; 20000; 10" });
 }
 
@@ -149,7 +149,7 @@ async function checkLoads() {
   await run('Object.assign(by("sizes").elements.rate, { value: "1000" }); Object.assign(by("sizes").elements.seconds, { value: "20" })');
   const many = await type("mean", "3");
   want("a load of some 20,000 jobs", many, { isCarried: true, pools: 3 });
-  const [, jobs, all] = /\nthe picture shows the first (\d+) of (\d+) jobs$/.exec(many.simulated) ?? [0, 10000, 20001];
+  const [, jobs, all] = /\nthe chart shows the first (\d+) of (\d+) jobs$/.exec(many.simulated) ?? [0, 10000, 20001];
   mark(jobs > 8000 && Number(jobs) < all && all > 19000 && many.drawn > Number(jobs), `the picture has ${many.drawn} events of ${jobs} of ${all} jobs`);
   want("no second", await type("seconds", "0"), { isCarried: false, simulated: /^seconds: ./ });
   await run('Object.assign(by("sizes").elements.rate, { value: "10" }); Object.assign(by("sizes").elements.seconds, { value: "60" })');
@@ -191,16 +191,16 @@ const focus = (id) => run(`by("${id}").focus()`);
 
 async function checkCursor() {
   const steps = [
-    ["0 µs", "0 waiting, 1 worker; jobs that run: 1.1"],
-    ["400 µs", "1 waiting, 1 worker; jobs that run: 1.1"],
-    ["900 µs", "2 waiting, 1 worker; jobs that run: 1.1"],
-    ["1.5 ms", "2 waiting, 2 workers; jobs that run: 1.1, 2.2"],
-    ["1.6 ms", "2 waiting, 2 workers; jobs that run: 1.1, 2.2; job 1.3 is refused: full"],
-    ["5 ms", "1 waiting, 2 workers; jobs that run: 2.1, 2.2"],
-    ["6.5 ms", "0 waiting, 2 workers; jobs that run: 1.2, 2.1"],
-    ["9 ms", "0 waiting, 2 workers; jobs that run: 1.2"],
-    ["9.8 ms", "0 waiting, 2 workers; no job runs"],
-    ["29.8 ms", "0 waiting, 1 worker; no job runs"],
+    ["0 µs", "0 waiting, 1 worker; running jobs: 1.1"],
+    ["400 µs", "1 waiting, 1 worker; running jobs: 1.1"],
+    ["900 µs", "2 waiting, 1 worker; running jobs: 1.1"],
+    ["1.5 ms", "2 waiting, 2 workers; running jobs: 1.1, 2.2"],
+    ["1.6 ms", "2 waiting, 2 workers; running jobs: 1.1, 2.2; job 1.3 is refused: full"],
+    ["5 ms", "1 waiting, 2 workers; running jobs: 2.1, 2.2"],
+    ["6.5 ms", "0 waiting, 2 workers; running jobs: 1.2, 2.1"],
+    ["9 ms", "0 waiting, 2 workers; running jobs: 1.2"],
+    ["9.8 ms", "0 waiting, 2 workers; no job is running"],
+    ["29.8 ms", "0 waiting, 1 worker; no job is running"],
   ];
   await open(moments);
   await focus("picture");
@@ -215,7 +215,7 @@ async function checkCursor() {
   mark(/^At 400 µs:/.test(await cursor()), `the cursor doesn't go back: ${await cursor()}`);
   const where = async (ms) => run(`by("picture").scrollIntoView(); const { left, top, width, height } = by("picture").firstChild.getBoundingClientRect(), box = by("picture").firstChild.viewBox.baseVal, scale = Math.min(width / box.width, height / box.height);
     return { x: left + (width - box.width * scale) / 2 + (92 + 680 * ${ms} / 29.8) * scale, y: top + height / 2 };`);
-  for (const [ms, said] of [[7, /^At 7(\.0\d)? ms: 0 waiting, 2 workers; jobs that run: 1\.2, 2\.1\.$/], [1.61, /^At 1\.6 ms: 2 waiting, .*; job 1\.3 is refused: full\.$/], [29.8, /^At 29\.8 ms: 0 waiting, 1 worker; no job runs\.$/]]) {
+  for (const [ms, said] of [[7, /^At 7(\.0\d)? ms: 0 waiting, 2 workers; running jobs: 1\.2, 2\.1\.$/], [1.61, /^At 1\.6 ms: 2 waiting, .*; job 1\.3 is refused: full\.$/], [29.8, /^At 29\.8 ms: 0 waiting, 1 worker; no job is running\.$/]]) {
     await send("Input.dispatchMouseEvent", { type: "mouseMoved", ...(await where(ms)) });
     mark(said.test(await cursor()), `at the cursor by the pointer, at ${ms} ms, is ${await cursor()}`);
   }
@@ -224,15 +224,21 @@ async function checkCursor() {
   await run('grey("verdict"); document.querySelectorAll("[role=group] button")[0].click()');
   await shown();
   await focus("picture");
-  for (const [key, said] of [["Home", "After event 1 of 4: 0 waiting, 1 worker; jobs that run: 1.1."], ["ArrowRight", "After event 2 of 4: 1 waiting, 1 worker; jobs that run: 1.1."],
-    ["ArrowRight", "After event 3 of 4: 1 waiting, 2 workers; jobs that run: 1.1, 1.3."], ["PageUp", "After event 4 of 4: 1 waiting, 2 workers; jobs that run: 1.1, 1.3; job 1.4 is refused: full."]]) {
+  for (const [key, said] of [["Home", "After event 1 of 4: 0 waiting, 1 worker; running jobs: 1.1."], ["ArrowRight", "After event 2 of 4: 1 waiting, 1 worker; running jobs: 1.1."],
+    ["ArrowRight", "After event 3 of 4: 1 waiting, 2 workers; running jobs: 1.1, 1.3."], ["PageUp", "After event 4 of 4: 1 waiting, 2 workers; running jobs: 1.1, 1.3; job 1.4 is refused: full."]]) {
     await pressed(key);
     mark((await cursor()) === said, `at the cursor without times is ${await cursor()}, not ${said}`);
   }
   await open(`core = 1\nmax = 1\nqueue = 60000\n---\nevent,caller,number\nsubmit,1,1\nsubmit,1,2\nsubmit,1,3\n`);
   await focus("picture");
   await pressed("End");
-  mark((await cursor()) === "After event 3 of 3: 2 waiting, 1 worker; jobs that run: 1.1.", `at the cursor under a queue that is out of sight is ${await cursor()}`);
+  mark((await cursor()) === "After event 3 of 3: 2 waiting, 1 worker; running jobs: 1.1.", `at the cursor under a queue that is out of sight is ${await cursor()}`);
+  await open("core = 1\nmax = 64\nqueue = 2\n---\nevent,caller,number,reply,core,max\nresize,,,,1,2\nsubmit,1,1,core,,\nsubmit,1,2,queued,,\n");
+  await focus("picture");
+  await pressed("End");
+  mark((await cursor()) === "After event 3 of 3: 1 waiting, 1 worker; running jobs: 1.1.", `at the cursor of a pool that is resized first is ${await cursor()}`);
+  const removed = await run('return saidAt({ marks: { ...pictures.picture.marks, signs: [{ name: "1.2", what: "removed", at: 3 }, { what: "culled", at: 3 }] } }, 786, 3, 680)');
+  mark(/; job 1\.2 is removed; a worker is culled\.$/.test(removed), `what is said of a removal: ${removed}`);
   await open(logs.large);
   await focus("picture");
   await pressed("Home");
@@ -241,7 +247,55 @@ async function checkCursor() {
   await open(`core = 1\nmax = 1\nqueue = [1, 2]\n---\nat,takes\n7,10\n8,10\n9,10\n`);
   await focus("simulated-picture");
   await pressed("Home");
-  mark((await cursor("simulated-picture")) === "At 0 µs: 0 waiting, 1 worker; jobs that run: 1.1.", `at the cursor of a load is ${await cursor("simulated-picture")}`);
+  mark((await cursor("simulated-picture")) === "At 0 µs: 0 waiting, 1 worker; running jobs: 1.1.", `at the cursor of a load is ${await cursor("simulated-picture")}`);
+}
+
+// A picture that was zoomed, beside the program's answer to the same text with the same keys; and two on one scale.
+async function checkZoom() {
+  const drawn = async (id, wanted) => {
+    for (let i = 0; i < 100 && (await run(`return by("${id}").firstChild?.dataset.from ?? ""`)) !== wanted; i++) await new Promise((done) => setTimeout(done, 50));
+    return run(`return { from: by("${id}").firstChild.dataset.from ?? "", to: by("${id}").firstChild.dataset.to ?? "", waiting: by("${id}").firstChild.dataset.waiting, workers: by("${id}").firstChild.dataset.workers, svg: pictures["${id}"].svg, off: by("${id.replace("picture", "whole")}").hidden }`);
+  };
+  const told = (keys, text = moments) => run(`if (!module) await load(by("module").textContent); return new TextDecoder().decode(answer("timeline", bytes(${JSON.stringify(keys + text)})).output)`);
+  await send("Emulation.setDeviceMetricsOverride", { width: 1280, height: 900, deviceScaleFactor: 1, mobile: false });
+  await open(moments);
+  const at = (x) => run(`by("picture").scrollIntoView(); const to = by("picture").firstChild.getScreenCTM(), it = new DOMPoint(${x}, 200).matrixTransform(to); return { x: it.x, y: it.y }`);
+  // From 2.07 ms to 7.07 ms of 29.8 ms, on an axis of 680 pixels.
+  const [left, right] = [92 + (680 * 2) / 29.8, 92 + (680 * 7) / 29.8];
+  for (const [type, x, buttons] of [["mouseMoved", left, 0], ["mousePressed", left, 1], ["mouseMoved", (left + right) / 2, 1], ["mouseMoved", right, 1], ["mouseReleased", right, 0]])
+    await send("Input.dispatchMouseEvent", { type, button: type === "mouseMoved" && !buttons ? "none" : "left", buttons, clickCount: 1, ...(await at(x)) });
+  for (let i = 0; i < 100 && (await run('return by("whole").hidden')); i++) await new Promise((done) => setTimeout(done, 50));
+  const dragged = await drawn("picture", await run('return by("picture").firstChild.dataset.from'));
+  mark(Math.abs(dragged.from - 2070) < 60 && Math.abs(dragged.to - 7070) < 60, `a drag shows ${dragged.from} to ${dragged.to}`);
+  mark(dragged.svg === (await told(`from = ${dragged.from}\nto = ${dragged.to}\n`)), "a drag isn't drawn as the program draws it");
+  await run(`await zoom("picture", [1070n, 6070n])`);
+  const zoomed = await drawn("picture", "1070");
+  mark(zoomed.svg === (await told("from = 1070\nto = 6070\n")) && !zoomed.off, "a span isn't drawn as the program draws it");
+  await focus("picture");
+  await pressed("Home");
+  for (const said of ["At 1 ms: 2 waiting, 1 worker; running jobs: 1.1.", "At 1.5 ms: 2 waiting, 2 workers; running jobs: 1.1, 2.2.", "At 1.6 ms: 2 waiting, 2 workers; running jobs: 1.1, 2.2; job 1.3 is refused: full.", "At 5 ms: 1 waiting, 2 workers; running jobs: 2.1, 2.2."]) {
+    mark((await cursor()) === said, `at the cursor of a part is ${await cursor()}, not ${said}`);
+    await pressed("ArrowRight");
+  }
+  await run('by("whole").click()');
+  const whole = await drawn("picture", "");
+  mark(whole.svg === (await told("")) && whole.off, "the whole history isn't drawn as at first");
+  await focus("picture");
+  await pressed("Home");
+  await send("Input.dispatchKeyEvent", { type: "keyDown", key: "+", text: "+" });
+  // Half of 29.8 ms about the first event: the half of that before it is cut.
+  mark((await drawn("picture", "70")).to === "7520", `+ shows up to ${(await drawn("picture", "70")).to}`);
+  await send("Input.dispatchKeyEvent", { type: "keyDown", key: "-", text: "-" });
+  await drawn("picture", "70");
+  await open(moments);
+  await run('by("one-scale").click()');
+  const [own, simulated] = [await drawn("picture", "70"), await drawn("simulated-picture", "70")];
+  for (const key of ["from", "to", "waiting", "workers"]) mark(own[key] === simulated[key], `two on one scale have ${key} ${own[key]} and ${simulated[key]}`);
+  mark(await run('return by("picture").parentNode.nextElementSibling === by("simulated-picture").parentNode'), "the simulated pool isn't below the log");
+  await run(`await zoom("simulated-picture", [1070n, 6070n])`);
+  mark((await drawn("picture", "1070")).to === "6070" && (await drawn("simulated-picture", "1070")).to === "6070", "two on one scale aren't zoomed alike");
+  await run('by("one-scale").click()');
+  mark((await drawn("picture", "")).off && (await drawn("simulated-picture", "")).off, "two that are apart again aren't whole");
 }
 
 // What is shown first, with its units.
@@ -342,7 +396,7 @@ try {
   ({ sessionId: session } = await send("Target.attachToTarget", { targetId, flatten: true }));
   await send("Page.enable");
   want("the first example", await visit(), { verdict: "legal", picture: "4", fields: "1,2,1" });
-  const checks = [checkHeads, checkWays, checkCommands, checkErrors, checkLoads, checkLooks, checkOrder, checkCursor, checkFiles, checkAddress, checkSaved, checkKeys];
+  const checks = [checkHeads, checkWays, checkCommands, checkErrors, checkLoads, checkLooks, checkOrder, checkCursor, checkZoom, checkFiles, checkAddress, checkSaved, checkKeys];
   for (const check of checks.filter(({ name }) => !some.length || some.includes(name)))
     await check().catch((error) => mark(false, `${check.name} broke off: ${error.stack}`));
 } catch (error) {

@@ -66,7 +66,7 @@ def make_folder():
 def need_rt():
     """Ends where rt isn't there, before anything else is tried."""
     if not shutil.which("rt"):
-        print(f"{ME}: rt is not there, the command of the Rattle kit; README.md, 'First commands', says what it is", file=sys.stderr)
+        print(f"{ME}: rt not found; it is the command of the Rattle kit. README.md, 'First commands', says how to get it", file=sys.stderr)
         sys.exit(127)
 
 

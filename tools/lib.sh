@@ -13,7 +13,7 @@ job=
 # Ends where rt isn't there, before anything else is tried.
 need_rt() {
     command -v rt >/dev/null && return
-    echo "$me: rt is not there, the command of the Rattle kit; README.md, 'First commands', says what it is" >&2
+    echo "$me: rt not found; it is the command of the Rattle kit. README.md, 'First commands', says how to get it" >&2
     exit 127
 }
 
