@@ -1,4 +1,4 @@
--- In a legal history each accepted job waits, runs or is finished, and is one of these, once.
+-- In a legal history each accepted job waits, runs or is finished. It is in exactly one of these states, once.
 use Rattle.std.proofs.Common.{◌≡◌, ◌≤◌, ◌+◌, ◌∷◌, [], ◌++◌, ◌∙◌, ℕ, true, false, cond, inl, inr, List, Option, Some, None, length, take, slice_get, refl, sym, ap, arith, length-append}
 use Rattle.std.specs.List.{cons_option}
 use Rattle.std.proofs.lemmas.Bool.{cases_Bool}
@@ -30,8 +30,8 @@ accepted-parts (Submit id Queued ∷ h) x = let rest = accepted-parts h x in let
 accepted-parts (Submit id Extra ∷ h) x = let rest = accepted-parts h x in let a = times-cons x id (started h) in let b = times-cons x id (accepted h) in omega (arith, rest, a, b)
 accepted-parts (e ∷ h) x = accepted-parts h x
 
--- What is kept of an id: it was accepted once at most, left the queue as often as it was taken, and was finished no more often
--- than it got a worker.
+-- What is kept about an id: it was accepted at most once, left the queue as often as it was taken, and wasn't finished more
+-- often than it got a worker.
 pub record IsTracked (h : List Event) (x : Id) : Type 0 where
   pub once : times x (accepted h) ≤ 1
   pub lined : times x (queued h) ≡ times x (taken h) + times x (waiting h)
@@ -54,7 +54,7 @@ module _ (limits : Sizes) where
         let one = times-one x id in
         let left = times-left (finished h) (started h) (taken h) x in
         elim (cases_Bool (is_same_id x id)) [
-          -- what runs was started or taken, and isn't finished
+          -- a job that runs was started or taken, and isn't finished
           | inl same ↦
               let some : 1 ≤ times x (running h) = somewhere x (running h) (ap (λ i. is_among i (running h)) (same_id-equal x id same) ∙ allowed) in
               grind (arith, one, same, some, left, nowhere x (finished h), cases_Bool (is_among x (finished h)))
@@ -62,7 +62,7 @@ module _ (limits : Sizes) where
         ]
     finished-few h e ran allowed = omega (arith, ran)
 
-    -- what is kept event by event
+    -- what each event keeps
     abbrev IsKept : List Event → Type 0
     IsKept h = IsLegal limits h × (times x (accepted h) ≤ 1) × (times x (finished h) ≤ times x (started h) + times x (taken h))
 
@@ -76,7 +76,7 @@ module _ (limits : Sizes) where
         let ends = finished-few h e ran allowed in
         (legal-push limits h e legal allowed, omega (arith, a, few), omega (arith, s, t, f, ends))
 
-  -- each fact below is of a legal history
+  -- each fact below is about a legal history
   module _ (h : List Event) (legal : IsLegal limits h) where
     pub tracked : (x : Id) → IsTracked h x
     tracked x =

@@ -21,11 +21,11 @@ module _ (limits : Sizes) (P : List Event → Type 0) (step : (h : List Event) (
   holds-after before [] p legal = rw append-nil p
   holds-after before (e ∷ events) p legal = rw append_assoc at (holds-after (before ++ e ∷ []) events (step before e p legal.0) legal.1)
 
-  -- what holds of no events, and stays so with each event that is allowed, holds of a legal history
+  -- what holds of the empty history, and is kept by each allowed event, holds of every legal history
   pub holds-legal : (h : List Event) → P [] → IsLegal limits h → P h
   holds-legal h p legal = holds-after [] h p legal
 
--- what is among two lists is among one of them
+-- an id among two lists is in one of them
 among-either : (id : Id) (xs ys : List Id) → is_among id (xs ++ ys) ≡ true → (is_among id xs ≡ true) ⊎ (is_among id ys ≡ true)
 among-either id xs ys h = or_cases _ _ (sym (list_any-append (is_same_id id) xs ys) ∙ h)
 
@@ -43,7 +43,7 @@ new-number limits h (Submit x Queued) id allowed among = let e = only-one id x a
 new-number limits h (Submit x Extra) id allowed among = let e = only-one id x among in rw e (allowed.0, own-submit x Extra)
 new-number limits h e id allowed among = absurd (cc among)
 
--- no accepted job's number is above the number of its caller's submissions
+-- no accepted job's number is greater than the number of its caller's submissions
 abbrev AreCounted : List Event → Type 0
 AreCounted h = (id : Id) → is_among id (accepted h) ≡ true → id.number ≤ length (submissions h id.caller)
 
@@ -55,13 +55,13 @@ counted-push limits h e counted allowed id among =
       | inr new ↦ let told = new-number limits h e id allowed new in let one = rw told.1 at push in omega (arith, one, told.0)
     ]
 
--- a caller's next number is that of no accepted job
+-- no accepted job has a caller's next number
 pub next-fresh : (limits : Sizes) (h : List Event) (id : Id) → IsLegal limits h → id.number ≡ next_number h id.caller → is_among id (accepted h) ≡ false
 next-fresh limits h id legal next =
     false_from_ne_true (is_among id (accepted h))
     (λ among. let le = holds-legal limits AreCounted (counted-push limits) h (λ id among. absurd (cc among)) legal id among in omega (arith, le, next))
 
--- the jobs that were queued are those that were taken, and then those that wait
+-- the jobs that were queued are those that were taken, followed by those that wait
 pub queue-line : (limits : Sizes) (h : List Event) → IsLegal limits h → queued h ≡ taken h ++ waiting h
 queue-line limits h legal = holds-legal limits (λ h. queued h ≡ taken h ++ waiting h) line-push h refl legal
   where

@@ -1,4 +1,4 @@
--- Ids among ids, and those of them that aren't finished.
+-- Ids in lists, and which of them aren't finished.
 use Rattle.std.proofs.Common.{◌≡◌, ◌++◌, ◌∙◌, ℕ, Bool, true, not, ◌&&◌, ◌||◌, ◌==◌, List, refl, sym, ap, arith, filter, take, drop}
 use Rattle.std.proofs.lemmas.Bool.{and_parts, cases_Bool}
 use Rattle.std.proofs.lemmas.Grind.{common_steps}
@@ -9,11 +9,11 @@ use Rattle.resil_rule.specs.declared.event.Id.{Id}
 use Rattle.resil_rule.specs.declared.event.Event.{Event}
 use Rattle.resil_rule.specs.History.{is_among, is_same_id, started, taken, finished, unfinished, running}
 
--- both of two tests, and one of them
+-- if both of two tests pass, each of them passes
 pub both : (a b : Bool) → (a && b) ≡ true → (a ≡ true) × (b ≡ true)
 both a b h = and_parts a b h
 
--- ids that are found the same are equal
+-- ids that the test calls the same are equal
 pub same_id-equal : (a b : Id) → is_same_id a b ≡ true → a ≡ b
 same_id-equal a b h =
     let parts = both (a.caller == b.caller) (a.number == b.number) h in
@@ -25,13 +25,13 @@ same_id-equal a b h =
 pub same_id-self : (a : Id) → is_same_id a a ≡ true
 same_id-self a = grind (arith, common_steps)
 
--- a job is unfinished among two lists where it isn't finished and is in one of them
+-- a job is unfinished in two lists if it isn't finished and is in one of them
 pub among-unfinished : (done a b : List Id) (id : Id) → is_among id (filter (λ x. not (is_among x done)) (a ++ b)) ≡ (not (is_among id done) && (is_among id a || is_among id b))
 among-unfinished done a b id =
     any-filter_same (is_same_id id) (λ x. not (is_among x done)) (not (is_among id done)) (λ x same. ap (λ (y : Id). not (is_among y done)) (sym (same_id-equal id x same))) (a ++ b)
     ∙ ap (λ t. not (is_among id done) && t) (list_any-append (is_same_id id) a b)
 
--- what is among the first is among all
+-- an id among the first ones of a list is among all
 among-take : (n : ℕ) (id : Id) (xs : List Id) → is_among id (take n xs) ≡ true → is_among id xs ≡ true
 among-take n id xs h =
     let whole : is_among id (take n xs ++ drop n xs) ≡ true = list_any-append (is_same_id id) (take n xs) (drop n xs) ∙ rw h refl in

@@ -1,4 +1,4 @@
--- A legal history that goes on by an event that is allowed.
+-- A legal history stays legal with one more event that is allowed.
 use Rattle.std.proofs.Common.{◌∷◌, [], ◌++◌, List, append_assoc, append-nil}
 use Rattle.resil_rule.specs.Limits.{Sizes}
 use Rattle.resil_rule.specs.Admission.{IsAllowed, AreAllowedAfter, IsLegal}

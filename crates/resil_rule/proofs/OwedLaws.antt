@@ -7,12 +7,12 @@ use Rattle.resil_rule.specs.declared.event.Reply.TheVariants.{Core, Queued, Extr
 use Rattle.resil_rule.specs.declared.slots.Slot.{Slot}
 use Rattle.resil_rule.proofs.SlotLaws.{put-length, clear-length}
 
--- a list whose front is known is one longer than the rest
+-- a list with a known front is one longer than its rest
 pub dropped : {A : Type 0} (xs : List A) (x : A) → slice_get xs 0 ≡ Some x → length (drop 1 xs) + 1 ≡ length xs
 dropped [] x e = absurd (cc e)
 dropped (y ∷ xs) x e = omega arith
 
--- a submission owes two events at most beside its own
+-- a submission adds at most two owed events besides its own
 pub submission-owes : {W : Type 0} (v : RuleView W) (id : Id) (work : W) (r : Reply) → owed (with_submission v id work r) ≤ owed v + 2
 submission-owes v id work Core = let l = length-append v.unpicked ((id, work) ∷ []) in omega (arith, l)
 submission-owes v id work Queued = let l = length-append v.waiting ((id, work) ∷ []) in omega (arith, l)

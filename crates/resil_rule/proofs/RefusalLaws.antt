@@ -1,4 +1,4 @@
--- What the rule refuses, no history that its state stands for allows.
+-- An event that the rule refuses is allowed after no history that may have led to its state.
 use Rattle.std.proofs.Common.{inl, inr, ◌≡◌, ◌-◌, ◌∷◌, [], ◌++◌, ◌∙◌, true, List, Some, slice_get, length, drop, take, refl, sym, ap, arith}
 use Rattle.std.proofs.lemmas.Bool.{cases_Bool}
 use Rattle.std.proofs.lemmas.List.{take-append-drop}
@@ -19,7 +19,7 @@ module _ {W : Type 0} (v : RuleView W) (h : List Event) (state : IsStateOf h v) 
   pub take-only : (id : Id) → IsAllowed v.limits h (Take id) → option_map (λ job. job.0) (slice_get v.waiting 0) ≡ Some id
   take-only id allowed = sym (slice_get-map (λ job. job.0) v.waiting 0) ∙ ap (λ (ids : List Id). slice_get ids 0) state.waiting_is ∙ allowed.0
 
-  -- where each job with a worker of its own was picked, a job that runs is out
+  -- if each job with its own worker was picked, a job that runs is out
   pub out-only : v.unpicked ≡ [] → (id : Id) → IsAllowed v.limits h (Finish id) → is_among id (ids_out v.out) ≡ true
   out-only picked id allowed =
       let none : times id (ids_of v.unpicked) ≡ 0 = ap (λ (jobs : List (Id × W)). times id (ids_of jobs)) picked in
@@ -27,7 +27,7 @@ module _ {W : Type 0} (v : RuleView W) (h : List Event) (state : IsStateOf h v) 
       let all : times id (running h) ≡ times id (ids_out v.out) = omega (arith, both, none) in
       among-times id (ids_out v.out) ∙ ap is_positive (sym all) ∙ sym (among-times id (running h)) ∙ allowed
 
-  -- an idle worker ends where the rule says so
+  -- an idle worker may end only if the rule says so
   pub idle-only : IsAllowed v.limits h IdleEnd → MayEndIdle v
   idle-only allowed =
       let none : ids_of v.waiting ≡ [] = state.waiting_is ∙ allowed.0 in (
@@ -40,7 +40,7 @@ module _ {W : Type 0} (v : RuleView W) (h : List Event) (state : IsStateOf h v) 
       empty [] none = refl
       empty (job ∷ jobs) none = absurd (cc none)
 
-  -- the jobs that are out are those that were picked or taken, and aren't finished
+  -- the jobs that are out are those that were picked or taken and aren't finished
   pub out-are : (id : Id) → is_among id (ids_out v.out) ≡ is_among id (unfinished h (take (length (started h) - length v.unpicked) (started h) ++ taken h))
   out-are id =
       let count = length (started h) - length v.unpicked in
@@ -53,5 +53,5 @@ module _ {W : Type 0} (v : RuleView W) (h : List Event) (state : IsStateOf h v) 
       grind (arith, state.runs id, split, later, all, left, cases_Bool (is_among id (finished h))) in
       among-times id (ids_out v.out) ∙ ap is_positive same ∙ sym (among-times id (unfinished h (picked ++ taken h)))
 
--- what a refusal of an event rests on
+-- the laws that a refusal of an event needs
 pub ruleset barred = (take-only, out-only, idle-only)

@@ -1,4 +1,4 @@
--- Each step of the rule follows the definitions, after every history that its state may stand for.
+-- Each step of the rule follows the definitions, after every history that may have led to its state.
 use Rattle.std.proofs.Common.{◌⊎◌, inl, inr, ◌≡◌, ◌↔◌, ◌<◌, ◌≤◌, ◌+◌, ◌-◌, ◌∷◌, [], ◌++◌, ◌∙◌, ◌||◌, ◌==◌, ℕ, suc, Bool, true, false, cond, IsTrue, List, Option, Some, None, length, filter, drop, slice_get, slice_set, slice_index_or, refl, sym, ap, arith, append-nil, length-append, length-drop}
 use Rattle.std.proofs.Math.Bool.{or-false}
 use Rattle.std.specs.Bool.{OnTrue}
@@ -32,7 +32,7 @@ use Rattle.resil_rule.proofs.EventLaws.{submissions-more, count-more, times-more
 pub length-ids : {W : Type 0} (jobs : List (Id × W)) → length (ids_of jobs) ≡ length jobs
 length-ids jobs = length-map jobs (λ job. job.0)
 
--- the numbers of a view are those of a legal history that is as far closed, has its workers, and in which its jobs run
+-- the numbers of a view fit a legal history that is closed if the view is, has its workers, and in which its jobs run
 numbers-of : {W : Type 0} (v : RuleView W) (h : List Event) → IsLegal v.limits h → v.closed ≡ is_closed h → v.workers ≡ workers h
     → ((x : Id) → times x (running h) ≡ times x (ids_of v.unpicked) + times x (ids_out v.out)) → AreNumbersOf h v.closed v.workers (busy v) (length (accepted h))
 numbers-of v h legal closed works runs =
@@ -55,25 +55,25 @@ module _ {W : Type 0} where
   abbrev Counts : RuleView W → RuleView W → Event → Type 0
   Counts v after e = (after.limits ≡ v.limits) × (after.closed ≡ (v.closed || is_closed (e ∷ []))) × (after.workers + length (filter is_idle_end (e ∷ [])) ≡ v.workers + length (started (e ∷ [])))
 
-  -- and to its jobs: who is started isn't picked yet, who is queued comes last, who is taken leaves at the front and goes out, and who is finished comes in
+  -- and to its jobs: a started job isn't picked yet, a queued one comes last, a taken one leaves at the front and goes out, and a finished one is no longer out
   abbrev Moves : RuleView W → RuleView W → Event → Type 0
   Moves v after e = (ids_of after.unpicked ≡ ids_of v.unpicked ++ started (e ∷ [])) × (ids_of after.waiting ≡ drop (length (taken (e ∷ []))) (ids_of v.waiting ++ queued (e ∷ [])))
       × ((x : Id) → times x (ids_out after.out) + times x (finished (e ∷ [])) ≡ times x (ids_out v.out) + times x (taken (e ∷ [])))
 
 module _ {W : Type 0} (v : RuleView W) (h : List Event) (state : IsStateOf h v) where
-  -- the answer is that of the rule
+  -- the reply is the rule's
   pub reply-is : next_reply v ≡ reply_after v.limits h
   reply-is =
       let long : length v.waiting ≡ length (waiting h) = sym (length-ids v.waiting) ∙ ap length state.waiting_is in
       rw (sym state.numbers.closed_is, sym state.numbers.workers_are, sym state.sizes.core_is, sym state.sizes.max_is, sym long) refl
 
-  -- the jobs that weren't picked are no more than those that were started
+  -- at most as many jobs are unpicked as were started
   pub few-unpicked : length v.unpicked ≤ length (started h)
   few-unpicked =
       let long = sym (length-ids v.unpicked) ∙ ap length state.unpicked ∙ length-drop (length (started h) - length v.unpicked) (started h) in
       omega (arith, long)
 
-  -- one event further, by what it does to the view
+  -- one event more, by what it does to the view
   goes-on : (e : Event) (after : RuleView W) → IsAllowed v.limits h e → Counts v after e → Moves v after e → AreSizesOf v.limits (h ++ e ∷ []) after.core after.max
       → ((c : ℕ) → made_by after c ≡ made_by v c + cond (is_submit_of c e) 1 0) → IsStateOf (h ++ e ∷ []) after
   goes-on e after allowed (limits, shut, works) (unpicked, waits, outs) sizes made =
@@ -128,7 +128,7 @@ module _ {W : Type 0} (v : RuleView W) (h : List Event) (state : IsStateOf h v) 
         goes-on (Submit id reply) _ allowed (refl, sym (or-false v.closed), works) (started_is, queued_is, (λ x. refl))
         (sizes-quiet v.limits h (Submit id reply) v.core v.max refl refl state.sizes) made-after
 
-    -- a submission with its answer
+    -- a submission with its reply
     submits : (work : W) (reply : Reply) → IsAllowed v.limits h (Submit id reply) → IsStateOf (h ++ Submit id reply ∷ []) (with_submission v id work reply)
     submits work Core allowed =
         by Core (v.workers + 1) (v.unpicked ++ (id, work) ∷ []) v.waiting allowed (omega arith) (one-more v.unpicked work) (same-ids v.waiting)
@@ -144,7 +144,7 @@ module _ {W : Type 0} where
       let allowed : IsAllowed v.limits h (Submit id reply) = (next-is v h state id next known, is ∙ reply-is v h state) in
       (allowed, submits v h state id next known work reply allowed)
 
-  -- a pick of a job with a worker of its own
+  -- a pick of a job with its own worker
   pub pick-stays : (v : RuleView W) (slot : Slot) (work : W) → slice_get v.out slot.place ≡ Some None → slice_get v.unpicked 0 ≡ Some (slot.id, work) → StaysAt v (with_pick v slot)
   pick-stays v slot work free front h state =
       let split = front-is v.unpicked (slot.id, work) front in
@@ -222,7 +222,7 @@ module _ {W : Type 0} where
   resize-follows v core max low order high h state =
       ((low, order, high), goes-by v h state (Resized core max) (with_sizes v core max) (low, order, high) (refl, sym (or-false v.closed), refl) (still v) (sizes-resized v.limits h core max) (λ c. refl) refl)
 
-  -- where each worker runs a job, or nothing waits, nothing may be taken
+  -- if each worker runs a job, or no job waits, nothing may be taken
   pub busy-none : (v : RuleView W) → v.workers ≤ busy v → (h : List Event) → IsStateOf h v → (id : Id) → ¬ IsAllowed v.limits h (Take id)
   busy-none v full h state id allowed = omega (arith, allowed.1, full, state.numbers.running_are, state.numbers.workers_are)
 
@@ -231,7 +231,7 @@ module _ {W : Type 0} where
       let none : slice_get (waiting h) 0 ≡ None = ap (λ (ids : List Id). slice_get ids 0) (sym state.waiting_is ∙ ap ids_of empty) in
       cc (none, allowed.0)
 
-  -- what was just made stands for the empty history
+  -- a new rule may be the state after the empty history
   pub opens : (limits : Sizes) (callers : ℕ) → IsStateOf [] (opened {W = W} limits callers)
   opens limits callers =
       let empty : (ids_out (opened {W = W} limits callers).out) ≡ [] = none-out limits.max in
@@ -250,7 +250,7 @@ pub empty-of : {A : Type 0} (xs : List A) (o : Option A) → o ≡ slice_get xs 
 empty-of [] o first none = refl
 empty-of (x ∷ xs) o first none = absurd (none x first)
 
--- a job that gets a worker of its own
+-- a job that gets its own worker
 pub start-follows : {W : Type 0} (v : RuleView W) (id : Id) (work : W) (reply : Reply) → (reply ≡ Core) ⊎ (reply ≡ Extra) → id.number ≡ suc (made_by v id.caller) → id.caller < length v.made → reply ≡ next_reply v
     → Follows v (Submit id reply) (with_start v id work)
 start-follows v id work reply (inl core) next known is = rw core (submit-follows v id work Core next known (sym core ∙ is))

@@ -11,12 +11,12 @@ use Rattle.resil_rule.proofs.FreshLaws.{holds-legal, taken-le}
 use Rattle.resil_rule.proofs.EventLaws.{count-more, ends-more}
 use Rattle.resil_rule.proofs.ConservationLaws.{as-many}
 
--- the numbers of a history are those that its filters give, and they fit each other
+-- the numbers of a history are those that its filters give, and they agree with each other
 abbrev pub HaveNumbers : List Event → Type 0
 HaveNumbers h = AreNumbersOf h (is_closed h) (workers h) (length (running h)) (length (accepted h))
 
 module _ (limits : Sizes) where
-  -- each worker that took a job or ended had finished one before
+  -- each worker that took a job or ended had finished a job before
   abbrev AreFreed : List Event → Type 0
   AreFreed h = IsLegal limits h × (length (taken h) + length (filter is_idle_end h) ≤ length (finished h))
 

@@ -1,4 +1,4 @@
--- A job gets a place, and leaves it.
+-- A job gets a place, and leaves it again.
 use Rattle.std.proofs.Common.{◌≡◌, ◌≢◌, ◌<◌, ◌≤◌, ◌+◌, ◌∷◌, [], ◌++◌, ◌∙◌, ℕ, zero, suc, All, Bool, true, false, cond, List, Option, Some, None, length, position, replicate, get_or, slice_get, slice_set, refl, sym, ap, arith, length-append, length-set}
 use Rattle.std.specs.List.{position_from}
 use Rattle.std.proofs.lemmas.Bool.{cases_Bool}
@@ -13,7 +13,7 @@ use Rattle.resil_rule.specs.declared.event.Id.{Id}
 use Rattle.resil_rule.proofs.IdLaws.{same_id-equal, same_id-self}
 use Rattle.resil_rule.proofs.TimesLaws.{times-last, times-append}
 
--- a job more, at a place that was free: it stands between others
+-- one job more, at a place that was free, between the others
 put-parts : (id : Id) (places : List (Option Id)) (i : ℕ) → slice_get places i ≡ Some None → (front : List Id) × (back : List Id) × (ids_out places ≡ front ++ back) × (ids_out (slice_set places i (Some id)) ≡ front ++ id ∷ back)
 put-parts id [] i free = absurd (cc free)
 put-parts id (None ∷ places) zero free = ([], ids_out places, refl, refl)
@@ -35,7 +35,7 @@ put-length id places i free =
     let after = ap length p.3 ∙ length-append p.0 (id ∷ p.1) in
     omega (arith, before, after)
 
--- a job less: its place is free then, and putting it there again is as before
+-- one job fewer: its place is free then, and putting the job there again restores the places
 cleared : (o : Option Id) (places : List (Option Id)) (i : ℕ) (p : Option Id) → slice_get places i ≡ Some p → (slice_get (slice_set places i o) i ≡ Some o) × (slice_set (slice_set places i o) i p ≡ places)
 cleared o [] i p there = absurd (cc there)
 cleared o (x ∷ places) zero p there = (refl, let e : p ≡ x = cc there in ap (λ (q : Option Id). q ∷ places) e)
@@ -47,7 +47,7 @@ clear-times x id places i there = let c = cleared None places i (Some id) there 
 pub clear-length : (id : Id) (places : List (Option Id)) (i : ℕ) → slice_get places i ≡ Some (Some id) → length (ids_out (slice_set places i None)) + 1 ≡ length (ids_out places)
 clear-length id places i there = let c = cleared None places i (Some id) there in sym (put-length id (slice_set places i None) i c.0) ∙ ap (λ (qs : List (Option Id)). length (ids_out qs)) c.1
 
--- a job at a place is among those that are out
+-- a job at a place is one of those that are out
 pub there-out : (id : Id) (places : List (Option Id)) (i : ℕ) → slice_get places i ≡ Some (Some id) → times id (ids_out places) ≡ times id (ids_out (slice_set places i None)) + 1
 there-out id places i there = let less = rw (same_id-self id) at (clear-times id id places i there) in sym less
 
@@ -56,7 +56,7 @@ of-id : (id : Id) (o : Option Id) → is_of id o ≡ true → o ≡ Some id
 of-id id None h = absurd (cc h)
 of-id id (Some other) h = ap Some (sym (same_id-equal id other h))
 
--- the first place of a job has it, and where there is none, the job isn't out
+-- the first place found for a job has it, and if there is none, the job isn't out
 pub found-there : (id : Id) (places : List (Option Id)) (i : ℕ) → position (is_of id) places ≡ Some i → slice_get places i ≡ Some (Some id)
 found-there id places i h =
     let first = position-Some (is_of id) places i None h in
@@ -70,23 +70,23 @@ nowhere-from id (Some y ∷ places) n h = grind (arith, h, nowhere-from id place
 pub nowhere-out : (id : Id) (places : List (Option Id)) → position (is_of id) places ≡ None → is_among id (ids_out places) ≡ false
 nowhere-out id places h = nowhere-from id places 0 (sym (position_from-zero (is_of id) places) ∙ h)
 
--- the free places stay free where another one changes
+-- the free places stay free if another place changes
 pub free-kept : (o : Option Id) (places : List (Option Id)) (i : ℕ) (free : List ℕ) → All (λ other. other ≢ i) free → AreFree places free → AreFree (slice_set places i o) free
 free-kept o places i [] others are = are
 free-kept o places i (p ∷ free) others are =
     (slice_get-set_other places i p o (others 0 p (omega arith)) ∙ are.0, are.1, free-kept o places i free (λ k d within. others (suc k) d (omega (arith, within))) are.2)
 
--- a place that has a job isn't among them
+-- a place with a job isn't one of the free places
 pub busy-others : (id : Id) (places : List (Option Id)) (i : ℕ) (free : List ℕ) → slice_get places i ≡ Some (Some id) → AreFree places free → All (λ other. other ≢ i) free
 busy-others id places i [] there are k d within = absurd (omega (arith, within))
 busy-others id places i (p ∷ free) there are zero d within = λ same. absurd (cc (are.0, there, same))
 busy-others id places i (p ∷ free) there are (suc k) d within = busy-others id places i free there are.2 k d (omega (arith, within))
 
--- the place of a job that is out no more is one of them
+-- the place of a job that is no longer out is one of them
 pub free-more : (id : Id) (places : List (Option Id)) (i : ℕ) (free : List ℕ) → slice_get places i ≡ Some (Some id) → AreFree places free → AreFree (slice_set places i None) (i ∷ free)
 free-more id places i free there are = let others = busy-others id places i free there are in ((cleared None places i (Some id) there).0, others, free-kept None places i free others are)
 
--- each place is free where there are no jobs
+-- each place is free if there are no jobs
 pub free-at : (count i : ℕ) → i < count → slice_get {X = Option Id} (replicate count None) i ≡ Some None
 free-at zero i within = absurd (omega (arith, within))
 free-at (suc count) zero within = refl

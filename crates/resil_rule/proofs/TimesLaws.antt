@@ -1,4 +1,4 @@
--- How often an id stands among ids.
+-- How many times an id is in a list of ids.
 use Rattle.std.proofs.Common.{◌≡◌, ◌≤◌, ◌+◌, ◌∷◌, [], ◌++◌, ◌∙◌, ℕ, zero, suc, Bool, true, false, not, ◌||◌, cond, ◌⊎◌, inl, inr, List, length, filter, refl, sym, ap, arith, length-append}
 use Rattle.std.proofs.Math.Bool.{or-false}
 use Rattle.std.proofs.lemmas.Bool.{cases_Bool}
@@ -26,7 +26,7 @@ same_id-sym a b = grind (arith, common_steps)
 pub times-last : (x id : Id) (ids : List Id) → times x (ids ++ id ∷ []) ≡ times x ids + cond (is_same_id id x) 1 0
 times-last x id ids = times-append x ids (id ∷ []) ∙ ap (λ n. times x ids + n) (times-one x id ∙ ap (λ b. cond b 1 0) (same_id-sym x id))
 
--- an id is among ids where it stands once or more
+-- an id is in a list if it is there once or more
 abbrev pub is_positive : ℕ → Bool
 is_positive zero = false
 is_positive (suc n) = true
@@ -35,7 +35,7 @@ pub among-times : (x : Id) (ids : List Id) → is_among x ids ≡ is_positive (t
 among-times x [] = refl
 among-times x (y ∷ ids) = grind (arith, among-times x ids, cases_Bool (is_same_id x y))
 
--- an id stands among ids, and how often
+-- whether an id is in a list, and how many times
 none-or-some : (n : ℕ) → ((n ≡ 0) × (is_positive n ≡ false)) ⊎ ((1 ≤ n) × (is_positive n ≡ true))
 none-or-some zero = inl (refl, refl)
 none-or-some (suc n) = inr (omega arith, refl)
@@ -49,30 +49,30 @@ nowhere x ids none = grind (arith, among-times x ids, none-or-some (times x ids)
 pub among-some : (x : Id) (ids : List Id) → 1 ≤ times x ids → is_among x ids ≡ true
 among-some x ids some = grind (arith, among-times x ids, none-or-some (times x ids))
 
--- what passes stands as often as before, and what doesn't is gone
+-- an id that passes is there as many times as before, and one that doesn't pass is gone
 pub times-filter : (p : Id → Bool) (x : Id) (ids : List Id) → times x (filter p ids) ≡ cond (p x) (times x ids) 0
 times-filter p x [] = grind (arith, cases_Bool (p x))
 times-filter p x (y ∷ ids) =
     grind (arith, times-filter p x ids, cases_Bool (p x), cases_Bool (p y), cases_Bool (is_same_id x y), same_id-equal x y)
 
--- how often an id is left of two lists, where some are done
+-- how many times an id is left in two lists without those that are done
 pub times-left : (done one other : List Id) (x : Id) → times x (filter (λ y. not (is_among y done)) (one ++ other)) ≡ cond (is_among x done) 0 (times x one + times x other)
 times-left done one other x =
     grind (arith, times-filter (λ y. not (is_among y done)) x (one ++ other), times-append x one other, cases_Bool (is_among x done))
 
--- whether an id is among those done, with one more done
+-- whether an id is among those that are done, with one more done
 pub among-last : (x id : Id) (done : List Id) → is_among x (done ++ id ∷ []) ≡ (is_among x done || is_same_id id x)
 among-last x id done =
     list_any-append (is_same_id x) done (id ∷ []) ∙ ap (λ b. is_among x done || b) (or-false (is_same_id x id) ∙ same_id-sym x id)
 
--- with one more done, it is no longer left
+-- with one more done, that id is no longer left
 pub left-fewer : (done : List Id) (id : Id) (ids : List Id)
     → length (filter (λ y. not (is_among y (done ++ id ∷ []))) ids) + times id (filter (λ y. not (is_among y done)) ids) ≡ length (filter (λ y. not (is_among y done)) ids)
 left-fewer done id [] = refl
 left-fewer done id (y ∷ ids) =
     grind (arith, among-last y id done, left-fewer done id ids, cases_Bool (is_among y done), cases_Bool (is_same_id id y))
 
--- an id that is among ids stands between others
+-- an id in a list has ids before it and after it
 among-parts : (x : Id) (ids : List Id) → is_among x ids ≡ true → (front : List Id) × (back : List Id) × (ids ≡ front ++ x ∷ back)
 among-parts x [] among = absurd (cc among)
 among-parts x (y ∷ ids) among = elim (cases_Bool (is_same_id x y)) [
@@ -83,7 +83,7 @@ among-parts x (y ∷ ids) among = elim (cases_Bool (is_same_id x y)) [
 times-self : (x : Id) (ids : List Id) → times x (x ∷ ids) ≡ 1 + times x ids
 times-self x ids = times-append x (x ∷ []) ids ∙ ap (λ n. n + times x ids) (times-one x x ∙ ap (λ b. cond b 1 0) (same_id-self x))
 
--- two lists in which each id stands as often are equally long
+-- two lists in which each id is equally often are equally long
 pub same-length : (xs ys : List Id) → ((x : Id) → times x xs ≡ times x ys) → length xs ≡ length ys
 same-length [] [] same = refl
 same-length [] (y ∷ ys) same = absurd (omega (arith, same y, times-self y ys))

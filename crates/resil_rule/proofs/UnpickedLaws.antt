@@ -7,7 +7,7 @@ use Rattle.resil_rule.specs.declared.event.Id.{Id}
 use Rattle.resil_rule.specs.declared.event.Event.{Event}
 use Rattle.resil_rule.specs.History.{started, accepted, waiting, started_id, queued_id, taken_id, accepted_id}
 
--- a list that is filtered out of a history, with one more event
+-- what a filter gives of a history with one more event
 pub filtered-same : {A : Type 0} (f : Event → Option A) (h : List Event) (e : Event) → f e ≡ None → filter_map f (h ++ e ∷ []) ≡ filter_map f h
 filtered-same f h e none = filter_map-append f h (e ∷ []) ∙ ap (λ o. filter_map f h ++ cons_option o []) none ∙ append-nil _
 
@@ -29,13 +29,13 @@ accepted-same h e none = filtered-same accepted_id h e none
 drop-suc : {A : Type 0} (n : ℕ) (xs : List A) → drop (n + 1) xs ≡ drop 1 (drop n xs)
 drop-suc n xs = sym (drop-drop 1 n xs)
 
--- the first of the items from an index on
+-- the first item from an index on
 slice_get-from : {A : Type 0} (n : ℕ) (xs : List A) → slice_get xs n ≡ slice_get (drop n xs) 0
 slice_get-from zero xs = refl
 slice_get-from (suc n) [] = refl
 slice_get-from (suc n) (x ∷ xs) = slice_get-from n xs
 
--- the jobs of a list, whose ids are those from an index on
+-- a list of jobs whose ids are those from an index on
 module _ {B : Type 0} (line : List (Id × B)) (ids : List Id) (n : ℕ) (same : map (λ job. job.0) line ≡ drop n ids) where
   pub line-first : (job : Id × B) (rest : List (Id × B)) → line ≡ job ∷ rest → slice_get ids n ≡ Some job.0
   line-first job rest front = slice_get-from n ids ∙ ap (λ xs. slice_get xs 0) (sym same ∙ ap (map (λ job. job.0)) front)

@@ -1,4 +1,4 @@
--- A legal history has no illegal position, and two first illegal places are one.
+-- A legal history has no illegal position, and there is only one first illegal position.
 use Rattle.std.proofs.Common.{◌≡◌, ◌<◌, ◌≤◌, ◌+◌, ◌∷◌, [], ◌++◌, ◌∙◌, ℕ, suc, List, length, take, drop, get_or, refl, sym, ap, length-append, append_assoc, append-nil, add-one, drop-cons, arith}
 use Rattle.std.proofs.Math.Seq.{take-suc}
 use Rattle.std.proofs.lemmas.List.{take-append-drop}
@@ -11,7 +11,7 @@ use Rattle.resil_rule.specs.Verdict.{IsVerdict, VerdictsAreOne}
 use Rattle.resil_rule.specs.declared.event.Event.{Event}
 use Rattle.resil_rule.specs.declared.verdict.Verdict.TheVariants.{Legal, FirstIllegal}
 
--- of one list of events, those that are allowed end before one that isn't
+-- in one list of events, a run of allowed events ends before an event that isn't allowed
 ends-before : (limits : Sizes) (before front : List Event) (bad : Event) (rest allowed more : List Event) → front ++ bad ∷ rest ≡ allowed ++ more → AreAllowedAfter limits before allowed
     → ¬ IsAllowed limits (before ++ front) bad → length allowed ≤ length front
 ends-before limits before front bad rest [] more same legal bars = omega arith
@@ -39,7 +39,7 @@ verdict_unique limits history (FirstIllegal position) (FirstIllegal position') (
     let other = ends-before limits [] front' bad' rest' front (bad ∷ rest) (sym same' ∙ same) legal bars' in
     ap FirstIllegal (omega (arith, at, at', one, other))
 
--- the events before a position of a history, the one there, and those after it
+-- the events before a position of a history, the event there, and those after it
 module _ (limits : Sizes) (h : List Event) (i : ℕ) (d : Event) (within : i < length h) where
   split-at : h ≡ take i h ++ get_or h i d ∷ drop (suc i) h
   split-at = sym (take-append-drop i h) ∙ ap (λ (t : List Event). take i h ++ t) (drop-cons h i d within)
@@ -49,7 +49,7 @@ module _ (limits : Sizes) (h : List Event) (i : ℕ) (d : Event) (within : i < l
       let position : i + 1 ≡ suc (length (take i h)) = grind (arith, common_steps) in
       (take i h, get_or h i d, drop (suc i) h, split-at, position, legal, bars)
 
--- the rule's state after one event more
+-- the rule's state after one more event
 pub state_next : (v : RuleView (Unit {0})) (h : List Event) (i : ℕ) (d : Event) → i < length h → IsStateOf (take i h ++ get_or h i d ∷ []) v
     → IsStateOf (take (i + 1) h) v
 state_next v h i d within state = rw (add-one, take-suc h i d within) state

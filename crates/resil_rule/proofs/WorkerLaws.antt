@@ -1,4 +1,4 @@
--- The workers of a legal history, and the greatest size of the opening.
+-- The workers of a legal history, and the maximum size at the opening.
 use Rattle.std.proofs.Common.{◌≡◌, ◌≤◌, ◌+◌, ◌∷◌, [], ◌++◌, List, None, length, refl, arith}
 use Rattle.std.proofs.lemmas.Bool.{cases_Bool}
 use Rattle.std.proofs.lemmas.Grind.{common_steps}
@@ -11,17 +11,17 @@ use Rattle.resil_rule.proofs.EventLaws.{count-more, ends-more}
 use Rattle.resil_rule.proofs.FreshLaws.{holds-legal}
 use Rattle.resil_rule.proofs.SizeLaws.{sizes-quiet, sizes-resized}
 
--- what is kept event by event: neither the workers nor the sizes are above the greatest size of the opening
+-- what each event keeps: neither the workers nor the sizes are above the maximum size at the opening
 record AreWithin (limits : Sizes) (h : List Event) : Type 0 where
   workers_few : workers h ≤ limits.max
   core_small : core_size limits h ≤ limits.max
   max_small : max_size limits h ≤ limits.max
 
--- one event changes the workers by one at most
+-- one event adds at most one worker
 workers-push : (h : List Event) (e : Event) → workers (h ++ e ∷ []) ≤ workers h + length (started (e ∷ []))
 workers-push h e = let s = count-more started_id h e in let i = ends-more h e in omega (arith, s, i)
 
--- the sizes stay within the opening's where an event sets none
+-- the sizes stay within those of the opening if an event sets none
 same-sizes : (limits : Sizes) (h : List Event) (e : Event) → AreWithin limits h → new_core e ≡ None → new_max e ≡ None
     → workers (h ++ e ∷ []) ≤ limits.max → AreWithin limits (h ++ e ∷ [])
 same-sizes limits h e within no_core no_max few =
@@ -29,7 +29,7 @@ same-sizes limits h e within no_core no_max few =
     record { workers_few = few; core_small = omega (arith, sizes.core_is, within.core_small); max_small = omega (arith, sizes.max_is, within.max_small) }
 
 within-push : (limits : Sizes) (h : List Event) (e : Event) → AreWithin limits h → IsAllowed limits h e → AreWithin limits (h ++ e ∷ [])
--- a submission gets a worker only where there are fewer workers than a size
+-- a submission gets a worker only if there are fewer workers than a size
 within-push limits h (Submit id reply) within allowed =
     let one = workers-push h (Submit id reply) in
     let few : workers h + length (started (Submit id reply ∷ [])) ≤ limits.max =

@@ -8,7 +8,7 @@ use Rattle.resil_rule.specs.declared.event.Reply.TheVariants.{Core, Queued, Extr
 use Rattle.resil_rule.specs.declared.event.Event.{Event}
 use Rattle.resil_rule.specs.declared.event.Event.TheVariants.{Submit, Take, Finish, IdleEnd, Close, Resized}
 
--- The answer to a submission, by the sizes after the history: the first case that fits.
+-- The reply to a submission, by the sizes after the history: the first case that fits.
 abbrev pub reply_after : Sizes → List Event → Reply
 reply_after limits history =
     if is_closed history then Closed
@@ -21,7 +21,7 @@ reply_after limits history =
 abbrev pub HasIdleWorker : List Event → Type 0
 HasIdleWorker history = length (running history) < workers history
 
--- The event may follow the history, in a pool that was opened with these limits.
+-- The event may follow the history in a pool that was opened with these limits.
 abbrev pub IsAllowed : Sizes → List Event → Event → Type 0
 IsAllowed limits history (Submit id reply) = (id.number ≡ next_number history id.caller) × (reply ≡ reply_after limits history)
 IsAllowed limits history (Take id) = (slice_get (waiting history) 0 ≡ Some id) × HasIdleWorker history
@@ -30,7 +30,7 @@ IsAllowed limits history IdleEnd = (waiting history ≡ []) × HasIdleWorker his
 IsAllowed limits history Close = is_closed history ≡ false
 IsAllowed limits history (Resized core max) = AreSizesWithin limits core max
 
--- Each of the events is allowed after those before it.
+-- Each of these events is allowed after those before it.
 abbrev pub AreAllowedAfter : Sizes → List Event → List Event → Type 0
 AreAllowedAfter limits before [] = Unit {0}
 AreAllowedAfter limits before (event ∷ events) = IsAllowed limits before event × AreAllowedAfter limits (before ++ event ∷ []) events
@@ -39,8 +39,8 @@ AreAllowedAfter limits before (event ∷ events) = IsAllowed limits before event
 abbrev pub IsLegal : Sizes → List Event → Type 0
 IsLegal limits history = AreAllowedAfter limits [] history
 
--- In a legal history there are never more workers than the greatest size of the opening, whatever the sizes are by then, where the opening's
--- core size is no greater.
+-- If the core size at the opening is at most the maximum size at the opening, then a legal history never has more workers than that maximum
+-- size, whatever the sizes are by then.
 abbrev pub WorkersWithinOpening : Type 0
 WorkersWithinOpening = (limits : Sizes) (history : List Event) → limits.core ≤ limits.max → IsLegal limits history → workers history ≤ limits.max
 
@@ -48,11 +48,11 @@ WorkersWithinOpening = (limits : Sizes) (history : List Event) → limits.core �
 abbrev pub RunningWithinWorkers : Type 0
 RunningWithinWorkers = (limits : Sizes) (history : List Event) → IsLegal limits history → length (running history) ≤ workers history
 
--- Of the jobs with an id: those accepted are those that wait, run or are finished, and there is one at most.
+-- About the jobs with one id: those that were accepted are those that wait, run or are finished, and there is at most one.
 pub record IsConserved (history : List Event) (id : Id) : Type 0 where
   pub sum : times id (accepted history) ≡ times id (waiting history) + times id (running history) + times id (finished history)
   pub once : times id (accepted history) ≤ 1
 
--- In a legal history no job is lost, and none is there twice: each accepted one waits, runs or is finished, and is one of these alone.
+-- In a legal history no job is lost and none is there twice: each accepted job waits, runs or is finished, and is in only one of these states.
 abbrev pub JobsConserved : Type 0
 JobsConserved = (limits : Sizes) (history : List Event) → IsLegal limits history → (id : Id) → IsConserved history id

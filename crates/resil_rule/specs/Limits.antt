@@ -1,9 +1,9 @@
--- The sizes that a pool is opened with, which are allowed, and which it may be resized to.
+-- The sizes that a pool is opened with: which are allowed, and to which ones it may be resized.
 use Rattle.std.specs.Prelude.{ℕ, ◌≤◌}
 use Rattle.resil_rule.specs.declared.error.AdmitError.{AdmitError}
 use Rattle.resil_rule.specs.declared.error.AdmitError.TheVariants as refused
 
--- the core size, the greatest size and the capacity of the queue
+-- the core size, the maximum size and the capacity of the queue
 pub record Sizes : Type 0 where
   pub core : ℕ
   pub max : ℕ
@@ -13,7 +13,7 @@ pub record Sizes : Type 0 where
 abbrev pub IsCore : ℕ → Type 0
 IsCore core = (1 ≤ core) × (core ≤ 64)
 
--- a greatest size is from the core size to 64
+-- a maximum size is from the core size to 64
 abbrev pub IsMax : ℕ → ℕ → Type 0
 IsMax core max = (core ≤ max) × (max ≤ 64)
 
@@ -27,7 +27,7 @@ pub record AreLimits (sizes : Sizes) : Type 0 where
   pub max : IsMax sizes.core sizes.max
   pub queue : IsQueue sizes.queue
 
--- sizes that a pool of these limits may be resized to: a core size from 1 to the greatest size, which is at most that of the limits
+-- sizes to which a pool of these limits may be resized: a core size from 1 to the maximum size, which is at most the limits' maximum size
 abbrev pub AreSizesWithin : Sizes → ℕ → ℕ → Type 0
 AreSizesWithin limits core max = (1 ≤ core) × (core ≤ max) × (max ≤ limits.max)
 
@@ -38,8 +38,8 @@ IsSizeRefusal sizes refused.MaxOutOfRange = IsCore sizes.core × ¬ IsMax sizes.
 IsSizeRefusal sizes refused.QueueOutOfRange = IsCore sizes.core × IsMax sizes.core sizes.max × ¬ IsQueue sizes.queue
 IsSizeRefusal sizes _ = ⊥
 
--- why a pool of these limits isn't resized: its core size isn't from 1 to 64; or it is, and the greatest size is below it or
--- above that of the limits; or memory ran out
+-- why a pool of these limits isn't resized: its core size isn't from 1 to 64; or it is, and the maximum size is less than
+-- the core size or greater than the limits' maximum size; or it is out of memory
 abbrev pub IsResizeRefusal : Sizes → ℕ → ℕ → AdmitError → Type 0
 IsResizeRefusal limits core max refused.CoreOutOfRange = ¬ IsCore core
 IsResizeRefusal limits core max refused.MaxOutOfRange = IsCore core × ¬ AreSizesWithin limits core max

@@ -1,4 +1,4 @@
--- What is true of the rule's state between any two calls, whatever its history.
+-- What is true of the rule's state between any two calls, for any history.
 use Rattle.std.specs.Prelude.{◌≡◌, ◌≤◌, ◌+◌, length}
 use Rattle.resil_rule.specs.Sizes.{AreSizes}
 use Rattle.resil_rule.specs.Slots.{ids_out}
@@ -7,7 +7,7 @@ use Rattle.resil_rule.specs.declared.rule.Rule.TheInside.{Inside}
 module _ {W : Type 0} where
   pub record RuleInvariant (c : Inside W) : Type 0 where
     pub limits : AreSizes c.limits
-    -- the rings have their room, and there is a place for each worker's job
+    -- the rings have their capacities, and there is a place for each worker's job
     pub queue : c.waiting.capacity ≡ c.limits.queue
     pub starts : c.unpicked.capacity ≡ c.limits.max
     pub places : length c.out ≡ c.limits.max

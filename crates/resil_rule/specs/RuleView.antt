@@ -1,4 +1,4 @@
--- What contracts see of the rule: what it keeps, and nothing of a history.
+-- What contracts see of the rule: what it keeps, without a history.
 use Rattle.std.specs.Prelude.{ℕ, ◌≡◌, ◌+◌, ◌-◌, ◌*◌, ◌⊎◌, ◌<◌, ◌++◌, ◌∷◌, [], Bool, true, false, List, Option, Some, None, length, map, drop, replicate, slice_set, slice_index_or, nat_lt, if◌then◌else◌}
 use Rattle.resil_rule.specs.Limits.{Sizes}
 use Rattle.resil_rule.specs.Slots.{ids_out}
@@ -7,7 +7,7 @@ use Rattle.resil_rule.specs.declared.event.Reply.{Reply}
 use Rattle.resil_rule.specs.declared.event.Reply.TheVariants.{Core, Queued, Extra, Full, Closed}
 use Rattle.resil_rule.specs.declared.slots.Slot.{Slot}
 
--- The sizes at making and now, whether it is closed, how many workers there are; the jobs with a worker of their own that weren't
+-- The sizes that it was made with and the current ones, whether it is closed, how many workers there are; the jobs with their own worker that weren't
 -- picked yet, and those in the queue, oldest first; the places of those that are out; and how many submissions each caller made.
 pub record RuleView (W : Type 0) : Type 0 where
   pub limits : Sizes
@@ -20,7 +20,7 @@ pub record RuleView (W : Type 0) : Type 0 where
   pub out : List (Option Id)
   pub made : List ℕ
 
--- whether an answer is one of the three that accept
+-- whether a reply is one of the three that accept
 abbrev pub is_acceptance : Reply → Bool
 is_acceptance Core = true
 is_acceptance Queued = true
@@ -32,7 +32,7 @@ module _ {W : Type 0} where
   abbrev pub ids_of : List (Id × W) → List Id
   ids_of jobs = map (λ job. job.0) jobs
 
-  -- just made, for so many callers
+  -- just made, for this many callers
   abbrev pub opened : Sizes → ℕ → RuleView W
   opened limits callers = record {
     limits = limits;
@@ -50,8 +50,8 @@ module _ {W : Type 0} where
   abbrev pub busy : RuleView W → ℕ
   busy v = length v.unpicked + length (ids_out v.out)
 
-  -- how many events may come of what the rule has, whatever else is submitted: the take and the end of each job that waits, the end of each
-  -- that runs, the end of each worker, and the closing
+  -- how many events may come of what the rule has, whatever else is submitted: the take and the finish of each job that waits, the finish
+  -- of each job that runs, the end of each worker, and the closing
   abbrev pub owed : RuleView W → ℕ
   owed v = 2 * length v.waiting + busy v + v.workers + (if v.closed then 0 else 1)
 
@@ -59,7 +59,7 @@ module _ {W : Type 0} where
   abbrev pub made_by : RuleView W → ℕ → ℕ
   made_by v caller = slice_index_or v.made caller 0
 
-  -- the answer to the next submission: the first case that fits
+  -- the reply to the next submission: the first case that fits
   abbrev pub next_reply : RuleView W → Reply
   next_reply v =
       if v.closed then Closed
@@ -72,7 +72,7 @@ module _ {W : Type 0} where
   abbrev pub counted : RuleView W → Id → RuleView W
   counted v id = record v { made = slice_set v.made id.caller id.number }
 
-  -- a job gets a worker of its own
+  -- a job gets its own worker
   abbrev pub with_start : RuleView W → Id → W → RuleView W
   with_start v id work = record v {
     made = slice_set v.made id.caller id.number;
@@ -80,14 +80,14 @@ module _ {W : Type 0} where
     unpicked = v.unpicked ++ (id, work) ∷ [];
   }
 
-  -- a submission with its answer
+  -- a submission with its reply
   abbrev pub with_submission : RuleView W → Id → W → Reply → RuleView W
   with_submission v id work Core = with_start v id work
   with_submission v id work Queued = record v { made = slice_set v.made id.caller id.number; waiting = v.waiting ++ (id, work) ∷ [] }
   with_submission v id work Extra = with_start v id work
   with_submission v id work _ = counted v id
 
-  -- the oldest job with a worker of its own is picked
+  -- the oldest job with its own worker is picked
   abbrev pub with_pick : RuleView W → Slot → RuleView W
   with_pick v slot = record v { unpicked = drop 1 v.unpicked; out = slice_set v.out slot.place (Some slot.id) }
 
@@ -108,10 +108,10 @@ module _ {W : Type 0} where
   abbrev pub with_sizes : RuleView W → ℕ → ℕ → RuleView W
   with_sizes v core max = record v { core = core; max = max }
 
-  -- nothing waits, a worker has no job, and there are more than the core size or the pool is closed
+  -- no job waits, a worker has no job, and either there are more workers than the core size or the pool is closed
   abbrev pub MayEndIdle : RuleView W → Type 0
   MayEndIdle v = (v.waiting ≡ []) × (busy v < v.workers) × ((v.core < v.workers) ⊎ (v.closed ≡ true))
 
-  -- there is a job to pick: one with a worker of its own, or one that waits while a worker has no job
+  -- there is a job to pick: one with its own worker, or one that waits while a worker has no job
   abbrev pub HasOneToPick : RuleView W → Type 0
   HasOneToPick v = (0 < length v.unpicked) ⊎ ((0 < length v.waiting) × (busy v < v.workers))

@@ -1,4 +1,4 @@
--- The sizes of a pool that may have more workers than one of `Limits`: which are allowed, and which a resize may set.
+-- The sizes of a pool, which may have more workers than `Limits` allows: which are allowed, and which a resize may set.
 use Rattle.std.specs.Prelude.{ℕ, ◌≤◌, nat_lt, if◌then◌else◌}
 use Rattle.resil_rule.specs.Limits.{Sizes, IsQueue, AreSizesWithin}
 use Rattle.resil_rule.specs.declared.error.AdmitError.{AdmitError}
@@ -8,7 +8,7 @@ use Rattle.resil_rule.specs.declared.error.AdmitError.TheVariants as refused
 abbrev pub IsWideCore : ℕ → Type 0
 IsWideCore core = (1 ≤ core) × (core ≤ 1024)
 
--- a greatest size is from the core size to 1,024
+-- a maximum size is from the core size to 1,024
 abbrev pub IsWideMax : ℕ → ℕ → Type 0
 IsWideMax core max = (core ≤ max) × (max ≤ 1024)
 
@@ -25,15 +25,15 @@ IsSizesRefusal sizes refused.MaxOutOfRange = IsWideCore sizes.core × ¬ IsWideM
 IsSizesRefusal sizes refused.QueueOutOfRange = IsWideCore sizes.core × IsWideMax sizes.core sizes.max × ¬ IsQueue sizes.queue
 IsSizesRefusal sizes _ = ⊥
 
--- the largest core size that a resize may name: 64, or 1,024 in a pool that was opened for more than 64 workers
+-- the largest core size that a resize may set: 64, or 1,024 in a pool that was opened for more than 64 workers
 abbrev pub most_core : Sizes → ℕ
 most_core sizes = if nat_lt 64 sizes.max then 1024 else 64
 
 abbrev pub IsCoreOf : Sizes → ℕ → Type 0
 IsCoreOf sizes core = (1 ≤ core) × (core ≤ most_core sizes)
 
--- why a pool of these sizes isn't resized: its core size isn't from 1 to the largest that a resize may name; or it is, and the greatest
--- size is below it or above that of the opening; or memory ran out
+-- why a pool of these sizes isn't resized: its core size isn't from 1 to the largest one that a resize may set; or it is, and the
+-- maximum size is less than the core size or greater than the maximum size at the opening; or it is out of memory
 abbrev pub IsRefusedResize : Sizes → ℕ → ℕ → AdmitError → Type 0
 IsRefusedResize sizes core max refused.CoreOutOfRange = ¬ IsCoreOf sizes core
 IsRefusedResize sizes core max refused.MaxOutOfRange = IsCoreOf sizes core × ¬ AreSizesWithin sizes core max

@@ -14,7 +14,7 @@ times_in history = map (λ timed. timed.at) history
 abbrev pub AreAscending : List ℕ → Type 0
 AreAscending times = (k : ℕ) → k + 1 < length times → slice_index times k ≤ slice_index times (k + 1)
 
--- The first time that is lower than the one before it stands at this position, from 1.
+-- The first time that is lower than the one before it is at this position, counted from 1.
 pub record GoesBackAt (times : List ℕ) (position : ℕ) : Type 0 where
   pub second : 2 ≤ position
   pub within : position ≤ length times

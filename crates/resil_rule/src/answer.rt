@@ -1,12 +1,12 @@
-//! What the rule of admission answers to the last of some events, once it has carried out those before it.
+//! What the rule of admission answers to the last event of a list, after it has carried out those before it.
 
 use super::{AdmitError, Event, Id, Limits, Reply, Rule};
 use std::alloc::Global;
 
-/// What the rule says of an event that it doesn't carry out.
+/// What the rule answers to an event that it doesn't carry out.
 #[derive(Clone, Copy)]
 pub enum Answer {
-    /// The reply that a submission gets.
+    /// The submission gets this reply.
     Reply(Reply),
     /// The number of this caller's next submission.
     Next(u16, u64),
@@ -18,19 +18,19 @@ pub enum Answer {
     OneWaits,
     /// No worker is idle.
     NoneIdle,
-    /// The pool is open, and has no more workers than the core size.
+    /// The pool is open, and has no more workers than its core size.
     NoneSpare,
-    /// No job of that id is out.
+    /// No job with that id is out.
     NotOut,
     /// The pool is closed already.
     Closed,
     /// The core size of a resize is out of its range.
     CoreOutOfRange,
-    /// The core size of a resize, and the greatest size that one may set.
+    /// The core size that a resize asks for, and the largest maximum size that a resize may set.
     Greatest(u32, u32),
 }
 
-// The event as the rule would have it: a row of a `replay` has no reply, and doesn't name the job that is taken.
+// The event as the rule would have it. A row of a `replay` has no reply, and doesn't name the job that is taken.
 fn filled_in(rule: &Rule<()>, event: Event) -> Event {
     match event {
         Event::Submit { id, reply: _ } => Event::Submit {
@@ -42,7 +42,7 @@ fn filled_in(rule: &Rule<()>, event: Event) -> Event {
     }
 }
 
-/// Why an event isn't carried out.
+/// Says why an event isn't carried out.
 pub fn answer_to(rule: &Rule<()>, event: Event) -> Answer {
     match event {
         Event::Submit { id, reply: _ } if rule.is_next(id) => Answer::Reply(rule.next_reply()),
@@ -66,7 +66,7 @@ pub fn answer_to(rule: &Rule<()>, event: Event) -> Answer {
     }
 }
 
-/// A rule of these limits that has carried out all events but the last, and that one, or `None` if there is none or when out of memory.
+/// A rule of these limits that has carried out all events but the last, and that last event. `None` if there are no events or if out of memory.
 pub fn rule_at_last(alloc: Global, limits: Limits, events: &[Event]) -> Option<(Rule<()>, Event)> {
     let (last, before) = events.split_last()?;
     let mut rule = Rule::new(alloc, limits.into(), 0).ok()?;
@@ -77,8 +77,8 @@ pub fn rule_at_last(alloc: Global, limits: Limits, events: &[Event]) -> Option<(
     Some((rule, *last))
 }
 
-/// What a pool of these limits says of the last of some events, once it has carried out those before it, or `None` if there is
-/// none or when out of memory.
+/// What a pool of these limits answers to the last event of a list, after it has carried out those before it. `None` if there
+/// are no events or if out of memory.
 pub fn answer_to_last(alloc: Global, limits: Limits, events: &[Event]) -> Option<Answer> {
     let (rule, event) = rule_at_last(alloc, limits, events)?;
     Some(answer_to(&rule, event))

@@ -1,9 +1,9 @@
-//! Errors of the rule, and of the pools that go by it.
+//! The errors of the rule, and of the pools that follow it.
 
 use std::alloc::AllocError;
 use thiserror::Error;
 
-/// A refusal. Each call names the ones that it can give, and their order.
+/// A refusal. The comment on each call names the ones that it can give, in their order.
 ///
 /// ```
 /// match machine.submit(alloc, id, job) {
@@ -14,25 +14,26 @@ use thiserror::Error;
 /// ```
 #[derive(Clone, Copy, Debug, PartialEq, Eq, Error)]
 pub enum AdmitError {
-    /// The core size isn't from 1 to 64, or to 1,024 by `Sizes` and in a pool that was opened for more than 64 workers.
+    /// The core size isn't from 1 to 64. The bound is 1,024 for `Sizes`, and in a pool that was opened for more than 64 workers.
     #[error("the core size is not from 1 to 64, or to 1024 in a pool for more than 64 workers")]
     CoreOutOfRange,
-    /// The maximum size isn't from the core size to 64, or to 1,024 by `Sizes`; of a resize, to the maximum size at making.
+    /// The maximum size isn't from the core size to 64, or to 1,024 for `Sizes`. For a resize the bound is the maximum size
+    /// that the pool was made with.
     #[error("the maximum size is not from the core size to the largest one allowed: 64, 1024 by Sizes, or that of the opening")]
     MaxOutOfRange,
     /// The queue capacity isn't from 1 to 65,536.
     #[error("the queue capacity is not from 1 to 65536")]
     QueueOutOfRange,
-    /// Memory ran out. Nothing was changed.
+    /// Out of memory. Nothing was changed.
     #[error("out of memory")]
     Memory,
     /// The submission's number isn't its caller's next one.
     #[error("not the caller's next number")]
     WrongNumber,
-    /// No job that was picked and isn't finished has this id.
+    /// No job with this id was picked and isn't finished.
     #[error("no job with this id is running")]
     NotOut,
-    /// The run is of another plan than the one that was submitted under this id.
+    /// The run belongs to another plan than the one that was submitted under this id.
     #[error("the run is not of the job's plan")]
     OtherJob,
     /// An accepted job has no result.
@@ -51,7 +52,7 @@ impl From<AllocError> for AdmitError {
     }
 }
 
-/// Why a submission isn't accepted, in the order in which the rule looks.
+/// Why a submission isn't accepted, in the order in which the rule checks.
 ///
 /// ```
 /// match rule.submit(id, work) {
@@ -62,13 +63,13 @@ impl From<AllocError> for AdmitError {
 /// ```
 #[derive(Clone, Copy, Debug, PartialEq, Eq, Error)]
 pub enum Refusal {
-    /// The caller isn't one of those that are counted. Nothing was changed.
+    /// The caller isn't one whose submissions are counted. Nothing was changed.
     #[error("no such caller")]
     NoSuchCaller,
     /// The submission's number isn't its caller's next one. Nothing was changed.
     #[error("not the caller's next number")]
     WrongNumber,
-    /// The queue is full and there are as many workers as the greatest size. The submission counts.
+    /// The queue is full, and there are as many workers as the maximum size. The submission counts.
     #[error("the pool is full")]
     Full,
     /// The pool is closed. The submission counts.

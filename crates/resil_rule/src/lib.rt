@@ -1,12 +1,12 @@
-//! The rule of admission, and the words that pools speak of it in.
+//! The rule of admission, and the words in which pools speak of it.
 //!
-//! `Event` and `Limits` are the words, `specs/History.antt` says what a history of events means, and
-//! `specs/Admission.antt` which event may come next. `Rule` keeps what is needed to decide that, and no
-//! history: its memory is that of its opening, whatever comes. `audit` judges a history by one pass of a
-//! rule over no work, and `answer_to` says why an event isn't carried out. `Timed` is an event with its time.
+//! `Event` and `Limits` are the words. `specs/History.antt` says what a history of events means, and
+//! `specs/Admission.antt` says which event may come next. A `Rule` keeps what it needs to decide that, and no
+//! history: no event makes it take more memory. `audit` judges a history in one pass, with a rule whose jobs
+//! have no content, and `answer_to` says why an event isn't carried out. `Timed` is an event with its time.
 //!
-//! The rule is that of the class documentation of `java.util.concurrent.ThreadPoolExecutor`; `Rule::next_reply`
-//! tells it.
+//! The rule is that of the class documentation of `java.util.concurrent.ThreadPoolExecutor`. The comment on
+//! `Rule::next_reply` states it.
 #![tactic(auto)]
 
 mod answer;

@@ -1,4 +1,4 @@
-//! The sizes that a pool is opened with. A resize leaves them: they tell how far it may go.
+//! The sizes that a pool is opened with. A resize doesn't change them; they say how far it may go.
 
 ghost use Rattle.std.specs.Prelude.{◌≡◌, IfOk, IfErr};
 ghost use Rattle.resil_rule.specs.Limits.{Sizes as SizesView, AreLimits, IsSizeRefusal};
@@ -6,8 +6,8 @@ ghost use Rattle.resil_rule.specs.Limits.{Sizes as SizesView, AreLimits, IsSizeR
 use super::{AdmitError, Sizes};
 use std::marker::Model;
 
-/// The sizes of a pool: the core size (1 to 64), the greatest size (core size to 64) and the capacity
-/// of the queue (1 to 65,536 jobs). After the ThreadPoolExecutor class documentation; the ranges are our own.
+/// The sizes of a pool: the core size (1 to 64), the maximum size (core size to 64) and the capacity of the
+/// queue (1 to 65,536 jobs). After the ThreadPoolExecutor class documentation; the ranges are our own.
 ///
 /// ```
 /// let limits = Limits::new(2, 4, 100)?;
@@ -31,19 +31,18 @@ impl Model for Limits {
 }
 
 impl Limits {
-    /// The largest size that a pool may have, in workers.
+    /// The largest maximum size that a pool may have, in workers.
     pub const MAX_WORKERS: u32 = 64;
 
     /// The largest capacity that a queue may have, in jobs.
     pub const MAX_WAITING: u32 = 65_536;
 
-    /// The limits of these sizes.
+    /// The limits with these sizes.
     ///
     /// # Errors
     ///
-    /// In this order: `CoreOutOfRange` where the core size isn't from 1 to `MAX_WORKERS`; `MaxOutOfRange` where
-    /// the greatest size isn't from the core size to `MAX_WORKERS`; `QueueOutOfRange` where the capacity isn't
-    /// from 1 to `MAX_WAITING`.
+    /// In this order: `CoreOutOfRange` if the core size isn't from 1 to `MAX_WORKERS`; `MaxOutOfRange` if the maximum size isn't from
+    /// the core size to `MAX_WORKERS`; `QueueOutOfRange` if the capacity isn't from 1 to `MAX_WAITING`.
     ///
     /// ```
     /// match Limits::new(core, max, queue) {
@@ -68,7 +67,7 @@ impl Limits {
         Ok(Limits { core, max, queue })
     }
 
-    /// The limits of sizes that are in the ranges of `Limits`, as those of a pool that was opened by limits.
+    /// The limits with the numbers of these sizes, which must be in the ranges of `Limits`, as in a pool that was opened by limits.
     pub fn of(sizes: Sizes) -> Limits
         requires { AreLimits sizes }
         ensures { result ≡ sizes }
@@ -87,7 +86,7 @@ impl Limits {
         self.core
     }
 
-    /// The greatest size, in workers.
+    /// The maximum size, in workers.
     pub fn max(&self) -> u32
         ensures { result ≡ self.now.max }
     {

@@ -1,8 +1,8 @@
-//! Records of events, for a pool that keeps its history beside its rule.
+//! Records of events, for a pool that keeps its history next to its rule.
 //!
-//! A record is told each event once, after the rule's call that made it, and has the room for it by then.
-//! `NoRecord` keeps nothing, and `LastEvents` the last events, in memory of its own. `AllEvents` keeps all of
-//! them, and allocates before the rule's call: where memory runs out there, nothing was changed.
+//! A record gets each event once, after the call of the rule that made it, and has room for it by then.
+//! `NoRecord` keeps nothing. `LastEvents` keeps the last events, in memory of its own. `AllEvents` keeps all
+//! of them, and allocates before the rule's call: if it is out of memory there, nothing was changed.
 
 ghost use Rattle.std.specs.Prelude.{◌≡◌, ◌-◌, ◌≤◌, ◌++◌, ◌∷◌, [], ℕ, List, Option, suc, length, vec_len, vec_capacity, slice_get, IsOk, IfOk, OnOk};
 ghost use Rattle.resil_rule.specs.Record.{AllView, LastView, IsLastOf};
@@ -12,7 +12,7 @@ use circular_buffer::HeapCircularBuffer;
 use std::alloc::{AllocError, Global};
 use std::marker::Model;
 
-/// What is told the events of a pool, one after the other.
+/// What gets the events of a pool, one after the other.
 ///
 /// ```
 /// record.reserve(1)?;
@@ -23,20 +23,20 @@ use std::marker::Model;
 pub trait Record: Drop {
     ghost use Rattle.resil_rule.specs.declared.event.Event.{Event};
 
-    /// It holds what this history leaves in it.
+    /// It holds what a record keeps of this history.
     ghost IsRecordOf: { List Event → Self → Type 0 };
 
-    /// It has room for so many events.
+    /// It has room for this many events.
     ghost HasRoom: { ℕ → Self → Type 0 };
 
-    /// How many events it keeps at most, the last ones; none where it keeps all. It stays as it was made.
+    /// How many events it keeps at most: the last ones. `None` if it keeps all. This never changes.
     ghost capacity: { Self → Option ℕ };
 
-    /// Makes room for so many events more. What it holds stays, and so does the room that it has.
+    /// Makes room for this many more events. What it holds stays, and so does the room that it has.
     ///
     /// # Errors
     ///
-    /// `AllocError` where the room isn't there yet and memory runs out.
+    /// `AllocError` if the room isn't there yet and it is out of memory.
     fn reserve(&mut self, events: usize) -> Result<(), AllocError>
         ensures room { OnOk result (HasRoom events self.new) }
         ensures kept { (history : List Event) → IsRecordOf history self.old → IsRecordOf history self.new }
@@ -44,14 +44,14 @@ pub trait Record: Drop {
         ensures capacity { capacity self.new ≡ capacity self.old }
         ensures ready { HasRoom events self.old → IsOk result };
 
-    /// Writes an event behind the others, into room that was made for it.
+    /// Writes an event after the others, into room that was made for it.
     fn write(&mut self, event: Event)
         requires room { HasRoom 1 self.old }
         ensures written { (history : List Event) → IsRecordOf history self.old → IsRecordOf (history ++ event ∷ []) self.new }
         ensures room { (events : ℕ) → HasRoom (suc events) self.old → HasRoom events self.new }
         ensures capacity { capacity self.new ≡ capacity self.old };
 
-    /// Room for some events is room for fewer.
+    /// A record with room for some events has room for fewer.
     ghost has_less_room: { (fewer events : ℕ) (r : Self) → fewer ≤ events → HasRoom events r → HasRoom fewer r };
 }
 
@@ -102,7 +102,7 @@ impl Model for AllEvents {
 }
 
 impl AllEvents {
-    /// The record of no event yet. It allocates nothing.
+    /// The record of no events yet. It allocates nothing.
     pub fn new(alloc: Global) -> AllEvents
         ensures { result ≡ record { events = []; room = 0 } }
     {
@@ -118,14 +118,14 @@ impl AllEvents {
         self.events.as_slice()
     }
 
-    /// The events themselves, oldest first.
+    /// The list of all events, oldest first, by value.
     pub fn into_events(self) -> Vec<Event>
         ensures { result.items ≡ self.events }
     {
         self.events
     }
 
-    /// How many more events there is memory for.
+    /// How many more events fit without allocating.
     pub fn room(&self) -> usize
         ensures { result ≡ self.now.room }
     {
@@ -154,7 +154,7 @@ impl Record for AllEvents {
     }
 }
 
-/// The record of the last events, as many as it was made for. It takes all its memory at the making.
+/// The record of the last events, as many as it was made for. It takes all its memory when it is made.
 ///
 /// ```
 /// let mut record = LastEvents::new(alloc, 1)?;
@@ -177,11 +177,11 @@ impl Model for LastEvents {
 }
 
 impl LastEvents {
-    /// The record of no event yet, with the memory for so many. One for none loses each event.
+    /// The record of no events yet, with the memory for `count` events. If `count` is 0 it loses every event.
     ///
     /// # Errors
     ///
-    /// `AllocError` when out of memory.
+    /// `AllocError` if out of memory.
     pub fn new(alloc: Global, count: usize) -> Result<LastEvents, AllocError>
         ensures empty { IfOk result (λ last. last ≡ record { events = []; capacity = count; lost = 0 }) }
         ensures history { IfOk result (IsLastOf []) }
@@ -192,8 +192,8 @@ impl LastEvents {
         })
     }
 
-    /// How many events were lost: all that were written, but for the last ones that it holds. The count
-    /// stops at 2^64 - 1, which also stands for more.
+    /// How many events were lost: all that were written, except the last ones, which it holds. The count
+    /// stops at 2^64 - 1, which also means more.
     pub fn lost(&self) -> u64
         ensures { result ≡ self.now.lost }
     {

@@ -1,12 +1,12 @@
-//! The rule of admission over the work that waits, in the memory that its opening took.
+//! The rule of admission over the jobs that wait, in the memory that it takes when it is made.
 //!
-//! It keeps no history: only the numbers of workers and of submissions, the work that wasn't picked yet,
-//! and the ids of the jobs that are out. Each call's contract says what it does to these, and which event
-//! it adds to every history that they may be the state after. A caller that keeps a history, or a ghost
-//! of one, has the rule's promises of it by that.
+//! A rule keeps no history. It keeps the numbers of workers and of submissions, the jobs that weren't picked
+//! yet, and the ids of the jobs that are out. The contract of each call says how it changes these, and which
+//! event it adds to every history that may have led to them. So a caller that keeps a history, or a ghost of
+//! one, has the rule's promises about that history.
 //!
-//! `new` takes all room, and `reserve_caller` more of it for callers. No other call allocates, or looks
-//! through what came before. `find` alone looks through the places of jobs.
+//! `new` takes all the room, and `reserve_caller` takes more of it for callers. No other call allocates. Only
+//! `find` searches: it looks through the places of the jobs that are out.
 
 ghost use Rattle.std.specs.Prelude.{◌≡◌, ◌↔◌, ◌≤◌, ◌<◌, ◌-◌, ◌+◌, ℕ, None as nothing, Some, [], max, suc, true, false, if◌then◌else◌, length, option_map, slice_get, slice_index_or, IsTrue, IsOk, IfOk, IfErr, IfSome, IfNone, OnOk, OnErr};
 ghost use Rattle.std.specs.Bool.{OnTrue, OnFalse};
@@ -24,21 +24,21 @@ use circular_buffer::HeapCircularBuffer;
 use std::alloc::{AllocError, Global};
 use std::marker::Model;
 
-/// Where a picked job came from. Only a take from the queue is an event.
+/// The origin of a picked job. Only a take from the queue is an event.
 #[derive(Clone, Copy, Debug, PartialEq, Eq)]
 pub enum Origin {
-    /// It had a worker of its own from its submission on.
+    /// It had its own worker from its submission on.
     OwnStart,
     /// It was taken from the front of the queue.
     Queue,
 }
 
-/// A job that was picked, and is out until it is finished.
+/// A job that was picked. It is out until it is finished.
 #[derive(Drop)]
 pub struct Picked<W: Drop> {
-    /// Its id and its place, which `Rule::finish` goes by.
+    /// Its id and its place, which `Rule::finish` takes.
     pub slot: Slot,
-    /// Where it came from.
+    /// Its origin.
     pub origin: Origin,
     /// What was submitted.
     pub work: W,
@@ -60,17 +60,17 @@ pub struct Picked<W: Drop> {
 /// ```
 #[derive(Drop)]
 pub struct Rule<W: Drop> {
-    // The sizes at making.
+    // The sizes that it was made with.
     limits: Sizes,
-    // The core size now.
+    // The current core size.
     core: u32,
-    // The greatest size now.
+    // The current maximum size.
     max: u32,
     // Whether it is closed.
     closed: bool,
     // How many workers there are.
     workers: u32,
-    // The jobs with a worker of their own that weren't picked yet, oldest first.
+    // The jobs with their own worker that weren't picked yet, oldest first.
     unpicked: HeapCircularBuffer<(Id, W)>,
     // The jobs in the queue, oldest first.
     waiting: HeapCircularBuffer<(Id, W)>,
@@ -89,13 +89,13 @@ impl<W: Drop> Model for Rule<W> {
 }
 
 impl<W: Drop> Rule<W> {
-    /// The rule of an open pool of these sizes without workers or work, for the callers from 0 to
-    /// `callers - 1` (at most 65,536 can be named). It takes the room for a full queue, for as many jobs
-    /// as there may be workers, and for a count of each caller.
+    /// The rule of an open pool of these sizes, without workers or jobs, for the callers from 0 to `callers -
+    /// 1`. At most 65,536 callers can be named. It takes the room for a full queue, for as many jobs as there
+    /// may be workers, and for the count of each caller's submissions.
     ///
     /// # Errors
     ///
-    /// `Memory` when out of memory.
+    /// `Memory` if out of memory.
     #[tactic(auto, using(crate::proofs::SlotLaws::places))]
     pub fn new(alloc: Global, limits: Sizes, callers: usize) -> Result<Rule<W>, AdmitError>
         ensures opened { IfOk result (λ c. c ≡ opened limits callers) }
@@ -117,12 +117,12 @@ impl<W: Drop> Rule<W> {
         })
     }
 
-    /// Makes room to count a caller's submissions, which adds no event: for a pool that serves callers
-    /// that weren't known at the opening.
+    /// Makes room to count a caller's submissions, which adds no event. A pool uses it for callers that
+    /// weren't known when it was opened.
     ///
     /// # Errors
     ///
-    /// `Memory` where the caller isn't counted yet and memory runs out.
+    /// `Memory` if the caller isn't counted yet and it is out of memory.
     ///
     /// ```
     /// rule.reserve_caller(65_535)?;
@@ -141,15 +141,15 @@ impl<W: Drop> Rule<W> {
         Ok(())
     }
 
-    /// The answer to the next submission, by the rule of admission (ThreadPoolExecutor class documentation): the
-    /// first line that fits decides. That `Closed` and `Full` are two answers is our own.
+    /// The reply to the next submission, by the rule of admission (ThreadPoolExecutor class documentation). The first
+    /// line that fits decides. `Closed` apart from `Full` is our own.
     ///
-    /// | When | Answer |
+    /// | When | Reply |
     /// |---|---|
     /// | the pool is closed | `Closed` |
     /// | there are fewer workers than the core size, even if some are idle | `Core` |
     /// | fewer jobs wait than the queue's capacity | `Queued` |
-    /// | there are fewer workers than the greatest size | `Extra` |
+    /// | there are fewer workers than the maximum size | `Extra` |
     /// | otherwise | `Full` |
     ///
     /// ```
@@ -171,14 +171,14 @@ impl<W: Drop> Rule<W> {
         }
     }
 
-    /// Submits work under its caller's next number, and answers by the rule of admission: `Core`, `Queued`
-    /// or `Extra`, as `next_reply` tells.
+    /// Submits work under its caller's next number. The reply, by the rule of admission, is `Core`, `Queued`
+    /// or `Extra`, as `next_reply` gives it.
     ///
     /// # Errors
     ///
-    /// In this order, with the work handed back: `NoSuchCaller` where the caller's submissions aren't counted
-    /// and `WrongNumber` where the number isn't one more than the caller's submissions so far, both with nothing
-    /// changed; `Closed` and `Full` by the rule, which count as submissions and are events as the others.
+    /// In this order, each with the work handed back: `NoSuchCaller` if the caller's submissions aren't counted,
+    /// and `WrongNumber` if the number isn't one more than the caller's submissions so far, both with nothing
+    /// changed; `Closed` and `Full` by the rule, which count as submissions and are events like the others.
     ///
     /// ```
     /// let id = Id { caller: 1, number: rule.submissions(1) + 1 };
@@ -204,8 +204,8 @@ impl<W: Drop> Rule<W> {
         }
     }
 
-    /// Submits work under its caller's next number with the reply that `next_reply` gave, for a caller that must know it
-    /// before anything changes: to take memory for what is accepted, or to compare it. Returns the work if it is refused.
+    /// Submits work under its caller's next number with the reply that `next_reply` gave. It is for a caller that must know the reply before
+    /// anything changes, to take memory for an accepted job or to compare the reply. Returns the work if it is refused.
     ///
     /// ```
     /// let reply = rule.next_reply();
@@ -235,16 +235,16 @@ impl<W: Drop> Rule<W> {
         }
     }
 
-    /// Whether an id is its caller's next one. There is none past what 64 bits can count.
+    /// Whether an id is its caller's next one. After the largest number of 64 bits there is none.
     pub fn is_next(&self, id: Id) -> bool
         ensures { IsTrue result ↔ (id.number ≡ suc (made_by self.now id.caller)) }
     {
         id.number != 0 && id.number - 1 == self.submissions(id.caller)
     }
 
-    /// The oldest work with a worker of its own that wasn't picked yet. Where there is none, and fewer jobs
-    /// run than there are workers, it takes the work at the front of the queue. It says which of the two it
-    /// was, and the place that the job has until it is finished.
+    /// Picks the oldest job that has its own worker and wasn't picked yet. If there is none, and fewer jobs
+    /// run than there are workers, it takes the job at the front of the queue. The result says which of the
+    /// two it was, and which place the job has until it is finished.
     #[tactic(auto, using(crate::proofs::SlotLaws::places))]
     pub fn pick(&mut self) -> Option<Picked<W>>
         ensures picked { IfSome result (λ p. IsPicked self.old p self.new) }
@@ -272,7 +272,7 @@ impl<W: Drop> Rule<W> {
         })
     }
 
-    /// Ends the run of a job that is out, and says whether it was out: whether `pick` gave it with that
+    /// Ends the run of a job that is out. Returns whether the job was out: whether `pick` gave it with that
     /// place, and it isn't finished yet.
     ///
     /// ```
@@ -289,8 +289,8 @@ impl<W: Drop> Rule<W> {
         self.out.clear(slot)
     }
 
-    /// Where a job is, if it is out. It looks through as many places as the greatest size of the opening,
-    /// for a caller that knows the id alone.
+    /// The id and the place of a job that is out. It looks through as many places as the maximum size at the
+    /// opening, for a caller that knows only the id.
     pub fn find(&self, id: Id) -> Option<Slot>
         ensures found { IfSome result (λ slot. (slot.id ≡ id) × (slice_get self.now.out slot.place ≡ Some (Some id))) }
         ensures none { IfNone result (is_among id (ids_out self.now.out) ≡ false) }
@@ -299,7 +299,7 @@ impl<W: Drop> Rule<W> {
         Some(Slot { id, place })
     }
 
-    /// Closes the pool, and says whether it was open. Work that was accepted can still be picked.
+    /// Closes the pool, and returns whether it was open. Jobs that were accepted can still be picked.
     ///
     /// ```
     /// assert!(rt; rule.close() && !rule.close());
@@ -317,8 +317,8 @@ impl<W: Drop> Rule<W> {
         true
     }
 
-    /// Ends an idle worker, and says whether it did. It does where nothing waits, fewer jobs run than there
-    /// are workers, and the workers are more than the core size or the pool is closed.
+    /// Ends an idle worker, and returns whether it did. It does so if no job waits, fewer jobs run than there
+    /// are workers, and either there are more workers than the core size or the pool is closed.
     ///
     /// ```
     /// while rule.idle_end() {}
@@ -337,7 +337,7 @@ impl<W: Drop> Rule<W> {
         true
     }
 
-    /// Whether an idle worker may end: whether `idle_end` would end one.
+    /// Whether an idle worker may end, that is, whether `idle_end` would end one.
     pub fn may_end_idle(&self) -> bool
         ensures { IsTrue result ↔ MayEndIdle self.now }
     {
@@ -352,14 +352,14 @@ impl<W: Drop> Rule<W> {
         self.running() < self.workers as usize
     }
 
-    /// Sets the core size and the greatest size, in workers, from here on. No worker begins or ends by it,
-    /// and the capacity of the queue stays.
+    /// Sets the core size and the maximum size, in workers, from here on. It starts and ends no worker, and
+    /// doesn't change the capacity of the queue.
     ///
     /// # Errors
     ///
-    /// In this order, with nothing changed: `CoreOutOfRange` where the core size isn't from 1 to `Sizes::most_core` of the
-    /// sizes at making, which is 64, or 1,024 where they are of more than 64 workers; `MaxOutOfRange` where the greatest
-    /// size is below the core size, or above that at making.
+    /// In this order, with nothing changed: `CoreOutOfRange` if the core size isn't from 1 to `Sizes::most_core` of the
+    /// sizes that the rule was made with, which is 64, or 1,024 if those are for more than 64 workers; `MaxOutOfRange` if
+    /// the maximum size is less than the core size, or greater than the maximum size that the rule was made with.
     ///
     /// ```
     /// rule.resize(2, 3)?;
@@ -378,11 +378,11 @@ impl<W: Drop> Rule<W> {
         Ok(())
     }
 
-    /// Whether the sizes may be these: whether `resize` would set them.
+    /// Whether `resize` would set these sizes.
     ///
     /// # Errors
     ///
-    /// Those of `resize`, in their order.
+    /// The errors of `resize`, in the same order.
     pub fn check_sizes(&self, core: u32, max: u32) -> Result<(), AdmitError>
         ensures within { IsOk result ↔ AreSizesWithin self.now.limits core max }
         ensures core { OnOk result (IsCoreOf self.now.limits core) }
@@ -406,7 +406,7 @@ impl<W: Drop> Rule<W> {
         self.closed
     }
 
-    /// How many workers there are: never more than the greatest size of the opening.
+    /// How many workers there are: never more than the maximum size at the opening.
     pub fn workers(&self) -> u32
         ensures workers { result ≡ self.now.workers }
         ensures limit { (result ≤ self.now.limits.max) × (result ≤ 1024) }
@@ -422,7 +422,7 @@ impl<W: Drop> Rule<W> {
         self.unpicked.len() + self.out.len()
     }
 
-    /// How many jobs with a worker of their own weren't picked yet.
+    /// How many jobs with their own worker weren't picked yet.
     pub fn unpicked(&self) -> usize
         ensures { result ≡ length self.now.unpicked }
     {
@@ -437,16 +437,16 @@ impl<W: Drop> Rule<W> {
         self.waiting.len()
     }
 
-    /// How many jobs more the queue has room for.
+    /// How many more jobs the queue has room for.
     pub fn room(&self) -> usize
         ensures { result + length self.now.waiting ≡ self.now.limits.queue }
     {
         self.limits.queue() as usize - self.waiting.len()
     }
 
-    /// How many events may come of what it has, whatever else is submitted. They are the take and the end of each
-    /// job that waits, the end of each that runs, the end of each worker, and the closing. Whoever has room for so
-    /// many in a record runs out of memory in a submission and a resize alone.
+    /// The number of events that may still come of what the rule has, whatever else is submitted: the take and the
+    /// finish of each job that waits, the finish of each job that runs, the end of each worker, and the closing. A
+    /// pool whose record has room for that many events can run out of memory only in a submission or a resize.
     ///
     /// ```
     /// record.reserve(rule.owed() + 3)?;
@@ -469,21 +469,21 @@ impl<W: Drop> Rule<W> {
         }
     }
 
-    /// The core size now, in workers.
+    /// The current core size, in workers.
     pub fn core(&self) -> u32
         ensures { result ≡ self.now.core }
     {
         self.core
     }
 
-    /// The greatest size now, in workers.
+    /// The current maximum size, in workers.
     pub fn max(&self) -> u32
         ensures { result ≡ self.now.max }
     {
         self.max
     }
 
-    /// The sizes at making.
+    /// The sizes that it was made with.
     pub fn limits(&self) -> Sizes
         ensures { result ≡ self.now.limits }
     {
@@ -498,8 +498,8 @@ impl<W: Drop> Rule<W> {
     }
 }
 
-// Counts the callers from 0 to this one, those that weren't counted yet from no submission. Errors: `AllocError` where
-// memory runs out, and then each caller made what it made.
+// Counts the callers from 0 to this one. Those that weren't counted yet begin with no submission. Errors: `AllocError`
+// if out of memory; then the number of each caller's submissions is unchanged.
 fn count_up_to(made: &mut Vec<u64>, caller: u16) -> Result<(), AllocError>
     ensures reaches { OnOk result (caller < length made.new.items) }
     ensures grows { length made.old.items ≤ length made.new.items }

@@ -1,4 +1,4 @@
-//! The sizes of a pool that may have more workers than one of `Limits`.
+//! The sizes of a pool, which may have more workers than `Limits` allows.
 
 ghost use Rattle.std.specs.Prelude.{◌≡◌, ◌≤◌, IfOk, IfErr};
 ghost use Rattle.resil_rule.specs.Limits.{Sizes as SizesView};
@@ -7,9 +7,8 @@ ghost use Rattle.resil_rule.specs.Sizes.{AreSizes, IsSizesRefusal, most_core};
 use super::{AdmitError, Limits};
 use std::marker::Model;
 
-/// The sizes of a pool of up to 1,024 workers: the core size (1 to 1,024), the greatest size (core size to 1,024) and the
-/// capacity of the queue (1 to 65,536 jobs). Those of `Limits` are such sizes too. After the ThreadPoolExecutor class
-/// documentation; the ranges are our own.
+/// The sizes of a pool of up to 1,024 workers: the core size (1 to 1,024), the maximum size (core size to 1,024) and the capacity of the queue
+/// (1 to 65,536 jobs). All `Limits` are such sizes too. After the ThreadPoolExecutor class documentation; the ranges are our own.
 ///
 /// ```
 /// let sizes = Sizes::new(200, 400, 100)?;
@@ -49,16 +48,15 @@ impl From<Limits> for Sizes {
 }
 
 impl Sizes {
-    /// The largest size that a pool may have, in workers.
+    /// The largest maximum size that a pool may have, in workers.
     pub const MAX_WORKERS: u32 = 1_024;
 
-    /// The sizes of these numbers.
+    /// The sizes with these numbers.
     ///
     /// # Errors
     ///
-    /// In this order: `CoreOutOfRange` where the core size isn't from 1 to `MAX_WORKERS`; `MaxOutOfRange` where
-    /// the greatest size isn't from the core size to `MAX_WORKERS`; `QueueOutOfRange` where the capacity isn't
-    /// from 1 to `Limits::MAX_WAITING`.
+    /// In this order: `CoreOutOfRange` if the core size isn't from 1 to `MAX_WORKERS`; `MaxOutOfRange` if the maximum size isn't from
+    /// the core size to `MAX_WORKERS`; `QueueOutOfRange` if the capacity isn't from 1 to `Limits::MAX_WAITING`.
     ///
     /// ```
     /// match Sizes::new(core, max, queue) {
@@ -90,7 +88,7 @@ impl Sizes {
         self.core
     }
 
-    /// The greatest size, in workers.
+    /// The maximum size, in workers.
     pub fn max(&self) -> u32
         ensures { result ≡ self.now.max }
     {
@@ -104,8 +102,7 @@ impl Sizes {
         self.queue
     }
 
-    /// The largest core size that a resize may name, in workers: 64, as of `Limits`, or 1,024 in a pool that was opened for
-    /// more than 64.
+    /// The largest core size that a resize may set, in workers: 64, as for `Limits`, or 1,024 in a pool that was opened for more than 64.
     pub fn most_core(&self) -> u32
         ensures most { result ≡ most_core self.now }
         ensures no_less { self.now.max ≤ result }

@@ -1,7 +1,7 @@
-//! The jobs that are out, each at a place of its own.
+//! The jobs that are out, each at its own place.
 //!
-//! `put` gives the free place that was cleared last, and it is free again once it is cleared, so a job is found by its place at once.
-//! The free places stand in a row, so neither looks through the others. All places are there from the making on.
+//! `put` gives the free place that was cleared last, and a place is free again once it is cleared. So a job is found by its place at
+//! once. The free places are kept in a ring, so neither call searches. All places exist from the making on.
 
 ghost use Rattle.std.specs.Prelude.{◌≡◌, ◌↔◌, ◌<◌, ◌+◌, List, Option, None as nothing, Some, false, length, position, replicate, slice_get, slice_set, IsTrue, IfOk, IfSome, IfNone};
 ghost use Rattle.std.specs.Bool.{OnTrue, OnFalse};
@@ -14,12 +14,12 @@ use circular_buffer::HeapCircularBuffer;
 use std::alloc::{AllocError, Global};
 use std::marker::Model;
 
-/// A job that is out, and the place that it has for so long.
+/// A job that is out, and the place that it has until it is finished.
 #[derive(Clone, Copy, Debug, PartialEq, Eq)]
 pub struct Slot {
     /// The id of the job.
     pub id: Id,
-    /// Its place, from 0 to one less than the greatest size of the opening.
+    /// Its place, from 0 to one less than the maximum size at the opening.
     pub place: usize,
 }
 
@@ -41,7 +41,7 @@ impl Model for Slots {
 }
 
 impl Slots {
-    // So many places, each of them free. Errors: `AllocError` when out of memory.
+    // As many places as `count`, all free. Errors: `AllocError` if out of memory.
     #[tactic(auto, using(crate::proofs::SlotLaws::places))]
     pub(crate) fn new(alloc: Global, count: usize) -> Result<Slots, AllocError>
         ensures { IfOk result (λ s. s ≡ replicate count nothing) }
@@ -81,7 +81,7 @@ impl Slots {
         }
     }
 
-    // Clears the place of a job, and says whether the job was there.
+    // Clears the place of a job, and returns whether the job was there.
     #[tactic(auto, using(crate::proofs::SlotLaws::places))]
     pub(crate) fn clear(&mut self, slot: Slot) -> bool
         ensures was_there { IsTrue result ↔ (slice_get self.old slot.place ≡ Some (Some slot.id)) }
@@ -96,7 +96,7 @@ impl Slots {
         true
     }
 
-    // Where a job is, if it is out. It looks through all places.
+    // The place of a job, if it is out. It looks through all places.
     #[tactic(auto, using(crate::proofs::SlotLaws::unfound))]
     pub(crate) fn find(&self, id: Id) -> Option<usize>
         ensures found { IfSome result (λ place. slice_get self.now place ≡ Some (Some id)) }
@@ -123,7 +123,7 @@ fn is_of(job: Option<Id>, id: Id) -> bool
     }
 }
 
-// So many places, all of them free, the first one first. Errors: `AllocError` when out of memory.
+// As many places as `count`, all free, in ascending order. Errors: `AllocError` if out of memory.
 fn all_free(alloc: Global, count: usize) -> Result<HeapCircularBuffer<usize>, AllocError>
     ensures many { IfOk result (λ free. (length free.items ≡ count) × (free.capacity ≡ count)) }
     ensures free { IfOk result (λ free. AreFree (replicate count nothing) free.items) }

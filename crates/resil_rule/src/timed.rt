@@ -1,6 +1,6 @@
-//! Histories with times: an event with the moment when it happened.
+//! Histories with times: each event with the moment when it happened.
 //!
-//! A time is a number of microseconds since any start. Nothing keeps times from going back, so `first_back` says whether they ascend.
+//! A time is a number of microseconds since any start. Nothing prevents times from going back, so `first_back` says whether they ascend.
 
 ghost use Rattle.std.specs.Prelude.{◌≡◌, IfOk, MatchOption};
 ghost use Rattle.resil_rule.specs.Timed.{AreAscending, GoesBackAt, events_in, times_in};
@@ -17,29 +17,29 @@ pub struct Timed {
     pub at: u64,
 }
 
-/// The events alone.
+/// The events without their times.
 ///
 /// # Errors
 ///
-/// `AllocError` when out of memory.
+/// `AllocError` if out of memory.
 pub fn events_in(alloc: Global, history: &[Timed]) -> Result<Vec<Event>, AllocError>
     ensures { IfOk result (λ events. events.items ≡ events_in history.now) }
 {
     history.iter().map(|timed| timed.event).collect(alloc)
 }
 
-/// The times alone.
+/// The times without their events.
 ///
 /// # Errors
 ///
-/// `AllocError` when out of memory.
+/// `AllocError` if out of memory.
 pub fn times_in(alloc: Global, history: &[Timed]) -> Result<Vec<u64>, AllocError>
     ensures { IfOk result (λ times. times.items ≡ times_in history.now) }
 {
     history.iter().map(|timed| timed.at).collect(alloc)
 }
 
-/// The position, from 1, of the first time that is lower than the one before it, or `None` where times ascend.
+/// The position, from 1, of the first time that is lower than the one before it, or `None` if the times ascend.
 pub fn first_back(times: &[u64]) -> Option<usize>
     ensures { MatchOption result (AreAscending times.now) (GoesBackAt times.now) }
 {

@@ -1,10 +1,10 @@
-//! The audit of a history: whether it is legal, and where it first isn't.
+//! The audit of a history: whether it is legal, and if not, the first event that isn't.
 //!
-//! Each event is held against the rule's state after the events before it, over no work at all. A job
-//! with a worker of its own is picked at once, so all jobs that run are out. The events before the one in
-//! hand are legal at every moment, so the first event that may not follow them is the first illegal one.
-//! It is one pass. An event costs at most a look through the places of the jobs that are out, as many
-//! as the greatest size says. A submission of a new caller allocates the room to count it.
+//! An audit compares each event with the state that the rule has after the events before it. The jobs of that rule have no content.
+//! A job with its own worker is picked at once, so all jobs that run are out. The events before the current one are always legal,
+//! so the first event that may not follow them is the first illegal one. The audit is one pass. For each event it looks at most
+//! through the places of the jobs that are out, as many as the maximum size. The first submission of a new caller allocates the
+//! room to count that caller.
 
 ghost use Rattle.std.specs.Prelude.{◌≡◌, ◌<◌, [], suc, length, IfOk, IfErr};
 ghost use Rattle.std.specs.Bool.{OnTrue, OnFalse};
@@ -15,7 +15,7 @@ ghost use Rattle.resil_rule.specs.Verdict.{IsVerdict, VerdictsAreOne, IsBarred};
 use super::{AdmitError, Event, Id, Limits, Reply, Rule, Sizes};
 use std::alloc::Global;
 
-/// What an audit says of a history.
+/// The verdict of an audit.
 ///
 /// ```
 /// match audit(alloc, &limits, &history)? {
@@ -27,16 +27,16 @@ use std::alloc::Global;
 pub enum Verdict {
     /// Each event was allowed after those before it.
     Legal,
-    /// The event at this position, from 1, is the first that wasn't allowed.
+    /// The event at this position, counted from 1, is the first that wasn't allowed.
     FirstIllegal(usize),
 }
 
-/// Whether a history is legal under these limits, and if it isn't, which event is the first that may
-/// not follow those before it (ThreadPoolExecutor class documentation).
+/// Whether a history is legal under these limits, and if it isn't, which event is the first that may not
+/// follow those before it (ThreadPoolExecutor class documentation).
 ///
 /// # Errors
 ///
-/// `Memory` when out of memory.
+/// `Memory` if out of memory.
 ///
 /// ```
 /// let limits = Limits::new(1, 1, 1)?;
@@ -51,11 +51,11 @@ pub fn audit(alloc: Global, limits: &Limits, history: &[Event]) -> Result<Verdic
     audit_by(alloc, &sizes, history)
 }
 
-/// The same under sizes, of which those of `Limits` are some.
+/// The same for `Sizes`, which all `Limits` are too.
 ///
 /// # Errors
 ///
-/// `Memory` when out of memory.
+/// `Memory` if out of memory.
 ///
 /// ```
 /// let sizes = Sizes::new(200, 400, 100)?;
@@ -76,20 +76,20 @@ pub fn audit_by(alloc: Global, sizes: &Sizes, history: &[Event]) -> Result<Verdi
     Ok(Verdict::Legal)
 }
 
-/// The law of verdicts: a history has one at most. So an audit answers `Legal` exactly where the
-/// history is legal, and a position exactly where the first illegal event stands there.
+/// The law of verdicts: a history has at most one. So an audit answers `Legal` exactly if the history is
+/// legal, and a position exactly if the first illegal event is there.
 #[tactic(auto, using(crate::proofs::VerdictLaws::verdict_unique))]
 pub fn verdicts_are_one()
     ensures { VerdictsAreOne }
 {}
 
 impl Rule<()> {
-    /// Takes the rule one event further, and says whether it allows it: a submission with the reply that it has, a job that is taken by its
-    /// id (ThreadPoolExecutor class documentation). A job with a worker of its own is picked at once. What it doesn't allow leaves it as it was.
+    /// Carries out one more event, and returns whether the rule allows it: a submission with the reply that it has, or a take of the job with its id
+    /// (ThreadPoolExecutor class documentation). A job with its own worker is picked at once. An event that it doesn't allow changes nothing.
     ///
     /// # Errors
     ///
-    /// `Memory`, of a submission, when out of memory.
+    /// `Memory`, for a submission only, if out of memory.
     #[tactic(auto, using(crate::proofs::RefusalLaws::barred))]
     pub fn follow(&mut self, event: Event) -> Result<bool, AdmitError>
         requires { self.old.unpicked ≡ [] }
@@ -102,7 +102,7 @@ impl Rule<()> {
     {
         match event {
             Event::Submit { id, reply } => follow_submission(self, id, reply),
-            // No job with a worker of its own waits to be picked, so a pick takes from the queue.
+            // No job with its own worker waits to be picked, so a pick takes from the queue.
             Event::Take(id) => Ok(self.front() == Some(id) && self.pick().is_some()),
             Event::Finish(id) => match self.find(id) {
                 Some(slot) => Ok(self.finish(slot)),
@@ -115,7 +115,7 @@ impl Rule<()> {
     }
 }
 
-// A submission and its answer.
+// A submission and its reply.
 fn follow_submission(rule: &mut Rule<()>, id: Id, reply: Reply) -> Result<bool, AdmitError>
     requires { rule.old.unpicked ≡ [] }
     ensures allowed { IfOk result (λ allowed. OnTrue allowed (Follows rule.old (Event.Submit id reply) rule.new)) }
@@ -133,8 +133,7 @@ fn follow_submission(rule: &mut Rule<()>, id: Id, reply: Reply) -> Result<bool, 
     Ok(true)
 }
 
-// Submits what is known to be next, and is answered by this reply. A job that gets a worker of its own is picked
-// at once.
+// Submits an id that is known to be its caller's next one, and whose reply is this. A job that gets its own worker is picked at once.
 fn submit_and_pick(rule: &mut Rule<()>, id: Id, reply: Reply)
     requires picked { rule.old.unpicked ≡ [] }
     requires known { id.caller < length rule.old.made }

@@ -1,7 +1,7 @@
 use Rattle.std.proofs.Common.{◌≡◌, ◌≤◌, ◌+◌, ◌-◌, ℕ, suc, max, List, length, slice_index_or}
 use Rattle.resil_rule.proofs.rule.count_up_to.Given as goal
 
--- each caller made what it made, and no caller goes or comes that need not
+-- each caller's number is as before, and the table grows no further than to the caller
 pub record Grows (old new : List ℕ) (caller : ℕ) : Type 0 where
   pub same : (other : ℕ) → slice_index_or new other 0 ≡ slice_index_or old other 0
   pub grows : length old ≤ length new

@@ -2,7 +2,7 @@ use Rattle.std.proofs.Common.{◌≡◌, ◌≤◌, ◌+◌, All, List, Option, 
 use Rattle.resil_rule.specs.Slots.{AreFree}
 use Rattle.resil_rule.proofs.slots.all_free.Given as goal
 
--- those from `left` on stand in the row
+-- the ring has the places from `left` on
 abbrev pub invariant-loop-left : goal.invariant-loop-left
 invariant-loop-left l = record {
   many : length l.free.items + l.left ≡ l.count;
