@@ -1,4 +1,4 @@
--- The rule that the table keeps gives what holds of a lock between any two steps.
+-- What holds of a lock between any two steps follows from the rule that the table keeps.
 use Rattle.std.proofs.Common.{◌≡◌, ◌<◌, ◌↔◌, ℕ, zero, suc, Bool, List, [], ◌∷◌, length, slice_index, refl, sym, ap, ◌∙◌, subst, ⊎_elim, arith, Option, Some}
 use mathlib.Core.Option as m
 use lib.ListN.{get_elem?}
@@ -36,7 +36,7 @@ module _ {K E S : Type 0} (StandsFor : K → List E → S → Type 0) (MayWrite 
     λ none. ⊎_elim (λ e. e) (λ one. let h = one-holder one in absurd (none h.index h.seat h.there h.holds)) k.bit,
   )
 
-  -- the slot isn't out with a state in it
+  -- the slot can't both have a state and be out
   not-both : (state : S) → IsInSlot homes state → IsSlotOut homes → ⊥
   not-both state there out = m.some-ne-none (Some state) (m.some-injective (m.some (Some state)) m.none (sym there ∙ out))
 

@@ -36,7 +36,7 @@ abbrev carried : {S : Type 0} → S → List (ℕ × Option S) → S
 carried other [] = other
 carried other (slot ∷ slots) = state_or other slot.1
 
--- the same seat, after a step that left this word, by which it wrote this
+-- the same seat after a step that left this word, in which the seat wrote this
 record Grows {K E : Type 0} (word : ℕ) (v w : View K E) (new : List E) : Type 0 where
   pub key : w.key ≡ v.key
   pub rank : w.rank ≡ v.rank
@@ -47,7 +47,7 @@ record Grows {K E : Type 0} (word : ℕ) (v w : View K E) (new : List E) : Type 
   pub holds : (holds_lock w.phase ≡ true) ↔ (word ≡ 1)
   pub joins : (number : ℕ) (other : List E) → w.phase ≢ Joining number other
 
--- one that has the lock, and has seen this
+-- a seat that has the lock, and has seen this
 now-holds : {K E : Type 0} (v : View K E) (seen : List E) (word : ℕ) → word ≡ 1 → Grows word v (holder_view v seen) []
 now-holds v seen word one = record {
   key = refl;
@@ -62,7 +62,7 @@ now-holds v seen word one = record {
 
 module _ {K E S : Type 0} {R : K → List E → S → Type 0} {F : Rank → List E → Type 0} {own : ℕ → E → Bool} {key : K} {words : List ℕ} {homes : List (m.Option (Option S))} {views : List (View K E)}
     (k : LockInvariant R F own key words homes views) where
-  -- what a seat wrote weighs as its rank says
+  -- what a seat wrote weighs at most as much by one weight as by the other, if its rank says so
   lighter : (less more : E → ℕ) → ((who : Rank) (entries : List E) → F who entries → weigh less entries ≤ weigh more entries) → (j : ℕ) (u : View K E) → get_elem? views j ≡ m.some u → weigh less u.own ≤ weigh more u.own
   lighter less more fewer j u at = by_phase (is_there u.phase) refl
     where
@@ -78,18 +78,18 @@ module _ {K E S : Type 0} {R : K → List E → S → Type 0} {F : Rank → List
       let right = k.wrote more in
       omega (arith, all, away, left, right)
 
-  -- nobody holds the lock while the word is 0, and nobody else while this seat does
+  -- nobody holds the lock while the word is 0, and nobody else while this seat holds it
   nobody : get_or words 0 0 ≡ 0 → (j : ℕ) (u : View K E) → get_elem? views j ≡ m.some u → holds_lock u.phase ≡ true → ⊥
   nobody free j u at is = let one = ((k.seats.each j u at).seat.holds.0 is).1 in absurd (omega (arith, one, free))
 
   alone : (id : ℕ) (v : View K E) → get_elem? views id ≡ m.some v → holds_lock v.phase ≡ true → (j : ℕ) (u : View K E) → j ≢ id → get_elem? views j ≡ m.some u → holds_lock u.phase ≡ true → ⊥
   alone id v at holds j u apart e is = apart (((k.seats.each j u e).seat.holds.0 is).0 ∙ sym (((k.seats.each id v at).seat.holds.0 holds).0))
 
-  -- what the log has of another seat's own stays, where nothing of it is new
+  -- the entries of the log that belong to another seat stay the same if no new entry belongs to it
   same-own : (new : List E) (j : ℕ) → filter (own j) new ≡ [] → filter (own j) (k.log ++ new) ≡ filter (own j) k.log
   same-own new j none = filter-append (own j) k.log new ∙ (ap (λ (es : List E). filter (own j) k.log ++ es) none ∙ append-nil (filter (own j) k.log))
 
-  -- one seat has seen the whole log as it grows, and what the others know still holds
+  -- one seat has seen the whole log as it grows, and what the other seats know still holds
   moved : (n id : ℕ) (homes' : List (m.Option (Option S))) (v w : View K E) (new : List E) → get_elem? views id ≡ m.some v → is_there v.phase ≡ true → Grows n v w new → w.seen ≡ k.log ++ new → F w.rank w.own
       → ((j : ℕ) (u : View K E) → j ≢ id → get_elem? views j ≡ m.some u → holds_lock u.phase ≡ true → ⊥) → (IsNumbering F → (j : ℕ) → j ≢ id → filter (own j) new ≡ [])
       → length homes' ≡ 1 → (n ≡ 0) ⊎ (n ≡ 1) → (n ≡ 0 → IsAtHome R key (k.log ++ new) homes') → (n ≡ 1 → get_elem? homes' 0 ≡ m.some m.none) → (state : S) × R key (k.log ++ new) state
@@ -179,7 +179,7 @@ module _ {K E S : Type 0} {R : K → List E → S → Type 0} {F : Rank → List
     counted = counted;
   }
 
-  -- a seat behind the others that has seen nothing and written nothing
+  -- a new last seat, which has seen nothing and written nothing
   newcomer : (from : K) (who : Rank) (number : ℕ) → from ≡ key → F who [] → who ≢ Opener → IsSeat F own key (get_or words 0 0) k.holder k.log (length views) (view_of from who number 0 0 Idle [] [])
   newcomer from who number same fit not =
       let some = place_within views k.seats.longest.index k.seats.longest.seat k.seats.longest.there in record {
@@ -194,7 +194,7 @@ module _ {K E S : Type 0} {R : K → List E → S → Type 0} {F : Rank → List
         joins = λ number other e. absurd (both-ways false (ap holds_lock e) refl);
       }
 
-  -- one that has no number comes in
+  -- a seat without a number comes in
   comes : (from : K) (who : Rank) → from ≡ key → F who [] → who ≢ Opener → who ≢ Member → LockInvariant R F own key words homes (views ++ view_of from who 0 0 0 Idle [] [] ∷ [])
   comes from who same fit no_opener no_member =
       let w : View K E = view_of from who 0 0 0 Idle [] [] in
@@ -279,7 +279,7 @@ module _ {K E S : Type 0} (R : K → List E → S → Type 0) (F : Rank → List
         },
       )
 
-  -- the holder that joined a seat away holds the lock as before, and is told what it knows of that seat
+  -- the holder that joined a seat away still holds the lock, and knows what it had of that seat
   pub ends-join : (slots id : ℕ) (me : Me (Option S) (View K E)) (number : ℕ) (other : List E) → me.0.phase ≡ Joining number other → Allows (IsLocked R F own key) slots id me 0 (λ n. n) (AfterJoin F own (step slots 0 0 0 m.none) me)
   ends-join slots id me number other joining s k _ at small =
       let n : ℕ = get_or s.words 0 0 in
@@ -297,7 +297,7 @@ module _ {K E S : Type 0} (R : K → List E → S → Type 0) (F : Rank → List
   pub enters-lock : (slots : ℕ) → F Visitor [] → Enters (IsLocked R F own key) slots 0 (λ n w. AfterComing {S = Option S} (step slots 0 0 0 m.none) (first_view key, []) n (w, []))
   enters-lock slots fit s k _ small = (visitor_view (first_view key), comes k key Visitor refl fit (λ e. let no : Visitor ≡ Opener = e in cc) (λ e. let no : Visitor ≡ Member = e in cc), refl)
 
-  -- the opener makes a seat, whose number is its place where all seats have one
+  -- the opener makes a seat, whose number is its place if all seats have numbers
   makes-one : (who : Rank) (number id : ℕ) (v : View K E) → v.rank ≡ Opener → who ≢ Opener → F who [] → (IsNumbering F → number ≡ v.made) → Splits (IsLocked R F own key) id v (made_one v) (view_of v.key who number 0 0 Idle [] [])
   makes-one who number id v opens other fit named s k at =
       let Fits = FitsPlace F own key (get_or s.words 0 0) k.holder (k.count + 1) k.log in
@@ -337,13 +337,13 @@ module _ {K E S : Type 0} (R : K → List E → S → Type 0) (F : Rank → List
   pub admits-one : (id : ℕ) (v : View K E) → v.rank ≡ Opener → F Member [] → Splits (IsLocked R F own key) id v (made_one v) (member_view v)
   admits-one id v opens fit = makes-one Member v.made id v opens (λ e. let no : Member ≡ Opener = e in cc) fit (λ _. refl)
 
-  -- a worker's seat has no number, so there is none where all seats have one
+  -- a worker's seat has no number, so there is none if all seats have numbers
   pub hires-one : (id : ℕ) (v : View K E) → v.rank ≡ Opener → F Worker [] → Splits (IsLocked R F own key) id v (made_one v) (worker_view v)
   hires-one id v opens fit =
       makes-one Worker 0 id v opens (λ e. let no : Worker ≡ Opener = e in cc) fit
       (λ only. absurd (⊎_elim (λ e. let no : Worker ≡ Opener = e in cc) (λ e. let no : Worker ≡ Member = e in cc) (only Worker [] fit)))
 
-  -- the holder joins a member's seat away, which is between two turns
+  -- the holder joins away a member's seat that is between two turns
   pub joins-one : (spent : K) (id : ℕ) (v : View K E) (other : ℕ) (u : View K E) → v.phase ≡ Holding → u.phase ≡ Idle → u.rank ≡ Member → Joins (IsLocked R F own key) id v other u (joining_view v u) (joined_view spent)
   joins-one spent id v other u holding idle member s k at apart there =
       let Fits = FitsPlace F own key (get_or s.words 0 0) k.holder k.count k.log in
@@ -406,7 +406,7 @@ module _ {K E S : Type 0} (R : K → List E → S → Type 0) (F : Rank → List
       gone-fit zero y e = subst (λ (z : View K E). F z.rank z.own) (m.some-injective u y e) ((k.seats.each other u (sym (set_else s.views id other (joining_view v u) apart) ∙ there)).seat.fits (ap is_there idle))
       gone-fit (suc j) y e = k.gone_fits j y e
 
-  -- the state in the slot and the opener's seat
+  -- the state in the slot, and the opener's seat
   pub opens-lock : (state : S) → R key [] state → F Opener [] → LockInvariant R F own key (0 ∷ []) (m.some (Some state) ∷ []) (first_view key ∷ [])
   opens-lock state home fit = record {
     log = [];
@@ -439,11 +439,11 @@ module _ {K E S : Type 0} (R : K → List E → S → Type 0) (F : Rank → List
     counted = λ _. (refl, λ j le. refl);
   }
 
--- what a step tells, at another name of the seat before it
+-- what is known after a step, with another name for the seat before it
 pub tells-at : {K E S : Type 0} (written : S → List E) (how : Step (Option S)) (stored : ℕ) (old new seat : Me (Option S) (View K E)) → old ≡ new → AfterRelease written how old stored seat → AfterRelease written how new stored seat
 tells-at written how stored old new seat is told = subst (λ (me : _). AfterRelease written how me stored seat) is told
 
--- after a join the holder is as it was
+-- after a join the holder is as before
 pub told-of-joined : {K E S : Type 0} (F : Rank → List E → Type 0) (own : ℕ → E → Bool) (how : Step (Option S)) (found : ℕ) (old mid new : Me (Option S) (View K E)) (u : View K E) → old.0.phase ≡ Holding → mid ≡ (joining_view old.0 u, old.1)
     → AfterJoin F own how mid found new → (new ≡ old) × HasAllOf F own u.number u.seen old.0.seen
 told-of-joined {K} {E} {S} F own how found old mid new u holds is told =

@@ -1,4 +1,4 @@
--- How often a log has a job as picked or ended, and what that tells of a seat among all that wrote it.
+-- How many times a log has a job as picked or ended, and what that means for one seat among all that wrote the log.
 use Rattle.std.proofs.Common.{◌≡◌, ◌≤◌, ◌+◌, ℕ, List, [], ◌∷◌, ◌++◌, ◌∙◌, Option, refl, ap, arith}
 use Rattle.std.specs.Prelude.{filter_map}
 use Rattle.std.proofs.lemmas.List.Elements.{filter_map-append}
@@ -17,7 +17,7 @@ module _ {E : Type 0} (f : E → Option Id) (id : Id) where
   pub times-more : (log more : List E) → times id (filter_map f (log ++ more)) ≡ times id (filter_map f log) + times id (filter_map f more)
   times-more log more = ap (times id) (filter_map-append f log more) ∙ times-append id (filter_map f log) (filter_map f more)
 
-  -- an entry, by how many ids of a job it has
+  -- an entry, counted by how many times it has the id of a job
   abbrev pub count : E → ℕ
   count entry = times id (filter_map f (entry ∷ []))
 
@@ -49,9 +49,9 @@ module _ {P : Type 0} where
       here (note.Event (event.Finish x)) payload rest = ap (λ (ids : List Id). x ∷ ids) rest
       here noted payload rest = rest
 
-  -- a seat among all that wrote the log, where none may end a job that it hasn't picked
+  -- one seat among all that wrote the log, if none may end a job that it hasn't picked
   module _ (MayWrite : Rank → List (Logged P) → Type 0) (log own : List (Logged P)) (covered : IsCovered MayWrite log own) where
-    -- the log without what the seat wrote has no more ends of a job than picks
+    -- the log without what the seat wrote has at most as many ends of a job as picks
     pub covered-ends : ((who : Rank) (entries : List (Logged P)) → MayWrite who entries → IsBalanced entries) → (id : Id) → times id (ended_in log) + times id (picked_in own) ≤ times id (picked_in log) + times id (ended_in own)
     covered-ends balanced id =
         let all = covered (count end_of id) (count pick_of id) (λ who entries may. let b = balanced who entries may id in let l = weigh-count end_of id entries in let r = weigh-count pick_of id entries in omega (arith, b, l, r)) in
@@ -60,7 +60,7 @@ module _ {P : Type 0} where
         let c = weigh-count pick_of id log in
         let d = weigh-count end_of id own in omega (arith, all, a, b, c, d)
 
-    -- and no fewer picks than the seat
+    -- and at least as many picks as the seat
     pub covered-picks : (id : Id) → times id (picked_in own) ≤ times id (picked_in log)
     covered-picks id =
         let all = covered (λ entry. 0) (count pick_of id) (λ who entries may. let z = weigh-none entries in omega (arith, z)) in

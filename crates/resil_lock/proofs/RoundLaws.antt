@@ -1,4 +1,4 @@
--- What holds of each round, and of rounds that follow each other, holds of all together.
+-- What holds of each round, and is kept by rounds in sequence, holds of all rounds together.
 use Rattle.std.proofs.Common.{ℕ, zero, suc, sym, subst}
 use Rattle.resil_lock.specs.Work.{AfterRounds}
 

@@ -1,4 +1,4 @@
--- Numbers of seats, added up.
+-- Sums of a number over all seats.
 use Rattle.std.proofs.Common.{◌≡◌, ◌≤◌, ◌+◌, ℕ, zero, suc, List, [], ◌∷◌, ◌++◌, set, sym, refl, ap, arith}
 use mathlib.Core.Option as m
 use lib.ListN.{get_elem?}
@@ -26,7 +26,7 @@ module _ {K E : Type 0} (f g : View K E → ℕ) where
   total-le [] each = omega arith
   total-le (u ∷ views) each = let here = each 0 u refl in let rest = total-le views (λ i v at. each (suc i) v at) in omega (arith, here, rest)
 
-  -- no seat has more of one number than of the other, and so it is without one seat
+  -- if one number of each seat is at most its other number, the sums without one seat compare in the same way
   pub total-but : (views : List (View K E)) (i : ℕ) (v : View K E) → get_elem? views i ≡ m.some v
       → ((j : ℕ) (u : View K E) → get_elem? views j ≡ m.some u → f u ≤ g u) → total f views + g v ≤ total g views + f v
   total-but [] i v at each = absurd (m.some-ne-none v (sym at))

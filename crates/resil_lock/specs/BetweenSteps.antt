@@ -1,4 +1,4 @@
--- What holds of a lock between any two steps, whichever threads make them and whatever state lies under it.
+-- What holds of a lock between any two steps of any threads, over any state.
 use Rattle.std.specs.Prelude.{◌≡◌, ◌⊎◌, ◌↔◌, ◌+◌, ℕ, Bool, true, false, List, [], length, slice_index, Option, Some}
 use mathlib.Core.Option as m
 use mathlib.Core.List.{IsPrefix}
@@ -9,7 +9,7 @@ use Rattle.resil_lock.specs.declared.protocol.Rank.TheVariants as rank
 use Rattle.resil_lock.specs.Lock.{weigh, total, holds_lock, is_there, IsNumbering, AreNumbered}
 
 module _ {K E : Type 0} where
-  -- the seat at this index among all seats, in the order in which they were made, knows this
+  -- the seat at this index among all seats, in the order of their making, knows this
   abbrev pub IsSeatAt : List (View K E) → ℕ → View K E → Type 0
   IsSeatAt views index v = get_elem? views index ≡ m.some v
 
@@ -33,7 +33,7 @@ module _ {K E : Type 0} where
     pub whole : seat.seen ≡ log
     pub prefixes : (index : ℕ) (v : View K E) → IsSeatAt views index v → IsPrefix v.seen log
 
-  -- the opener, and no other, has the first seat, which is never joined away
+  -- only the opener has the first seat, which is never joined away
   pub record HasOpener (views : List (View K E)) : Type 0 where
     pub seat : View K E
     pub first : IsSeatAt views 0 seat
@@ -42,22 +42,24 @@ module _ {K E : Type 0} where
     pub only : (index : ℕ) (v : View K E) → IsSeatAt views index v → v.rank ≡ rank.Opener → index ≡ 0
 
 module _ {S : Type 0} where
-  -- this state lies in the slot
+  -- this state is in the slot
   abbrev pub IsInSlot : List (m.Option (Option S)) → S → Type 0
   IsInSlot homes state = get_elem? homes 0 ≡ m.some (m.some (Some state))
 
-  -- the state lies in the slot
+  -- the state is in the slot
   abbrev pub HasState : List (m.Option (Option S)) → Type 0
   HasState homes = (state : S) × IsInSlot homes state
 
-  -- the slot is out with a seat, whatever lies in it
+  -- the slot is out with a seat, whatever is in it
   abbrev pub IsSlotOut : List (m.Option (Option S)) → Type 0
   IsSlotOut homes = get_elem? homes 0 ≡ m.some m.none
 
--- There is one word, which is 0 or 1, and one slot. The word is 1 exactly while one seat holds the lock, and 0 exactly while none does. The state lies in the slot exactly while the word is 0, and the
--- slot is out exactly while it is 1. There is one log, for which some state stands, and so does the one in the slot; it is the longest that a seat has seen, every seat has seen a prefix of it, and the
--- holder has seen it whole. Each seat that is there knows the key, and wrote what a seat of its rank may; so did those that were joined away, which are gone and have left nothing. The log is made up of just what they all
--- wrote, whatever is counted in it. The opener has the first seat. Where all seats have numbers, each has the number of its place, and has seen all entries that are its own.
+-- There is one word, which is 0 or 1, and one slot. The word is 1 exactly while one seat holds the lock, and 0 exactly while none does. The state is in the
+-- slot exactly while the word is 0, and the slot is out exactly while the word is 1. There is one log, for which some state stands, and the state in the slot
+-- stands for it too. It is the longest log that a seat has seen, every seat has seen a prefix of it, and the holder has seen all of it. Each seat that is there
+-- knows the key, and wrote what a seat of its rank may write. So did the seats that were joined away, which are gone and have left nothing. For any way to
+-- count entries, the log has as many as all of these wrote together. The opener has the first seat. If all seats have numbers, each seat's number is its place,
+-- and it has seen all entries that are its own.
 pub record HoldsBetweenSteps {K E S : Type 0} (StandsFor : K → List E → S → Type 0) (MayWrite : Rank → List E → Type 0) (is_own : ℕ → E → Bool) (key : K) (words : List ℕ) (homes : List (m.Option (Option S))) (views : List (View K E)) : Type 0 where
   pub one_word : length words ≡ 1
   pub one_slot : length homes ≡ 1

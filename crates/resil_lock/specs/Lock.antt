@@ -1,5 +1,5 @@
--- What holds of a lock between any two steps, and what its steps tell. StandsFor says which logs a state stands for, MayWrite what a seat of a rank may have written, and is_own which entries are
--- those of the seat with a number.
+-- What holds of a lock between any two steps, and what a seat knows after a step. StandsFor says which logs a state stands for, MayWrite what a seat of a rank
+-- may have written, and is_own which entries belong to the seat with a number.
 use Rattle.std.specs.Prelude.{◌≡◌, ◌≢◌, ◌≤◌, ◌<◌, ◌⊎◌, ◌↔◌, ◌+◌, ℕ, Bool, true, false, List, [], ◌∷◌, ◌++◌, filter, length, slice_index, Option, Some}
 use mathlib.Core.Option as m
 use mathlib.Core.List.{IsPrefix}
@@ -13,22 +13,22 @@ use Rattle.resil_lock.specs.declared.protocol.Rank.{Rank}
 use Rattle.resil_lock.specs.declared.protocol.Rank.TheVariants as rank
 
 module _ {E : Type 0} where
-  -- the weights of some entries, added up
+  -- the sum of the weights of some entries
   abbrev pub weigh : (E → ℕ) → List E → ℕ
   weigh weight [] = 0
   weigh weight (entry ∷ entries) = weight entry + weigh weight entries
 
-  -- Where no seat may write more by one weight than by another, the log without what one seat wrote has no more of it either.
+  -- If no seat may write more by one weight than by another, then the log without what one seat wrote has no more by it either.
   abbrev pub IsCovered : (Rank → List E → Type 0) → List E → List E → Type 0
   IsCovered MayWrite log own =
       (less more : E → ℕ) → ((who : Rank) (entries : List E) → MayWrite who entries → weigh less entries ≤ weigh more entries)
       → weigh less log + weigh more own ≤ weigh more log + weigh less own
 
-  -- All seats have numbers: those of the other ranks may not even have written the empty list, so there are none.
+  -- All seats have numbers: seats of the other ranks may not even have written the empty list, so there are none.
   abbrev pub IsNumbering : (Rank → List E → Type 0) → Type 0
   IsNumbering MayWrite = (who : Rank) (own : List E) → MayWrite who own → (who ≡ rank.Opener) ⊎ (who ≡ rank.Member)
 
-  -- a seat holds the lock from the exchange that wins it to the step that releases it, also while it joins another seat away
+  -- a seat holds the lock from the exchange that wins it to the step that releases it, even while it joins another seat away
   abbrev pub holds_lock : Phase E → Bool
   holds_lock Idle = false
   holds_lock Holding = true
@@ -42,7 +42,7 @@ module _ {E : Type 0} where
   is_there (Joining number other) = true
   is_there Joined = false
 
-  -- the holder has seen all that the seat of this number had seen, and no more entries that are that seat's own
+  -- the holder has seen all that the seat with this number had seen, and no more entries that belong to that seat
   pub record HasAllOf (MayWrite : Rank → List E → Type 0) (is_own : ℕ → E → Bool) (number : ℕ) (other seen : List E) : Type 0 where
     pub begins : IsPrefix other seen
     pub same_own : IsNumbering MayWrite → filter (is_own number) seen ≡ filter (is_own number) other
@@ -61,14 +61,14 @@ module _ {K E : Type 0} where
   abbrev pub first_view : K → View K E
   first_view key = view_of key rank.Opener 0 1 0 Idle [] []
 
-  -- a seat that has seen nothing and written nothing, of the same lock
+  -- a seat of the same lock that has seen nothing and written nothing
   abbrev pub visitor_view : View K E → View K E
   visitor_view v = view_of v.key rank.Visitor 0 0 0 Idle [] []
 
   abbrev pub worker_view : View K E → View K E
   worker_view v = view_of v.key rank.Worker 0 0 0 Idle [] []
 
-  -- a seat with a number: how many there were
+  -- a seat with a number: how many seats there were before it
   abbrev pub member_view : View K E → View K E
   member_view v = view_of v.key rank.Member v.made 0 0 Idle [] []
 
@@ -80,7 +80,7 @@ module _ {K E : Type 0} where
   abbrev pub holder_view : View K E → List E → View K E
   holder_view v seen = view_of v.key v.rank v.number v.made v.turns Holding seen v.own
 
-  -- a seat that has released the lock, and whose turn wrote this: it has had one turn more
+  -- a seat that has released the lock, after a turn that wrote this: it has had one more turn
   abbrev pub left_view : View K E → List E → View K E
   left_view v new = view_of v.key v.rank v.number v.made (v.turns + 1) Idle (v.seen ++ new) (v.own ++ new)
 
@@ -92,14 +92,15 @@ module _ {K E : Type 0} where
   abbrev pub joined_view : K → View K E
   joined_view key = view_of key rank.Member 0 0 0 Joined [] []
 
-  -- a number of each seat, added up
+  -- the sum of one number over all seats
   abbrev pub total : (View K E → ℕ) → List (View K E) → ℕ
   total number [] = 0
   total number (v ∷ views) = number v + total number views
 
   module _ (MayWrite : Rank → List E → Type 0) (is_own : ℕ → E → Bool) where
-    -- A seat at its place among all seats. It has seen a prefix of the log. The opener, and no other, has the first place, and is never joined away. A seat that is there knows the key and wrote what it may; one
-    -- that isn't has left nothing. The holder, and no other, holds the lock while the word is 1. It has seen the whole log, and all that a seat has which it joins away.
+    -- A seat at its place among all seats. It has seen a prefix of the log. Only the opener has the first place, and is never joined away. A seat that is there
+    -- knows the key and wrote what it may write; one that isn't there has left nothing. Only the holder holds the lock, while the word is 1. The holder has
+    -- seen the whole log, and all that a seat has which it joins away.
     pub record IsSeat (key : K) (word holder : ℕ) (log : List E) (place : ℕ) (v : View K E) : Type 0 where
       pub begins : IsPrefix v.seen log
       pub opener : v.rank ≡ rank.Opener → (place ≡ 0) × (is_there v.phase ≡ true)
@@ -111,13 +112,13 @@ module _ {K E : Type 0} where
       pub whole : holds_lock v.phase ≡ true → v.seen ≡ log
       pub joins : (number : ℕ) (other : List E) → v.phase ≡ Joining number other → HasAllOf MayWrite is_own number other log
 
-    -- The seat's number is its place, and the first knows how many there are. It has seen all entries of the log that are its own.
+    -- The seat's number is its place, and the first seat knows how many there are. A seat has seen all entries of the log that are its own.
     pub record IsNumbered (count : ℕ) (log : List E) (place : ℕ) (v : View K E) : Type 0 where
       pub numbered : is_there v.phase ≡ true → v.number ≡ place
       pub counted : place ≡ 0 → v.made ≡ count
       pub all_own : is_there v.phase ≡ true → filter (is_own place) v.seen ≡ filter (is_own place) log
 
-    -- a seat at its place, and what is known of it where all seats have numbers
+    -- a seat at its place, and what is known about it if all seats have numbers
     pub record FitsPlace (key : K) (word holder count : ℕ) (log : List E) (place : ℕ) (v : View K E) : Type 0 where
       pub seat : IsSeat key word holder log place v
       pub numbers : IsNumbering MayWrite → IsNumbered count log place v
@@ -126,7 +127,8 @@ module _ {K E : Type 0} where
     abbrev pub AreSeats : K → ℕ → ℕ → ℕ → List E → List (View K E) → Type 0
     AreSeats key word holder count log views = IsLogOf (λ v. v.seen) (λ _. Unit {0}) (λ _ _. false) (FitsPlace key word holder count log) log views
 
-  -- A seat's number is its place among all seats, and the first knows how many there are. Each seat has seen all entries of the log that are its own, and there are none of a seat that isn't there.
+  -- Each seat's number is its place among all seats, and the first seat knows how many there are. Each seat has seen all entries of the log that are its own,
+  -- and no entry belongs to a seat that isn't there.
   pub record AreNumbered (is_own : ℕ → E → Bool) (log : List E) (views : List (View K E)) : Type 0 where
     pub numbered : (i : ℕ) (v : View K E) → get_elem? views i ≡ m.some v → is_there v.phase ≡ true → v.number ≡ i
     pub counted : (v : View K E) → get_elem? views 0 ≡ m.some v → v.made ≡ length views
@@ -138,14 +140,15 @@ module _ {S K E : Type 0} where
   AfterComing step before found after = after ≡ (visitor_view before.0, before.1)
 
 module _ {K E S : Type 0} where
-  -- the state lies in the slot, and stands for the log
+  -- the state is in the slot, and stands for the log
   pub record IsAtHome (StandsFor : K → List E → S → Type 0) (key : K) (log : List E) (homes : List (m.Option (Option S))) : Type 0 where
     pub state : S
     pub there : get_elem? homes 0 ≡ m.some (m.some (Some state))
     pub stands : StandsFor key log state
 
-  -- There is one log, for which some state stands. The word is 0 or 1. While it is 0 the state lies in the slot and stands for the log; while it is 1 the slot is out, and the seat at the holder's place holds
-  -- the lock. Each seat fits its place. The log is made of just what the seats wrote, with those that were joined away and are gone. Where all seats have numbers, no entry is of a seat that isn't there.
+  -- There is one log, for which some state stands. The word is 0 or 1. While it is 0, the state is in the slot and stands for the log. While it is 1, the slot
+  -- is out, and the seat at the holder's place holds the lock. Each seat fits its place. The log consists of exactly what the seats wrote, including those that
+  -- were joined away and are gone. If all seats have numbers, no entry belongs to a seat that isn't there.
   pub record LockInvariant (StandsFor : K → List E → S → Type 0) (MayWrite : Rank → List E → Type 0) (is_own : ℕ → E → Bool) (key : K) (words : List ℕ) (homes : List (m.Option (Option S))) (views : List (View K E)) : Type 0 where
     pub log : List E
     pub gone : List (View K E)
@@ -166,7 +169,8 @@ module _ {K E S : Type 0} where
   abbrev pub IsLocked : (K → List E → S → Type 0) → (Rank → List E → Type 0) → (ℕ → E → Bool) → K → State (Option S) (View K E) → Type 0
   IsLocked StandsFor MayWrite is_own key s = LockInvariant StandsFor MayWrite is_own key s.words s.homes s.views
 
-  -- The lock was taken: the seat has seen the whole log, which begins with what it had seen and has no more entries of its own, and has the state, which stands for the log.
+  -- The lock was taken. The seat has seen the whole log, which begins with what it had seen and has no more entries that are its own, and it has the state,
+  -- which stands for the log.
   pub record TookLock (StandsFor : K → List E → S → Type 0) (MayWrite : Rank → List E → Type 0) (is_own : ℕ → E → Bool) (before after : Me (Option S) (View K E)) : Type 0 where
     pub view : after.0 ≡ holder_view before.0 after.0.seen
     pub begins : IsPrefix before.0.seen after.0.seen
@@ -181,7 +185,7 @@ module _ {K E S : Type 0} where
     pub took : found ≡ 0 → TookLock StandsFor MayWrite is_own before after
     pub lost : found ≢ 0 → after ≡ before
 
-  -- The state lies in the slot again, and the seat has seen what its turn wrote.
+  -- The state is in the slot again, and the seat has seen what its turn wrote.
   pub record AfterRelease (written : S → List E) (step : Step (Option S)) (before : Me (Option S) (View K E)) (stored : ℕ) (after : Me (Option S) (View K E)) : Type 0 where
     pub slot : after.1 ≡ rest before.1
     pub seen : (state : S) → before.1 ≡ (0, Some state) ∷ rest before.1 → after.0 ≡ left_view before.0 (written state)

@@ -1,4 +1,4 @@
--- The log of a pool: its history, and which jobs were picked and ended, whatever comes with an entry.
+-- The log of a pool: its history, and which jobs were picked and ended, with any payload.
 use Rattle.std.specs.Prelude.{◌≤◌, List, Option, Some, None, filter_map}
 use Rattle.resil_rule.specs.History.{times}
 use Rattle.resil_rule.specs.declared.event.Id.{Id}
@@ -13,7 +13,7 @@ abbrev pub event_of : Note → Option Event
 event_of (note.Event event) = Some event
 event_of (note.Started id) = None
 
--- the job that was picked: taken from the queue, or with a worker of its own
+-- the job that was picked, either taken from the queue or with its own worker
 abbrev pub picked_id : Note → Option Id
 picked_id (note.Started id) = Some id
 picked_id (note.Event (Take id)) = Some id
@@ -25,7 +25,7 @@ ended_id (note.Event (Finish id)) = Some id
 ended_id _ = None
 
 module _ {P : Type 0} where
-  -- the history; the jobs that were picked, and those that were ended: each in order
+  -- the history; the jobs that were picked; and those that were ended: each list in order
   abbrev pub events_in : List (Logged P) → List Event
   events_in log = filter_map (λ entry. event_of entry.note) log
 

@@ -1,8 +1,8 @@
-//! A word that shares no cache line with others of its kind, so that threads that write these don't take it away.
+//! A word that shares no cache line with other such words, so that threads that write those don't take the line away.
 
 use std::sync::atomic::AtomicU64;
 
-/// A word, with the rest of a cache line of 64 bytes behind it.
+/// A word, followed by the rest of a cache line of 64 bytes.
 #[derive(Drop)]
 pub(crate) struct Apart {
     pub(crate) word: AtomicU64,
@@ -10,7 +10,7 @@ pub(crate) struct Apart {
 }
 
 impl Apart {
-    /// A word of this value.
+    /// A word with this value.
     pub(crate) fn new(value: u64) -> Apart {
         Apart {
             word: AtomicU64::new(value),

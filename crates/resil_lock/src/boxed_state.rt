@@ -1,9 +1,9 @@
-//! A state in a block of its own.
+//! A state in its own block of memory.
 
 use crate::protocol::{Guarded, WithJoins};
 use std::marker::Model;
 
-/// A state in a block of its own, so that a turn moves a pointer and not the state. Contracts see the state.
+/// A state in its own block of memory, so that a turn moves a pointer instead of the state. Contracts see the state.
 ///
 /// ```
 /// let state = BoxedState { inner: Box::new(alloc, state)? };

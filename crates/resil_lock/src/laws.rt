@@ -1,4 +1,4 @@
-//! What holds of a lock between any two steps, whatever lies under it: the contract of a function that does nothing.
+//! What holds of a lock between any two steps, over any state: the contract of a function that does nothing.
 ghost use Rattle.std.specs.Prelude.{Option};
 ghost use Rattle.atomic_table.specs.Table.{State};
 ghost use Rattle.resil_lock.specs.declared.protocol.View.{View as ViewOf};
@@ -7,9 +7,8 @@ ghost use Rattle.resil_lock.specs.BetweenSteps.{HoldsBetweenSteps};
 use crate::protocol::{Guarded, LockRule, View};
 use atomic_table::TableRule;
 
-/// Between any two steps, whichever threads make them: the word is 1 exactly while one seat holds the lock, and the state
-/// is in its slot exactly while the word is 0; there is one log, for which that state stands, made up of just what the
-/// seats wrote; and what each of them has seen is a prefix of it.
+/// Between any two steps of any threads: the word is 1 exactly while one seat holds the lock, and the state is in its slot exactly while the
+/// word is 0. There is one log for which that state stands. It consists of exactly what the seats wrote, and each seat has seen a prefix of it.
 ///
 /// ```
 /// holds_between_steps::<Count>(); // From here on a proof has it of each lock over a `Count`.

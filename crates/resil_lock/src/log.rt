@@ -1,4 +1,4 @@
-//! What the log of a pool is made of, whatever comes with an entry.
+//! What the log of a pool is made of, with any payload.
 
 use resil_rule::{Event, Id};
 
@@ -7,14 +7,14 @@ use resil_rule::{Event, Id};
 pub enum Note {
     /// An event.
     Event(Event),
-    /// A worker picked a job that has a worker of its own. This is no event.
+    /// A worker picked a job that has its own worker. This is no event.
     Started(Id),
 }
 
-/// One entry of a log. No value of it is made.
+/// One entry of a log. It exists in contracts only.
 pub struct Logged<P> {
     /// What the turn noted.
     pub note: Note,
-    /// What came with it: of a submission the work.
+    /// What came with it: for a submission, the work.
     pub payload: P,
 }

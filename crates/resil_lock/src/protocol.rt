@@ -1,11 +1,11 @@
-//! What a seat knows, what the state says of itself, and what each kind of step tells. It exists in proofs alone,
-//! but for `Guarded::has_work`.
+//! What a seat knows, what the state says about itself, and what a seat knows after each kind of step. All of it
+//! exists in proofs only, except `Guarded::has_work`.
 
 use atomic_table::{Join, Play, Seat, Split, TableRule};
 use std::collections::LinkedList;
 use std::marker::PhantomData;
 
-/// A state that stands for a log, which it needn't keep.
+/// A state that stands for a log. It needn't keep the log.
 pub trait Guarded: Drop {
     ghost use Rattle.std.specs.Prelude.{ℕ, Bool, false, List, IsTrue, ◌↔◌};
     ghost use Rattle.resil_lock.specs.declared.protocol.Rank.{Rank};
@@ -13,10 +13,10 @@ pub trait Guarded: Drop {
     /// What is fixed when the lock is made.
     type Key;
 
-    /// What a log is made of.
+    /// The entries of a log.
     type Entry;
 
-    /// Under this key the state stands for this log.
+    /// With this key the state stands for this log.
     ghost StandsFor: { Self.Key → List Self.Entry → Self → Type 0 };
 
     /// What a seat of this rank may have written so far. If it excludes the empty list, no seat of this rank exists.
@@ -25,20 +25,20 @@ pub trait Guarded: Drop {
     /// Whether an entry is one that only the seat with this number writes.
     ghost is_own: { ℕ → Self.Entry → Bool } = { λ _ _. false };
 
-    /// What the last turn wrote. A state tells it until the next turn.
+    /// What the last turn wrote. The state says so until the next turn.
     ghost written: { Self → List Self.Entry };
 
     /// A worker has something to do.
     ghost HasWork: { Self → Type 0 };
 
-    /// Whether a worker has something to do. The lock asks at each release, for the workers that sleep.
+    /// Whether a worker has something to do. The lock calls it at each release, for the workers that sleep.
     fn has_work(&self) -> bool
         ensures { IsTrue result ↔ HasWork self.now };
 }
 
-/// A state under a lock whose members' seats may be joined away.
+/// A state under a lock where members' seats may be joined away.
 pub trait WithJoins: Guarded {
-    /// Any key. It stands in what is left of a seat that was joined away.
+    /// Any key. It is in what is left of a seat that was joined away.
     ghost spent_key: { Self.Key };
 }
 
@@ -47,51 +47,50 @@ pub trait WithJoins: Guarded {
 pub enum Rank {
     /// It makes the workers' seats and the members'.
     Opener,
-    /// It has a number. Where all seats have one, it is their place among all.
+    /// It has a number. If all seats have numbers, that is its place among them.
     Member,
-    /// It works, and has no number.
+    /// It runs jobs, and has no number.
     Worker,
     /// Anything else. Any thread makes such a seat for itself.
     Visitor,
 }
 
-/// Where a seat stands between two steps.
+/// What a seat is doing between two steps.
 pub enum Phase<E> {
     /// Between two turns.
     Idle,
     /// It holds the lock.
     Holding,
-    /// It holds the lock, between the two steps of a join: the number of the seat that is joined away, and what it had
-    /// seen.
+    /// It holds the lock, between the two steps of a join: the number of the seat that is joined away, and what that seat had seen.
     Joining(u64, LinkedList<E>),
     /// Joined away.
     Joined,
 }
 
-/// What a seat knows. No value of it is made.
+/// What a seat knows. It exists in contracts only.
 pub struct View<K, E> {
     /// The key of its lock.
     pub key: K,
     /// What it is for.
     pub rank: Rank,
-    /// Its number, and 0 where it has none.
+    /// Its number, or 0 if it has none.
     pub number: u64,
-    /// Of the opener how many seats it has made, with its own.
+    /// For the opener, how many seats it has made, including its own.
     pub made: u64,
-    /// How many turns it had. A release alone counts one.
+    /// How many turns it had. Only a release counts as one.
     pub turns: u64,
-    /// Where it stands.
+    /// What it is doing.
     pub phase: Phase<E>,
-    /// The log as far as it has seen it.
+    /// The part of the log that it has seen.
     pub seen: LinkedList<E>,
     /// What its own turns wrote.
     pub own: LinkedList<E>,
 }
 
-/// What one thread takes the lock with. It has no bytes.
+/// With this value a thread takes the lock. It has no bytes.
 pub type LockSeat<S, K, E> = Seat<Option<S>, View<K, E>>;
 
-/// The rule of a table with one word and one slot, in which the state lies while the word is 0.
+/// The rule of a table with one word and one slot. The state is in the slot while the word is 0.
 pub struct LockRule<S: Guarded>(PhantomData<S>);
 
 impl<S: Guarded> TableRule<Option<S>, View<S::Key, S::Entry>, S::Key> for LockRule<S> {
@@ -129,7 +128,7 @@ impl<S: Guarded> Play<Option<S>, View<S::Key, S::Entry>> for EndJoin<S> {
     ghost then = { AfterJoin S.MayHaveWritten S.is_own };
 }
 
-/// The load with which a visitor's seat comes in.
+/// The load by which a visitor's seat comes in.
 pub struct ComeIn;
 
 impl<S, K, E> Play<S, View<K, E>> for ComeIn {
@@ -138,7 +137,7 @@ impl<S, K, E> Play<S, View<K, E>> for ComeIn {
     ghost then = { AfterComing };
 }
 
-/// A worker's seat, cut from the opener's.
+/// A worker's seat, which is split from the opener's.
 pub struct Hire;
 
 impl<K, E> Split<View<K, E>> for Hire {
@@ -149,7 +148,7 @@ impl<K, E> Split<View<K, E>> for Hire {
     ghost right = { worker_view };
 }
 
-/// A member's seat, cut from the opener's, with the next number.
+/// A member's seat, which is split from the opener's and gets the next number.
 pub struct Admit;
 
 impl<K, E> Split<View<K, E>> for Admit {
@@ -160,7 +159,7 @@ impl<K, E> Split<View<K, E>> for Admit {
     ghost right = { member_view };
 }
 
-/// A member's seat that the holder joins away. The holder has seen all that it had seen.
+/// A member's seat that the holder joins away. The holder has seen all that this seat had seen.
 pub struct Merge<S: WithJoins>(PhantomData<S>);
 
 impl<S: WithJoins> Join<View<S::Key, S::Entry>> for Merge<S> {

@@ -1,7 +1,7 @@
 //! The loop of a worker: one round after the other, until its pool is over.
 //!
-//! What a round does is its pool's own (`Rounds`): a look for a job, in one turn, and the run of the one that it found.
-//! The loop sleeps after a round that found none, and `Looks` counts those that come in a row. No clause speaks of the sleep.
+//! Each pool defines what a round does (`Rounds`): a poll for a job, in one turn, and the run of the job that it found. The
+//! loop sleeps after a round that found none, and `Looks` counts such rounds in a row. No clause covers the sleep.
 ghost use Rattle.std.specs.Prelude.{ℕ, ◌≡◌, ◌+◌, ◌<◌, ◌≤◌, ◌↔◌, true};
 ghost use Rattle.resil_lock.specs.Work.{AfterRounds};
 
@@ -10,7 +10,7 @@ use crate::lock::Lock;
 use crate::protocol::Guarded;
 use std::sync::Wait;
 
-/// What one round of a worker came to.
+/// The result of one round of a worker.
 #[derive(Clone, Copy, Debug, PartialEq, Eq)]
 pub enum Round {
     /// It ran a job.
@@ -21,7 +21,7 @@ pub enum Round {
     Over,
 }
 
-/// What a look for a job found.
+/// The result of a poll for a job.
 #[derive(Drop)]
 pub enum Look<J> {
     /// A job.
@@ -32,7 +32,7 @@ pub enum Look<J> {
     Over,
 }
 
-/// A worker with all that it needs, which makes one round after the other. It says of its rounds what it can.
+/// A worker with all that it needs, which makes one round after the other. Its contracts say what its rounds do.
 ///
 /// ```
 /// impl Rounds for AtWork {
@@ -52,13 +52,13 @@ pub trait Rounds {
     /// A round may begin.
     ghost CanGo: { Self → Type 0 } = { λ _. Unit {0} };
 
-    /// One round may leave the second of the first.
+    /// One round may lead from the first state to the second.
     ghost HasGone: { Self → Self → Type 0 } = { λ _ _. Unit {0} };
 
     /// The worker sees that its pool is over.
     ghost IsOver: { Self → Type 0 } = { λ _. Unit {0} };
 
-    /// Looks for a job and runs the one that it finds. Where it finds one it says so before it runs it, by `Looks::has_found`.
+    /// Polls for a job and runs the one that it finds. If it finds one, it calls `Looks::has_found` before it runs the job.
     fn round<R: Wait>(&mut self, rt: &R, looks: &mut Looks) -> Round
         requires { CanGo self.old }
         ensures can { CanGo self.new }
@@ -66,7 +66,7 @@ pub trait Rounds {
         ensures over { result ≡ Round.Over → IsOver self.new };
 }
 
-/// How a worker looks for jobs: where it sleeps between two looks, and how many in a row may still find nothing.
+/// How a worker polls for jobs: where it sleeps between two polls, and how many polls in a row may still be empty.
 ///
 /// ```
 /// let mut looks = Looks::new(20);
@@ -79,14 +79,14 @@ pub trait Rounds {
 #[derive(Drop)]
 pub struct Looks {
     sleeper: Sleeper,
-    // After how many empty looks in a row the worker has timed out.
+    // The worker times out after this many empty polls in a row.
     keep_alive: u32,
-    // How many looks are left until then, with the one that comes next.
+    // How many polls are left until then, including the next one.
     left: u32,
 }
 
 impl Looks {
-    /// The looks of a worker that times out after so many empty ones in a row, and after one where it is 0.
+    /// For a worker that times out after `keep_alive` empty polls in a row; 0 means 1.
     pub fn new(keep_alive: u32) -> Looks
         ensures { (result.keep_alive ≡ keep_alive) × (result.left ≡ keep_alive) }
     {
@@ -97,15 +97,15 @@ impl Looks {
         }
     }
 
-    /// Whether the worker has timed out with the next look, if that one is empty too.
+    /// Whether the worker times out with the next poll, if that one is empty too.
     pub fn timed_out(&self) -> bool
         ensures { (result ≡ true) ↔ (self.now.left ≤ 1) }
     {
         self.left <= 1
     }
 
-    /// The worker has found a job: empty looks are counted anew. Where it was the one that searched, another is woken if there
-    /// is more to do.
+    /// The worker has found a job: the count of empty polls begins anew. If it was the worker that searched, another one is
+    /// woken, provided there is more to do.
     pub fn has_found<S: Guarded>(&mut self, lock: &Lock<S>)
         ensures keep_alive { self.new.keep_alive ≡ self.old.keep_alive }
         ensures anew { self.new.left ≡ self.old.keep_alive }
@@ -114,14 +114,14 @@ impl Looks {
         self.left = self.keep_alive;
     }
 
-    /// The worker has found no job. It sleeps until there may be one: 1 ms at first, and 64 ms at most. Once it has timed out,
-    /// empty looks are counted anew.
+    /// The worker has found no job. It sleeps until there may be one, for 1 ms at first and for at most 64 ms. After it has
+    /// timed out, the count of empty polls begins anew.
     pub fn sleep<S: Guarded, R: Wait>(&mut self, rt: &R, lock: &Lock<S>)
         ensures keep_alive { self.new.keep_alive ≡ self.old.keep_alive }
         ensures anew { self.old.left ≤ 1 → self.new.left ≡ self.old.keep_alive }
         ensures fewer { 1 < self.old.left → self.new.left + 1 ≡ self.old.left }
     {
-        // A seat that sleeps at the door is let in first.
+        // A seat that sleeps at the door is called in first.
         lock.door.call_in();
         self.sleeper.wait(rt, &lock.bell);
         self.left = if self.timed_out() {
@@ -133,9 +133,9 @@ impl Looks {
 }
 
 impl<S: Guarded> Lock<S> {
-    /// Has a worker make rounds until it sees that its pool is over. Then all others wake, to see it too.
+    /// Lets a worker make rounds until it sees that its pool is over. Then all other workers wake, so that they see it too.
     ///
-    /// After `keep_alive` empty looks in a row, with 0 as 1, the worker has timed out, and they are counted anew.
+    /// The worker times out after `keep_alive` empty polls in a row, where 0 means 1. After that the count begins anew.
     ///
     /// ```
     /// lock.work(&rt, &mut at_work, 20);

@@ -1,4 +1,4 @@
--- The rule that the table keeps gives each part of the law.
+-- Each part of the law follows from the rule that the table keeps.
 use Rattle.resil_lock.proofs.BetweenSteps.{between-steps}
 use Rattle.resil_lock.proofs.laws.holds_between_steps.Goals as goal
 

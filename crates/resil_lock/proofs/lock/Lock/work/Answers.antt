@@ -1,4 +1,4 @@
--- One round more.
+-- One more round.
 use Rattle.std.proofs.Common.{suc}
 use Rattle.resil_lock.proofs.lock.Lock.work.Goals as goal
 
