@@ -1,4 +1,4 @@
--- Of a legal history: a job runs or is finished, once at most; a refusal is real; where nothing is left to do the pool is over, and stays so.
+-- Laws of a legal history: a job runs or is finished, at most once; a refusal is real; if no work is left the pool is over, and stays so.
 use Rattle.std.proofs.Common.{◌≡◌, ◌≤◌, ◌+◌, ◌∷◌, [], ◌++◌, ◌||◌, ◌∙◌, Bool, true, false, List, None, slice_get, refl, sym, ap, subst, arith}
 use Rattle.std.specs.List.{list_any}
 use Rattle.std.proofs.lemmas.Grind.{common_steps}
@@ -18,7 +18,7 @@ module _ (limits : Sizes) (h : List Event) where
   pub once-done : IsLegal limits h → (id : Id) → times id (running h) + times id (finished h) ≤ 1
   once-done legal id = let c = conserved limits h legal id in omega (arith, c.sum, c.once)
 
-  -- where the rule of admission answers Full nothing is free, and where it answers Closed the pool is closed
+  -- if the rule of admission answers Full nothing is free, and if it answers Closed the pool is closed
   pub full-is-real : reply.Full ≡ reply_after limits h → NothingFree limits h
   full-is-real e = record { still_open = grind (arith, common_steps, e); core = grind (arith, common_steps, e); queue = grind (arith, common_steps, e); max = grind (arith, common_steps, e) }
 
@@ -38,7 +38,7 @@ nothing_left_is_over limits h legal closed none_waits none_runs = record {
       among-some id (finished h) (omega (arith, c.sum, some, waits, runs));
 }
 
--- an event of no job that was accepted changes nothing
+-- an event that isn't about an accepted job changes nothing
 quiet-stays : (h : List Event) (e : Event) → started_id e ≡ None → queued_id e ≡ None → taken_id e ≡ None → finished_id e ≡ None → accepted_id e ≡ None → IsOver h → IsOver (h ++ e ∷ [])
 quiet-stays h e no_start no_queue no_take no_end no_accept over = record {
   closed = list_any-append is_close h (e ∷ []) ∙ ap (λ (b : Bool). b || list_any is_close (e ∷ [])) over.closed;

@@ -1,4 +1,4 @@
--- What a turn does beside the rule keeps up with the log.
+-- What a turn does besides the rule agrees with the log.
 use Rattle.std.proofs.Common.{◌≡◌, ◌+◌, ◌==◌, inl, inr, ℕ, suc, true, cond, List, [], ◌∷◌, ◌++◌, ◌∙◌, Option, Some, None, length, slice_get, sym, refl, ap, subst, arith, append-nil, length-append}
 use Rattle.resil_executor.specs.Words.{accepted, accepted_id, finished, finished_id, submissions, is_submit_of, RuleView, owed, is_acceptance, with_submission, with_pick, with_take, with_finish, IsPicked, Id, Reply, Event, Picked, Slot}
 use Rattle.resil_rule.specs.declared.event.Reply.TheVariants as reply
@@ -12,7 +12,7 @@ use Rattle.resil_executor.specs.Log.{Entry, Note, entries_of, events_in}
 use Rattle.resil_executor.proofs.LogLaws.{length-more, events-more}
 use Rattle.resil_executor.specs.Kept.{refused, refused_id, events_of, IsOwn, unfinished, KeepsUp, Keeps}
 
--- an own submission was accepted or refused, and no other event is one
+-- an own submission was accepted or refused, and no other event is an own submission
 answered-once : (e : Event) → IsOwn (Some (note.Event e)) → cond (is_submit_of 1 e) 1 0 ≡ length (accepted (e ∷ [])) + length (refused (e ∷ []))
 answered-once (event.Submit id reply.Core) own = ap {B = ℕ} (λ (c : ℕ). cond (c == 1) 1 0) own
 answered-once (event.Submit id reply.Queued) own = ap {B = ℕ} (λ (c : ℕ). cond (c == 1) 1 0) own

@@ -1,4 +1,4 @@
--- Logs that grow by an entry.
+-- Logs that grow by one entry.
 use Rattle.std.proofs.Common.{◌≡◌, ◌⊎◌, inl, inr, ◌+◌, zero, suc, List, [], ◌∷◌, ◌++◌, ◌∙◌, Option, Some, None, drop, length, slice_get, sym, refl, ap, subst, arith, append-nil, append_assoc, length-append}
 use Rattle.std.specs.Prelude.{Contains, filter_map}
 use Rattle.std.proofs.lemmas.List.Elements.{filter_map-append, Contains-append_left}
@@ -52,7 +52,7 @@ prefix-trans xs ys zs p q = (p.0 ++ q.0, sym (append_assoc xs p.0 q.0) ∙ (ap (
 pub prefix-more : {E : Type 0} (xs ys more zs : List E) → IsPrefix xs ys → zs ≡ ys ++ more → IsPrefix xs zs
 prefix-more xs ys more zs p e = prefix-trans xs ys zs p (more, sym e)
 
--- a beginning of two lists is one of the first, or the first with a beginning of the second
+-- a prefix of two lists in sequence is a prefix of the first, or the first followed by a prefix of the second
 pub begins-either : {E : Type 0} (xs ys begun : List E) → IsPrefix begun (xs ++ ys) → IsPrefix begun xs ⊎ ((more : List E) × (begun ≡ xs ++ more) × IsPrefix more ys)
 begins-either [] ys begun p = inr (begun, refl, p)
 begins-either (x ∷ xs) ys [] p = inl (x ∷ xs, refl)
@@ -62,13 +62,13 @@ begins-either (x ∷ xs) ys (b ∷ begun) p = elim (begins-either xs ys begun (p
 ]
 
 module _ {W : Type 0} where
-  -- the last work is that of the job behind the others
+  -- the last work is the work of the last job
   pub last-more : (jobs : List (Id × W)) (id : Id) (work : W) → last_work (jobs ++ (id, work) ∷ []) ≡ Some work
   last-more [] id work = refl
   last-more (job ∷ []) id work = refl
   last-more (job ∷ next ∷ jobs) id work = last-more (next ∷ jobs) id work
 
-  -- the history grows by what was noted
+  -- the history grows by the event that was noted
   pub events-more : (log : List (Entry W)) (after : RuleView W) (last : Option Note) → events_in (log ++ entries_of after last) ≡ events_in log ++ events_of last
   events-more log after last = events_in-append log (entries_of after last) ∙ ap (λ (h : List Event). events_in log ++ h) (same last)
     where

@@ -1,4 +1,4 @@
--- What holds of any lock between any two steps, read for a pool: one log, made up of what the seats wrote.
+-- What holds of any lock between any two steps, for a pool: one log, which consists of what the seats wrote.
 use Rattle.std.proofs.Common.{◌≡◌, ◌≤◌, ◌⊎◌, ◌+◌, inl, inr, ℕ, zero, suc, Bool, true, false, List, [], ◌∷◌, Option, refl, sym, ap, subst, ⊎_elim, arith}
 use Rattle.std.specs.Prelude.{filter_map}
 use mathlib.Core.Option as m
@@ -12,7 +12,7 @@ use Rattle.resil_executor.specs.Laws.{HoldsOfTheLog, IsRunBySeat}
 use Rattle.resil_lock.proofs.LogLaws.{count, weigh-count, ended-is}
 use Rattle.resil_executor.proofs.HistoryLaws.{once-done}
 
--- a number of seats, added up
+-- the sum of a number over all seats
 module _ {K E : Type 0} (f : View K E → ℕ) where
   within-total : (views : List (View K E)) (index : ℕ) (v : View K E) → IsSeatAt views index v → f v ≤ total f views
   within-total [] index v at = absurd (m.some-ne-none v (sym at))
@@ -28,7 +28,7 @@ module _ {K E : Type 0} (f : View K E → ℕ) where
       let here = ap f (m.some-injective w u at') in let there = within-total views index v at in absurd (omega (arith, few, here, there, some, some'))
   one-of (w ∷ views) few (suc index) (suc other) v u at at' some some' = ap suc (one-of views (omega (arith, few)) index other v u at at' some some')
 
-  -- where the sum isn't 0, some seat has some of it
+  -- if the sum isn't 0, some seat's number isn't
   abbrev HasSome : List (View K E) → Type 0
   HasSome views = (index : ℕ) × (v : View K E) × IsSeatAt views index v × (1 ≤ f v)
 
@@ -45,7 +45,7 @@ either-some zero b some = inr (omega (arith, some))
 either-some (suc a) b some = inl (omega arith)
 
 module _ {W : Type 0} where
-  -- how often the log has a job is how often the seats wrote it
+  -- the log has a job as often as the seats wrote it
   times-total : {K : Type 0} (f : Entry W → Option Id) (id : Id) (log : List (Entry W)) (views gone : List (View K (Entry W)))
       → total (λ v. weigh (count f id) v.own) views + total (λ v. weigh (count f id) v.own) gone ≡ weigh (count f id) log
       → total (λ v. times id (filter_map f v.own)) views + total (λ v. times id (filter_map f v.own)) gone ≡ times id (filter_map f log)
@@ -65,7 +65,7 @@ module _ {W : Type 0} where
       let one = once-done _ (events_in log) s.state.legal id in
       omega (arith, outs, runs, same, one)
 
-  -- who ended a job is a worker, and picked it
+  -- the seat that ended a job is a worker's, and picked it
   worker-ended : {K : Type 0} (v : View K (Entry W)) (id : Id) → MayHaveWritten v.rank v.own → 1 ≤ times id (ended_in v.own) → (v.rank ≡ rank.Worker) × (is_among id (picked_in v.own) ≡ true) × (is_among id (ended_in v.own) ≡ true)
   worker-ended v id fits ended =
       let picked : 1 ≤ times id (picked_in v.own) = let b = fits.balanced id in omega (arith, b, ended) in (

@@ -1,4 +1,4 @@
--- What a seat sees of what its turn wrote, and what it may have written.
+-- What a seat sees after its turn, and what it may have written.
 use Rattle.std.proofs.Common.{◌≡◌, ◌<◌, ◌≤◌, ◌+◌, inl, inr, ℕ, Bool, true, false, cond, List, [], ◌++◌, ◌∙◌, Option, Some, None, length, sym, refl, ap, subst, arith, append-nil}
 use Rattle.std.proofs.lemmas.List.{nil_from_length}
 use Rattle.std.specs.Prelude.{IfErr, IfOk, OnOk, OnErr, Result, Ok, Err, Contains}
@@ -22,7 +22,8 @@ use Rattle.resil_executor.proofs.LogLaws.{more-some, more-none, more-empty, stil
 use Rattle.resil_executor.proofs.OneLogLaws.{picked-once}
 use Rattle.resil_executor.proofs.HistoryLaws.{full-is-real, closed-is-real, nothing_left_is_over}
 
--- A turn of a seat: the rule that it found under the lock stands for the log that it saw there, which begins with what it had seen, and what the turn noted is what it wrote.
+-- A turn of a seat: the rule that it found under the lock stands for the log that it saw there, which begins with what it had seen. What the turn noted is what
+-- it wrote.
 pub record HasTurned {W K : Type 0} (limits : Sizes) (old locked new : View K (Entry W)) (v after : RuleView W) (last : Option Note) : Type 0 where
   pub found : StandsFor limits locked.seen v
   pub begins : IsPrefix old.seen locked.seen
@@ -32,7 +33,7 @@ pub record HasTurned {W K : Type 0} (limits : Sizes) (old locked new : View K (E
   pub turned : new.turns ≡ old.turns + 1
   pub made : new.made ≡ old.made
 
--- what a state under the lock keeps
+-- what a state under the lock keeps true
 abbrev IsHome : {W H : Type 0} → (List Event → H → Type 0) → (ℕ → H → Type 0) → (H → Option ℕ) → Opening H → List (Entry W) → State W H → Type 0
 IsHome IsRecordOf HasRoom capacity opening log s = StandsFor opening.limits log s.rule × KeepsUp IsRecordOf HasRoom log s.rule s.accepted s.kept × (capacity s.kept ≡ capacity opening.blank.value)
 
@@ -47,7 +48,7 @@ module _ {W H : Type 0} {IsRecordOf : List Event → H → Type 0} {HasRoom : �
       let was = out_of_block home in
       (steps opening.limits log was.0, keeps-up IsRecordOf HasRoom log lent.rule next.rule next.last lent.accepted next.accepted lent.kept next.kept keeps was.1, holds ∙ was.2)
 
--- what a turn's proof begins with
+-- what the proof of a turn starts from
 module _ {W H : Type 0} {key : Opening H} {lent s : State W H} where
   pub turned : (old locked new : View (Opening H) (Entry W)) (next : State W H) → lent ≡ s → StandsFor locked.key.limits locked.seen s.rule → locked.key ≡ old.key → old.key ≡ key → IsPrefix old.seen locked.seen → locked.own ≡ old.own → new ≡ left_view locked (entries_of next.rule next.last) → locked ≡ holder_view old locked.seen
       → HasTurned key.limits old locked new lent.rule next.rule next.last
@@ -77,7 +78,7 @@ module _ {W K : Type 0} {limits : Sizes} {old locked new : View K (Entry W)} {v 
   wrote-new : new.own ≡ old.own ++ entries_of after last
   wrote-new = t.wrote ∙ ap (λ (l : List (Entry W)). l ++ entries_of after last) t.own
 
-  -- a turn that wrote nothing left the log as it was
+  -- a turn that wrote nothing leaves the log unchanged
   seen-still : WritesNone v after last → new.seen ≡ locked.seen
   seen-still w = t.saw ∙ (ap (λ (l : Option Note). locked.seen ++ entries_of after l) w.none ∙ append-nil locked.seen)
 
@@ -115,11 +116,11 @@ module _ {W K : Type 0} {limits : Sizes} {old locked new : View K (Entry W)} {v 
   refusal-sees refused.Spent w = (more-sees w.0, subst (λ (xs : List (Entry W)). length (submissions (events_in xs) 1) ≡ 18446744073709551615) (sym (seen-still w.0)) (sym (t.found.state.made_are 1) ∙ w.1))
   refusal-sees refused.Memory w = let sees = more-sees w in (sees.begins, sees.wrote)
 
-  -- how many submissions there are by now
+  -- how many submissions there are until now
   pub made-new : Steps v last after → made_by after 1 ≡ length (submissions (events_in new.seen) 1)
   made-new steps = let now = stands steps in now.state.made_are 1 ∙ ap (λ (xs : List (Entry W)). length (submissions (events_in xs) 1)) (sym t.saw)
 
-  -- the pool was closed before the turn, and so it is after
+  -- the pool was closed before the turn, and is closed after it
   pub closed-sees : WritesNone v after last × (v.closed ≡ true) → SeesMore limits old new × (is_closed (events_in new.seen) ≡ true)
   closed-sees w = (more-sees w.0, subst (λ (xs : List (Entry W)). is_closed (events_in xs) ≡ true) (sym (seen-still w.0)) (sym t.found.state.numbers.closed_is ∙ w.1))
 
@@ -145,7 +146,7 @@ module _ {W K : Type 0} {limits : Sizes} {old locked new : View K (Entry W)} {v 
           closed = closed ∙ now.state.numbers.closed_is;
         }))
 
--- no more works were accepted than there were submissions
+-- at most as many jobs were accepted as there were submissions
 pub few-accepted : {W H : Type 0} (IsRecordOf : List Event → H → Type 0) (HasRoom : ℕ → H → Type 0) (limits : Sizes) (log : List (Entry W)) (v : RuleView W) (count : ℕ) (r : H) → StandsFor limits log v → KeepsUp IsRecordOf HasRoom log v count r
     → count ≤ made_by v 1
 few-accepted IsRecordOf HasRoom limits log v count r s k = let made = s.state.made_are 1 in let answered = k.answered in let counted = k.counted in omega (arith, made, answered, counted)
@@ -218,7 +219,7 @@ module _ {W : Type 0} where
   look-fits who own v after last Nothing is found none fits = fits-plain who own after last (λ e. absurd (cc (is, e))) fits none.1
   look-fits who own v after last Over is found none fits = fits-plain who own after last (λ e. absurd (cc (is, e))) fits none.1
 
-  -- a job that a seat picked and didn't end is out, whatever the others did
+  -- a job that a seat picked and didn't end is out, whatever the other seats did
   pub due-out : (limits : Sizes) (log own : List (Entry W)) (v : RuleView W) (id : Id) → StandsFor limits log v → IsCovered MayHaveWritten log own → IsDue id own → is_among id (ids_out v.out) ≡ true
   due-out limits log own v id s covered due =
       let others = covered-ends MayHaveWritten log own covered (λ who entries fits. fits.balanced) id in
@@ -231,7 +232,7 @@ module _ {W : Type 0} where
   over-is limits log v s now =
       nothing_left_is_over v.limits (events_in log) s.state.legal (sym s.state.numbers.closed_is ∙ now.0) (sym s.state.waiting_is ∙ ap ids_of now.1) (nil_from_length (running (events_in log)) (sym s.state.numbers.running_are ∙ now.2))
 
--- what a worker's turn tells it
+-- what a worker knows after its turn
 module _ {W K : Type 0} {limits : Sizes} {old locked new : View K (Entry W)} {v after : RuleView W} {last : Option Note} (t : HasTurned limits old locked new v after last)
     (works : locked.rank ≡ rank.Worker) (may : MayHaveWritten locked.rank locked.own) (covered : IsCovered MayHaveWritten locked.seen locked.own) where
   pub look-found : (look : Look (PickedJob W)) → OnFound look (λ p. Picks v p.slot.id p.work after last) → OnFound look (λ p. HasPicked limits p.slot.id p.work old new)

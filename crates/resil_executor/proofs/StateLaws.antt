@@ -1,4 +1,4 @@
--- Each step of the rule keeps what it stands for, whatever the log.
+-- Each step of the rule keeps what it stands for, for any log.
 use Rattle.std.proofs.Common.{◌≡◌, ◌⊎◌, inl, inr, ℕ, zero, suc, ◌+◌, true, List, [], ◌∷◌, ◌++◌, ◌∙◌, Option, Some, length, slice_get, slice_set, sym, refl, ap, subst, arith, append-nil}
 use Rattle.std.specs.Prelude.{Contains}
 use Rattle.std.proofs.lemmas.List.Elements.{Contains-push, Contains-push_cases}
@@ -21,7 +21,7 @@ made-length (x ∷ xs) zero n = refl
 made-length (x ∷ xs) (suc i) n = ap suc (made-length xs i n)
 
 module _ {W : Type 0} where
-  -- jobs of the rule that it had, or the new one
+  -- the jobs that the rule had, or the new one
   abbrev IsGrown : Option (Id × W) → List (Id × W) → List (Id × W) → Type 0
   IsGrown new before after = (job : Id × W) → Contains after job → Contains before job ⊎ (new ≡ Some job)
 
@@ -35,7 +35,8 @@ module _ {W : Type 0} where
       split (inl old) = still-there (λ (e : Entry W). job_of e.note e.payload) log (entry ∷ []) job (known job old)
       split (inr new) = subst (λ (l : List (Id × W)). Contains l job) (sym (more-some (λ (e : Entry W). job_of e.note e.payload) log entry job new)) (Contains-push (accepted_in log) job)
 
-  -- A turn that wrote this note: the rule is left in the state that the history says then. What is out changes by what was picked and ended, and which jobs it has by what was accepted.
+  -- A turn that wrote this note: the rule is left in the state that the history gives then. What was picked and ended changes what is out, and what was
+  -- accepted changes which jobs the rule has.
   steps-by : (v after : RuleView W) (noted : Note) → ((h : List Event) → IsStateOf h v → IsStateOf (h ++ events_of (Some noted)) after) → after.limits ≡ v.limits → length after.made ≡ length v.made
       → ((id : Id) → times id (ids_out after.out) + times id (ended_in (entry_of after noted ∷ [])) ≡ times id (ids_out v.out) + times id (picked_in (entry_of after noted ∷ [])))
       → IsGrown (job_of noted (work_of after noted)) v.unpicked after.unpicked → IsGrown (job_of noted (work_of after noted)) v.waiting after.waiting → Steps v (Some noted) after
@@ -53,7 +54,7 @@ module _ {W : Type 0} where
     queue = known-more log (entry_of after noted) v.waiting after.waiting queue s.queue;
   }
 
-  -- A turn that wrote an event, once the step is written down: the rule is left as it was then, and the event is noted.
+  -- A turn that wrote an event, after the step was written down: the rule is left in its new state, and the event is noted.
   pub writes-by : (v known step after : RuleView W) (last : Option Note) (e : Event) → known.limits ≡ v.limits → length known.made ≡ length v.made
       → ((id : Id) → times id (ids_out known.out) + times id (ended_in (entry_of known (note.Event e) ∷ [])) ≡ times id (ids_out v.out) + times id (picked_in (entry_of known (note.Event e) ∷ [])))
       → IsGrown (job_of (note.Event e) (work_of known (note.Event e))) v.unpicked known.unpicked → IsGrown (job_of (note.Event e) (work_of known (note.Event e))) v.waiting known.waiting
@@ -66,7 +67,7 @@ module _ {W : Type 0} where
         wrote = refl;
       })
 
-  -- the work of an accepted submission is that of the job that was put last
+  -- the work of an accepted submission is the work of the job that was added last
   work-put : (v : RuleView W) (id : Id) (r : Reply) (work : W) → is_acceptance r ≡ true → work_of (with_submission v id work r) (note.Event (event.Submit id r)) ≡ Some work
   work-put v id reply.Core work is = last-more v.unpicked id work
   work-put v id reply.Queued work is = last-more v.waiting id work
@@ -99,7 +100,7 @@ module _ {W : Type 0} where
         (λ x. let fewer = clear-times x slot.id v.out slot.place there in let one = times-last x slot.id [] in omega (arith, fewer, one))
         (λ job there. inl there) (λ job there. inl there) same follows kept noted)
 
--- a pick, by where it came from
+-- a pick, by the origin of the job
 pub noted-picks : {W : Type 0} (v known after : RuleView W) (p : Picked W) (last : Option Note) (slot : Slot) (work : W) → (p.origin ≡ origin.OwnStart → last ≡ Some (note.Started p.slot.id)) → (p.origin ≡ origin.Queue → last ≡ Some (note.Event (event.Take p.slot.id)))
     → IsPicked v p known → after ≡ known → slot ≡ p.slot → work ≡ p.work → Picks v slot.id work after last
 noted-picks v known after p last slot work own queue (free, inl was) same same_slot same_work =

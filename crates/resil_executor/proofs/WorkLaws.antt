@@ -1,4 +1,4 @@
--- What a worker has done, turn by turn, and what its clause rules out, whatever the body.
+-- What a worker has done, turn by turn, and what its clause rules out, for any body.
 use Rattle.std.proofs.Common.{ℕ, ◌≡◌, ◌≤◌, ◌⊎◌, inl, inr, List, [], ◌∷◌, ◌++◌, ◌∙◌, Option, Some, length, sym, refl, ap, subst, arith, append-nil, append_assoc, length-append}
 use Rattle.std.specs.Prelude.{Contains}
 use Rattle.std.proofs.lemmas.List.{append_cancel_left}
@@ -18,14 +18,14 @@ module _ {W : Type 0} where
   still-accepted : (xs ys : List (Entry W)) (job : Id × W) → IsPrefix xs ys → Contains (accepted_in xs) job → Contains (accepted_in ys) job
   still-accepted xs ys job p there = subst (λ (l : List (Entry W)). Contains (accepted_in l) job) p.1 (still-there (λ (e : Entry W). job_of e.note e.payload) xs p.0 job there)
 
-  -- where one job was picked at most there was one in hand at most
+  -- if at most one job was picked, at most one was in hand
   one-in_hand : (part : List (Entry W)) → length (picked_in part) ≤ 1 → HasOneInHand part
   one-in_hand part few begun p =
       let more = ap (λ (l : List (Entry W)). length (picked_in l)) p.1 in
       let both = length-more (λ (e : Entry W). picked_id e.note) begun p.0 in
       omega (arith, few, more, both)
 
-  -- and so it goes on behind a part whose jobs were ended
+  -- and this still holds after a part whose jobs were all ended
   still-in_hand : (xs ys : List (Entry W)) → ended_in xs ≡ picked_in xs → HasOneInHand xs → HasOneInHand ys → HasOneInHand (xs ++ ys)
   still-in_hand xs ys same one other begun p = elim (begins-either xs ys begun p) [
     | inl q ↦ one begun q
@@ -97,7 +97,7 @@ module _ {W C O K : Type 0} (limits : Sizes) (HasRun : C → W → O → C → T
       split id there = Contains-append_cases (ended_in x.part) (ended_in y.part) id (subst (λ (l : List Id). Contains l id) both there)
 
 module _ {W H C O : Type 0} {keeps : Ghosts H} (HasRun : C → W → O → C → Type 0) where
-  -- what one round leaves of a worker at work
+  -- what one round of a worker leaves
   abbrev HasGone : AtWork W H C keeps → AtWork W H C keeps → Type 0
   HasGone x y =
       (y.pool ≡ x.pool) × (y.worker.ghost_name ≡ x.worker.ghost_name) × (y.context.ghost_name ≡ x.context.ghost_name)

@@ -1,4 +1,4 @@
--- What lies beside the rule: the record of the history, the room that it has, and how many works were accepted.
+-- What the state has besides the rule: the record of the history, the room that it has, and how many jobs were accepted.
 use Rattle.std.specs.Prelude.{ℕ, ◌≡◌, ◌+◌, ◌++◌, ◌∷◌, [], List, Option, Some, None, filter_map, length}
 use Rattle.resil_executor.specs.Words.{accepted, finished, submissions, RuleView, busy, owed, Id, Full, Closed, Event, Submit}
 use Rattle.resil_lock.specs.declared.log.Note.TheVariants as note
@@ -20,12 +20,12 @@ events_of None = []
 events_of (Some (note.Started id)) = []
 events_of (Some (note.Event event)) = event ∷ []
 
--- a submission is the pool's own: it bears caller 1
+-- a submission is the pool's own: its caller is 1
 abbrev pub IsOwn : Option Note → Type 0
 IsOwn (Some (note.Event (Submit id reply))) = id.caller ≡ 1
 IsOwn _ = Unit {0}
 
--- some record has too little room for some events
+-- some record hasn't enough room for some events
 abbrev pub LacksRoom : {H : Type 0} → (ℕ → H → Type 0) → Type 0
 LacksRoom {H = H} HasRoom = (events : ℕ) × (r : H) × (HasRoom events r → ⊥)
 
@@ -35,8 +35,8 @@ module _ {W : Type 0} where
   unfinished v = length v.waiting + busy v
 
 module _ {W H : Type 0} (IsRecordOf : List Event → H → Type 0) (HasRoom : ℕ → H → Type 0) where
-  -- The record is that of the log's history, with room for what is owed; the count is that of the works that were accepted; these wait, run or are
-  -- finished; and the pool's own submissions were accepted or refused.
+  -- The record is the one of the log's history, with room for what is owed. The count is the number of accepted jobs, each of which waits, runs or
+  -- is finished. The pool's own submissions were accepted or refused.
   pub record KeepsUp (log : List (Entry W)) (v : RuleView W) (count : ℕ) (r : H) : Type 0 where
     pub recorded : IsRecordOf (events_in log) r
     pub room : HasRoom (owed v) r
@@ -44,7 +44,7 @@ module _ {W H : Type 0} (IsRecordOf : List Event → H → Type 0) (HasRoom : �
     pub jobs : unfinished v + length (finished (events_in log)) ≡ count
     pub answered : length (submissions (events_in log) 1) ≡ length (accepted (events_in log)) + length (refused (events_in log))
 
-  -- What a turn did to the record and the count, whatever the history.
+  -- What a turn did to the record and the count, for any history.
   pub record Keeps (before : RuleView W) (old_count : ℕ) (old : H) (after : RuleView W) (last : Option Note) (new_count : ℕ) (new : H) : Type 0 where
     pub recorded : (history : List Event) → IsRecordOf history old → IsRecordOf (history ++ events_of last) new
     pub room : HasRoom (owed after) new

@@ -1,4 +1,4 @@
--- Laws of what clauses say, whatever the bodies.
+-- Laws of what clauses say, for any bodies.
 use Rattle.std.specs.Prelude.{◌≡◌, ◌⊎◌, ◌≤◌, ◌<◌, ◌+◌, ℕ, ◌++◌, ◌∷◌, [], true, List, Option, length}
 use Rattle.resil_executor.specs.Words.{IsPrefix, Sizes, AreSizes, IsAllowed, IsLegal, is_closed, is_among, times, waiting, running, finished, RuleView, Id, Event, Finish, View, is_there, total, IsSeatAt}
 use Rattle.resil_lock.specs.declared.protocol.Rank.TheVariants as rank
@@ -7,37 +7,37 @@ use Rattle.resil_executor.specs.Turn.{Picks, HasPicked, HasWorked, SeesLast, See
 
 -- K is the key of the lock.
 module _ {W C O : Type 0} (K : Type 0) (HasRun : C → W → O → C → Type 0) where
-  -- Who picked a job and wrote nothing more hasn't worked: it was dropped, or run and never ended.
+  -- A worker that picked a job and wrote nothing more hasn't worked: the job was dropped, or run and never ended.
   abbrev pub PickedIsEnded : Type 0
   PickedIsEnded = (limits : Sizes) (before after : View K (Entry W)) (id : Id) (work : W) → HasPicked limits id work before after → HasWorked limits HasRun before after → ⊥
 
-  -- Who picked a job, then ended one, and has worked so, ended the one that it picked.
+  -- A worker that picked a job, then ended one, and so has worked, ended the job that it picked.
   abbrev pub EndedWasPicked : Type 0
   EndedWasPicked =
       (limits : Sizes) (before between after : View K (Entry W)) (id other : Id) (work : W) → HasPicked limits id work before between → SeesLast limits between (Finish other) after → HasWorked limits HasRun before after → other ≡ id
 
 module _ (W : Type 0) where
-  -- A pick is nothing that a visitor's seat may have written, nor the closer's.
+  -- Neither a visitor's seat nor the closer's may have written a pick.
   abbrev pub OnlyWorkersPick : Type 0
   OnlyWorkersPick =
       (own : List (Entry W)) (v after : RuleView W) (last : Option Note) (id : Id) (work : W) → Picks v id work after last
       → (MayHaveWritten rank.Visitor (own ++ entries_of after last) → ⊥) × (MayHaveWritten rank.Opener (own ++ entries_of after last) → ⊥)
 
 module _ (W K : Type 0) where
-  -- A look is a turn, which its view counts: nobody sees a thing that he hasn't looked at.
+  -- A look is a turn, which its view counts: a seat that hasn't looked has seen nothing.
   abbrev pub ALookIsATurn : Type 0
   ALookIsATurn = (limits : Sizes) (blank : View K (Entry W)) → SeesMore limits blank blank → ⊥
 
--- The end of a pool stays: whatever may still come, it is closed, nothing waits, nothing runs, and each accepted job is finished.
+-- The end of a pool is final. After any further events it is closed, no job waits, none runs, and each accepted job is finished.
 abbrev pub EndStays : Type 0
 EndStays = (limits : Sizes) (history : List Event) (event : Event) → IsOver history → IsAllowed limits history event → IsOver (history ++ event ∷ [])
 
--- A legal history that is closed, after which nothing waits and nothing runs, is that of a pool that is over: each accepted job is finished.
+-- If a legal history is closed, and after it no job waits and none runs, the pool is over: each accepted job is finished.
 abbrev pub NothingLeftIsOver : Type 0
 NothingLeftIsOver = (limits : Sizes) (history : List Event) → IsLegal limits history → is_closed history ≡ true → waiting history ≡ [] → running history ≡ [] → IsOver history
 
 module _ {W K : Type 0} where
-  -- a seat, there or joined away, that is a worker's, picked this job and ended it
+  -- a worker's seat, still there or joined away, picked this job and ended it
   pub record IsRunBySeat (views gone : List (View K (Entry W))) (id : Id) : Type 0 where
     pub index : ℕ
     pub seat : View K (Entry W)
@@ -46,9 +46,10 @@ module _ {W K : Type 0} where
     pub picked : is_among id (picked_in seat.own) ≡ true
     pub ended : is_among id (ended_in seat.own) ≡ true
 
-  -- What holds between any two steps of a pool, whichever threads make them. There is one log, which is legal, and each seat has seen a prefix of it; it is made up of what the seats wrote, with those
-  -- that are gone. Never more jobs run than the greatest size of the opening says, and those that were picked and not ended are among them. Each job is picked once at most, so by one seat; it is ended
-  -- once at most, and only where it was picked; the jobs that were ended are those that the history has as finished, and each was picked and ended by a worker's seat.
+  -- What holds of a pool between any two steps of any threads. There is one log, which is legal, and each seat has seen a prefix of it. It consists of what the
+  -- seats wrote, including those that are gone. Never more jobs run than the maximum size at the opening, and the jobs that were picked and not ended are among
+  -- those that run. Each job is picked at most once, so by one seat. It is ended at most once, and only if it was picked. The jobs that were ended are those
+  -- that the history has as finished, and each was picked and ended by a worker's seat.
   pub record HoldsOfTheLog (limits : Sizes) (views : List (View K (Entry W))) : Type 0 where
     pub log : List (Entry W)
     pub gone : List (View K (Entry W))

@@ -1,4 +1,4 @@
--- Whose a seat is, and what it knows: the words in which contracts speak of a pool, and of what submits, works and closes there.
+-- The owner of a seat and what it knows: the words in which contracts speak of a pool, and of what submits, works and closes there.
 use Rattle.std.specs.Prelude.{◌≡◌, ◌+◌}
 use Rattle.resil_executor.specs.Words.{Seat, Sizes, View, first_view, visitor_view, made_one, Opening}
 use Rattle.resil_executor.specs.Log.{Entry}
@@ -6,7 +6,7 @@ use Rattle.resil_executor.specs.declared.executor.Executor.{Executor}
 use Rattle.resil_executor.specs.Turn.{HasWorkedSinceHiredBy, SeesOver}
 
 module _ {W H : _} where
-  -- the sizes of the opening
+  -- the sizes at the opening
   abbrev pub limits_of : Executor W H → Sizes
   limits_of pool = pool.lock.table.shared.key.limits
 
@@ -26,7 +26,7 @@ module _ {W H : _} where
   abbrev pub IsOf : {S : Type 0} → Executor W H → Seat S (View (Opening H) (Entry W)) → Type 0
   IsOf pool seat = IsAt pool seat × (seat.me.0.key ≡ pool.lock.table.shared.key)
 
-  -- a worker's seat of this pool, which has left it: it has seen the end, and ended no job but those that it picked and whose work was run so
+  -- a worker's seat of this pool, which has left it: it has seen the end, and ended only jobs that it picked and whose work was run in this way
   pub record HasLeft {S : Type 0} (pool : Executor W H) (Was : W → Type 0) (seat : Seat S (View (Opening H) (Entry W))) : Type 0 where
     pub mine : IsOf pool seat
     pub worked : HasWorkedSinceHiredBy (limits_of pool) Was seat.me.0
@@ -36,7 +36,7 @@ module _ {W H : _} where
 abbrev pub known_to : {S V : Type 0} → Seat S V → V
 known_to seat = seat.me.0
 
--- a seat of the same pool, which knows the same, but for that it has made one seat more
+-- a seat of the same pool, which knows the same, except that it has made one more seat
 pub record HasHired {S K E : Type 0} (before after : Seat S (View K E)) : Type 0 where
   pub source : after.table_id ≡ before.table_id
   pub me : after.me ≡ (made_one before.me.0, before.me.1)

@@ -9,15 +9,15 @@ use Rattle.resil_executor.specs.Kept.{refused}
 use Rattle.resil_executor.specs.Log.{Entry, Note, StandsFor, picked_id, ended_id, work_of, entries_of, events_in, accepted_in, picked_in, ended_in, beyond_submissions_in, IsOver}
 
 module _ {W : Type 0} where
-  -- Whatever log the rule stood for, it stands for that log with what was written.
+  -- For any log that the rule stood for, it now stands for that log with what was written.
   abbrev pub Steps : RuleView W → Option Note → RuleView W → Type 0
   Steps before last after = (limits : Sizes) (log : List (Entry W)) → StandsFor limits log before → StandsFor limits (log ++ entries_of after last) after
 
-  -- Whatever log the rule stood for, the event was allowed after it.
+  -- The event was allowed after any log that the rule stood for.
   abbrev pub MayFollow : RuleView W → Event → Type 0
   MayFollow before event = (limits : Sizes) (log : List (Entry W)) → StandsFor limits log before → IsAllowed limits (events_in log) event
 
-  -- what was written is no pick and no end
+  -- what was written is neither a pick nor an end
   abbrev pub IsPlain : RuleView W → Option Note → Type 0
   IsPlain after last = (picked_in (entries_of after last) ≡ []) × (ended_in (entries_of after last) ≡ [])
 
@@ -25,7 +25,7 @@ module _ {W : Type 0} where
   abbrev pub IsVisit : RuleView W → Option Note → Type 0
   IsVisit after last = IsPlain after last × (beyond_submissions_in (entries_of after last) ≡ [])
 
-  -- an event was written, which was allowed
+  -- an event was written, and was allowed
   pub record Writes (before : RuleView W) (event : Event) (after : RuleView W) (last : Option Note) : Type 0 where
     pub steps : Steps before last after
     pub allowed : MayFollow before event
@@ -35,19 +35,19 @@ module _ {W : Type 0} where
     pub steps : Steps before last after
     pub none : last ≡ None
 
-  -- a turn accepted this work
+  -- a turn accepted the job with this id and work
   pub record Accepts (before : RuleView W) (id : Id) (reply : Reply) (work : W) (after : RuleView W) (last : Option Note) : Type 0 where
     pub writes : Writes before (Submit id reply) after last
     pub work_is : work_of after (note.Event (Submit id reply)) ≡ Some work
 
-  -- a turn refused
+  -- a turn refused a submission
   abbrev pub Refuses : RuleView W → Refused → RuleView W → Option Note → Type 0
   Refuses before refused.Full after last = (id : Id) × Writes before (Submit id reply.Full) after last
   Refuses before refused.Closed after last = (id : Id) × Writes before (Submit id reply.Closed) after last
   Refuses before refused.Spent after last = WritesNone before after last × (made_by before 1 ≡ 18446744073709551615)
   Refuses before refused.Memory after last = WritesNone before after last
 
-  -- a turn picked this job, which had been accepted, whatever the log
+  -- a turn picked this job, which had been accepted, for any log
   pub record Picks (before : RuleView W) (id : Id) (work : W) (after : RuleView W) (last : Option Note) : Type 0 where
     pub steps : Steps before last after
     pub noted : Note
@@ -56,11 +56,11 @@ module _ {W : Type 0} where
     pub ended : ended_id noted ≡ None
     pub known : (limits : Sizes) (log : List (Entry W)) → StandsFor limits log before → Contains (accepted_in log) (id, work)
 
-  -- nothing may be picked, or as many jobs run as the greatest size says now
+  -- no job may be picked, or as many run as the current maximum size
   abbrev pub HasNoneToRun : RuleView W → Type 0
   HasNoneToRun v = HasNoneToPick v ⊎ (v.max ≤ busy v)
 
-  -- a job may begin: one that was let in with a worker of its own waits for it, or fewer run than the greatest size says now
+  -- a job may begin: one that was let in with its own worker waits for it, or fewer run than the current maximum size
   abbrev pub MayBegin : RuleView W → Type 0
   MayBegin v = (0 < length v.unpicked) ⊎ (busy v < v.max)
 
@@ -68,37 +68,37 @@ module _ {W : Type 0} where
   abbrev pub IsOverNow : RuleView W → Type 0
   IsOverNow v = (v.closed ≡ true) × (v.waiting ≡ []) × (busy v ≡ 0)
 
-  -- a worker has something to do: its pool is over, which it is to see, or there is a job to pick, which may begin
+  -- a worker has something to do: its pool is over, which the worker must see, or there is a job to pick that may begin
   abbrev pub HasWork : RuleView W → Type 0
   HasWork v = IsOverNow v ⊎ (HasOneToPick v × MayBegin v)
 
-  -- a seat picked a job of this id and hasn't ended it
+  -- a seat picked a job with this id and hasn't ended it
   abbrev pub IsDue : Id → List (Entry W) → Type 0
   IsDue id own = times id (ended_in own) < times id (picked_in own)
 
-  -- One job in hand at most: in each beginning of what a seat wrote, at most one job more was picked than ended.
+  -- At most one job in hand: in each prefix of what a seat wrote, at most one more job was picked than ended.
   abbrev pub HasOneInHand : List (Entry W) → Type 0
   HasOneInHand part = (begun : List (Entry W)) → IsPrefix begun part → length (picked_in begun) ≤ length (ended_in begun) + 1
 
-  -- A work was run by its own `run`.
+  -- A job was run by its own `run`.
   abbrev pub WasRun : {C O : Type 0} → (C → W → O → C → Type 0) → W → Type 0
   WasRun {C = C} {O = O} HasRun work = (from : C) × (output : O) × (to : C) × HasRun from work output to
 
-  -- A run of the work that was accepted under this id, among these jobs, gave this output.
+  -- A run of the work that was accepted under this id, in this list of jobs, gave this output.
   abbrev pub IsOfItsRun : {C O : Type 0} → (C → W → O → C → Type 0) → List (Id × W) → Id → O → Type 0
   IsOfItsRun {C = C} HasRun jobs id output = (from : C) × (work : W) × (to : C) × HasRun from work output to × Contains jobs (id, work)
 
--- Nothing was free after a history: no room in the queue, and as many workers as there may be.
+-- Nothing was free after a history: no room in the queue, and as many workers as are allowed.
 pub record NothingFree (limits : Sizes) (history : List Event) : Type 0 where
   pub still_open : is_closed history ≡ false
   pub core : core_size limits history ≤ workers history
   pub queue : limits.queue ≤ length (waiting history)
   pub max : max_size limits history ≤ workers history
 
--- What a seat sees, whatever the key of its lock.
+-- What a seat sees, for any key of its lock.
 module _ {W K : Type 0} where
-  -- A seat had a turn and wrote this event, and nothing else: it sees a legal log, which begins with what it had seen and ends with the event, which was
-  -- allowed where it stands.
+  -- A seat had a turn and wrote only this event. It sees a legal log, which begins with what it had seen and ends with the event, which was allowed at
+  -- that point.
   pub record SeesLast (limits : Sizes) (before : View K (Entry W)) (event : Event) (after : View K (Entry W)) : Type 0 where
     pub log : List (Entry W)
     pub work : Option W
@@ -109,27 +109,26 @@ module _ {W K : Type 0} where
     pub legal : IsLegal limits (events_in after.seen)
     pub turned : before.turns < after.turns
 
-  -- A seat had a turn and wrote nothing: it sees a legal log, which begins with what it had seen.
+  -- A seat had a turn and wrote nothing. It sees a legal log, which begins with what it had seen.
   pub record SeesMore (limits : Sizes) (before after : View K (Entry W)) : Type 0 where
     pub begins : IsPrefix before.seen after.seen
     pub wrote : after.own ≡ before.own
     pub legal : IsLegal limits (events_in after.seen)
     pub turned : before.turns < after.turns
 
-  -- A seat sees that its work was accepted, with the work, and wrote nothing else.
+  -- A seat sees that its job was accepted, with its work, and wrote nothing else.
   pub record SeesAccepted (limits : Sizes) (before : View K (Entry W)) (id : Id) (reply : Reply) (work : W) (after : View K (Entry W)) : Type 0 where
     pub sees : SeesLast limits before (Submit id reply) after
     pub work_is : sees.work ≡ Some work
 
-  -- A refusal is real: it is the last event of a legal log, and what it says held there. Where no more submissions can be counted nothing is
-  -- written.
+  -- A refusal is real: it is the last event of a legal log, and what it says held there. If no more submissions can be counted, nothing is written.
   abbrev pub SeesRefusal : Sizes → View K (Entry W) → Refused → View K (Entry W) → Type 0
   SeesRefusal limits before refused.Full after = (id : Id) × (sees : SeesLast limits before (Submit id reply.Full) after) × NothingFree limits (events_in sees.log)
   SeesRefusal limits before refused.Closed after = (id : Id) × (sees : SeesLast limits before (Submit id reply.Closed) after) × (is_closed (events_in sees.log) ≡ true)
   SeesRefusal limits before refused.Spent after = SeesMore limits before after × (length (submissions (events_in after.seen) 1) ≡ 18446744073709551615)
   SeesRefusal limits before refused.Memory after = IsPrefix before.seen after.seen × (after.own ≡ before.own)
 
-  -- A seat picked this job, which was accepted with this work, and wrote nothing else.
+  -- A seat picked the job with this id and work, which was accepted, and wrote nothing else.
   pub record HasPicked (limits : Sizes) (id : Id) (work : W) (before after : View K (Entry W)) : Type 0 where
     pub begins : IsPrefix before.seen after.seen
     pub legal : IsLegal limits (events_in after.seen)
@@ -159,7 +158,7 @@ module _ {W K : Type 0} where
     pub one_at_once : HasOneInHand part
     pub ran : (id : Id) → Contains (ended_in part) id → (work : W) × Contains (accepted_in after.seen) (id, work) × Was work
 
-  -- the same, by what a run may have met and left
+  -- the same, with a relation that says what a run does to its context
   abbrev pub HasWorked : {C O : Type 0} → Sizes → (C → W → O → C → Type 0) → View K (Entry W) → View K (Entry W) → Type 0
   HasWorked limits HasRun before after = HasWorkedBy limits (WasRun HasRun) before after
 
@@ -176,11 +175,11 @@ module _ {W K : Type 0} where
     pub over : IsOver (events_in v.seen)
     pub once : (id : Id) → times id (picked_in v.own) ≤ 1
 
--- nothing runs and nothing waits
+-- no job runs and none waits
 abbrev pub AllFinished : List Event → Type 0
 AllFinished history = (length (running history) ≡ 0) × (length (waiting history) ≡ 0)
 
--- what the numbers of a pool say of its history
+-- what the numbers of a pool say about its history
 pub record AreNumbersAfter (limits : Sizes) (history : List Event) (n : Numbers) : Type 0 where
   pub workers : n.workers ≡ workers history
   pub running : n.running ≡ length (running history)

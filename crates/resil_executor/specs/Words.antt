@@ -1,4 +1,4 @@
--- The words of other crates and the types of this one that the definitions and laws here speak of, from one place.
+-- The words of other crates and the types of this one that the definitions and laws here use, in one place.
 pub use mathlib.Core.List.{IsPrefix}
 pub use Rattle.atomic_table.specs.declared.shared.Seat.{Seat}
 pub use Rattle.resil_rule.specs.Admission.{IsAllowed, IsLegal, reply_after}

@@ -1,4 +1,4 @@
-//! A pool, and who takes turns at it: each has a seat at its lock.
+//! A pool, and what takes turns at it: each of these has a seat at the pool's lock.
 ghost use Rattle.std.specs.Prelude.{◌≡◌, []};
 ghost use Rattle.resil_lock.specs.declared.protocol.Phase.TheVariants.{Idle};
 ghost use Rattle.resil_lock.specs.declared.protocol.Rank.TheVariants as rank;
@@ -10,7 +10,7 @@ use resil_lock::{Lock, LockSeat};
 use resil_rule::{NoRecord, Record, Sizes};
 use std::alloc::Global;
 
-/// A pool of threads for one's own work, which threads share by `&`. `H` is the record of its history: `NoRecord`
+/// A pool of threads for your own jobs, which threads share by `&`. `H` is the record of its history: `NoRecord`
 /// keeps none, `LastEvents` the last events, and `AllEvents` all of them.
 ///
 /// ```
@@ -22,14 +22,14 @@ use std::alloc::Global;
 pub struct Executor<W: Drop, H: Record = NoRecord> {
     /// The lock over the pool's state.
     pub lock: Lock<BoxedState<W, H>>,
-    // The sizes of the opening.
+    // The sizes that it was opened with.
     pub(crate) limits: Sizes,
-    // Where memory is asked for as threads are started.
+    // The allocator that starting threads uses.
     pub(crate) alloc: Global,
     ghost sizes: { lock.table.shared.key.limits ≡ limits },
 }
 
-/// What a thread submits with, and looks at the numbers. It takes no memory, and any thread may have one.
+/// A thread submits by it, and reads the numbers. It takes no memory, and any thread may have one.
 ///
 /// ```
 /// let mut visitor = pool.visitor();
@@ -42,7 +42,7 @@ pub struct Visitor<W: Drop, H: Record = NoRecord> {
     ghost rank: { seat.me.0.rank ≡ rank.Visitor },
 }
 
-/// What one thread works with. It takes no memory.
+/// A thread runs jobs by it. It takes no memory.
 ///
 /// ```
 /// let mut worker = pool.hire(&mut closer);
@@ -55,7 +55,7 @@ pub struct ExecutorWorker<W: Drop, H: Record = NoRecord> {
     ghost rank: { seat.me.0.rank ≡ rank.Worker },
 }
 
-/// What closes and resizes a pool, and hires its workers. There is one, which the opening gives.
+/// It closes and resizes a pool, and hires its workers. There is one, which `open` returns.
 ///
 /// ```
 /// let worker = pool.hire(&mut closer);

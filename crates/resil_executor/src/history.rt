@@ -1,4 +1,4 @@
-//! The history of a pool that keeps a record, read while it runs.
+//! The history of a pool that keeps a record, which can be read while the pool runs.
 ghost use Rattle.std.specs.Prelude.{◌≡◌, IfOk, length};
 ghost use Rattle.resil_rule.specs.Record.{IsLastOf};
 ghost use Rattle.resil_executor.specs.Log.{events_in};
@@ -25,7 +25,7 @@ pub struct LastHistory {
     pub lost: u64,
 }
 
-// What a record of the last events holds. Errors: `AllocError` where memory runs out.
+// What a record of the last events holds. Errors: `AllocError` if out of memory.
 fn last_history(alloc: Global, last: &LastEvents) -> Result<LastHistory, AllocError>
     ensures events { IfOk result (λ history. history.events.items ≡ last.now.events) }
     ensures lost { IfOk result (λ history. history.lost ≡ last.now.lost) }
@@ -44,12 +44,11 @@ fn last_history(alloc: Global, last: &LastEvents) -> Result<LastHistory, AllocEr
 }
 
 impl<W: Drop> Executor<W, AllEvents> {
-    /// The whole history, in one turn, which writes nothing: what the pool's turns wrote up to here. Others wait while it is
-    /// copied.
+    /// The whole history, read in one turn, which writes nothing: all that the pool's turns wrote until then. Other turns wait while it is copied.
     ///
     /// # Errors
     ///
-    /// `AllocError` where memory runs out.
+    /// `AllocError` if out of memory.
     ///
     /// ```
     /// let (pool, _closer): (Executor<Errand, AllEvents>, _) = Executor::open(alloc, limits, AllEvents::new(alloc))?;
@@ -76,11 +75,11 @@ impl<W: Drop> Executor<W, AllEvents> {
 }
 
 impl<W: Drop> Executor<W, LastEvents> {
-    /// The last events, as many as the record keeps, in one turn, which writes nothing. Others wait while they are copied.
+    /// The last events, as many as the record keeps, read in one turn, which writes nothing. Other turns wait while they are copied.
     ///
     /// # Errors
     ///
-    /// `AllocError` where memory runs out.
+    /// `AllocError` if out of memory.
     pub fn last_events<R: Wait>(
         &self,
         rt: &R,

@@ -11,7 +11,7 @@ pub struct PickedJob<W> {
     pub(crate) work: W,
 }
 
-/// A job that was run, with what its run gave. There is no other way to get one than `PickedJob::run`.
+/// A job that was run, with what its run returned. Only `PickedJob::run` makes one.
 #[derive(Drop)]
 pub struct RanJob<O> {
     pub(crate) slot: Slot,
@@ -19,14 +19,14 @@ pub struct RanJob<O> {
 }
 
 impl<W> PickedJob<W> {
-    /// The name of its submission.
+    /// The name of the submission that it came with.
     pub fn id(&self) -> Id
         ensures { result ≡ self.now.slot.id }
     {
         self.slot.id
     }
 
-    /// Runs it, in a context of the worker's.
+    /// Runs it, in one of the worker's contexts.
     pub fn run<C>(self, context: &mut C) -> RanJob<W::Output>
     where
         W: Run<C>,

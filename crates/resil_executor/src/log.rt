@@ -2,5 +2,5 @@
 
 use resil_lock::Logged;
 
-/// One entry of a log, with the work of an accepted submission. No value of it is made.
+/// One entry of a log, with the job of an accepted submission. It exists in contracts only.
 pub type Entry<W> = Logged<Option<W>>;

@@ -1,10 +1,10 @@
-//! Why no answer came from a pool.
+//! Why a pool returned no answer.
 
 use crate::state::Refused;
 use resil_call::TellsRefusal;
 use thiserror::Error;
 
-/// Why no answer came from a pool.
+/// Why a pool returned no answer.
 ///
 /// ```
 /// impl From<NoAnswer> for PriceError {
@@ -13,13 +13,13 @@ use thiserror::Error;
 /// ```
 #[derive(Clone, Copy, PartialEq, Eq, Debug, Error)]
 pub enum NoAnswer {
-    /// The pool refused the work, which wasn't run (Resilience4j: `BulkheadFullException`).
+    /// The pool refused the job, and didn't run it (Resilience4j: `BulkheadFullException`).
     #[error("the pool refused the job: {0:?}")]
     Refused(Refused),
-    /// It didn't come in time, or the clock couldn't be read. The work is run all the same.
+    /// The answer didn't come in time, or the clock couldn't be read. The job is run all the same.
     #[error("no answer came in time")]
     OutOfTime,
-    /// The work was let go without a run, as by a pool that is dropped before its end.
+    /// The job was dropped without a run, for example by a pool that is dropped before its end.
     #[error("the job was dropped without a run")]
     Unrun,
 }

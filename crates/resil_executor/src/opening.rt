@@ -8,6 +8,6 @@ use std::snapshot::Snapshot;
 pub struct Opening<H> {
     /// The sizes.
     pub limits: Sizes,
-    /// The record, of no event yet. It has no bytes here: contracts see in it how many events the record keeps.
+    /// The record of no events yet. It has no bytes here: contracts see in it how many events the record keeps.
     pub blank: Snapshot<H>,
 }

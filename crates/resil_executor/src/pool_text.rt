@@ -1,11 +1,11 @@
-//! What a monitoring page reads of a pool: its numbers as a text in Prometheus' form.
+//! What a monitoring page reads about a pool: its numbers as text in the format of Prometheus.
 //!
-//! Names and labels are Resilience4j's where it has them (user guide, Micrometer); the others begin with `resil_`.
+//! Names and labels are those of Resilience4j if it has them (user guide, Micrometer). The others begin with `resil_`.
 
 use crate::state::Numbers;
 use std::fmt;
 
-// A name as the value of a label: a backslash, a quote and a newline have a backslash before them.
+// A name as the value of a label: a backslash, a quote and a newline each get a backslash before them.
 #[derive(Drop)]
 struct Label<'a>(&'a str);
 
@@ -23,7 +23,7 @@ impl fmt::Display for Label<'_> {
     }
 }
 
-/// How a pool stands: its sizes, and its works.
+/// The numbers of a pool, as text: its sizes and its jobs.
 ///
 /// ```
 /// println!(rt; "{}", PoolText { name: "orders", numbers: pool.numbers(&rt).into_value() })?;

@@ -1,12 +1,12 @@
-//! What a short call tells, with the visitor of its own that saw it.
+//! What a short call returns, with the visitor that the call made and that saw it.
 ghost use Rattle.std.specs.Prelude.{◌≡◌};
 
 use crate::executor::Visitor;
 use resil_rule::Record;
 use std::ops::Deref;
 
-/// What a call tells, with the visitor that the call made for itself and that has seen it. It is read as what it tells, and takes no
-/// more memory.
+/// What a call returns, with the visitor that the call made for itself and that has seen it. Reading it gives the value. It takes no
+/// more memory than the value.
 ///
 /// ```
 /// let numbers = pool.numbers(&rt);
@@ -15,9 +15,9 @@ use std::ops::Deref;
 /// ```
 #[derive(Drop)]
 pub struct Seen<T: Drop, W: Drop, H: Record> {
-    /// What is told.
+    /// The value that the call returns.
     pub value: T,
-    /// The visitor. Contracts see in it of which history that is told, and that it was seen in a turn at this pool.
+    /// The visitor. Contracts see in it to which history the value belongs, and that it was seen in a turn at this pool.
     pub visitor: Visitor<W, H>,
 }
 
@@ -32,7 +32,7 @@ impl<T: Drop, W: Drop, H: Record> Deref for Seen<T, W, H> {
 }
 
 impl<T: Drop, W: Drop, H: Record> Seen<T, W, H> {
-    /// What is told, alone.
+    /// The value, without the visitor.
     ///
     /// ```
     /// let page = PoolText { name: "orders", numbers: pool.numbers(&rt).into_value() };

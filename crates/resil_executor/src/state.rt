@@ -1,8 +1,8 @@
-//! What lies under the lock: the rule of admission, what the last turn noted, and the record of the history.
+//! The state under the lock: the rule of admission, what the last turn noted, and the record of the history.
 //!
-//! The record has room for whatever may come of what the rule has: the end of each job that runs, the take and the
-//! end of each that waits, the end of each worker, and the closing. A submission and a resize make room for
-//! more before they change anything, so that only these two can be refused for want of memory.
+//! The record has room for all events that may come of what the rule has: the finish of each job that runs, the
+//! take and the finish of each job that waits, the end of each worker, and the closing. A submission and a resize
+//! make room for more before they change anything, so only these two can be refused because it is out of memory.
 ghost use Rattle.std.specs.Prelude.{◌≡◌, ◌≤◌, ◌⊎◌, ◌+◌, ◌<◌, [], ◌++◌, ◌∷◌, List, true, false, suc, length, slice_get, IfOk, IfErr, IfSome, IfNone, OnOk, OnErr, IsTrue, ◌↔◌, Some, None as nothing};
 ghost use Rattle.std.specs.Bool.{OnTrue, OnFalse};
 ghost use Rattle.resil_rule.specs.History.{is_among};
@@ -25,10 +25,10 @@ use resil_rule::{AdmitError, Event, Id, Origin, Record, Refusal, Reply, Rule, Si
 use resil_task::by_hand::Run;
 use std::alloc::{AllocError, Global};
 
-// Whose submissions those of a pool are. A text of events names callers from 1 on.
+// The caller of all submissions of a pool. In a text of events, callers have names from 1 on.
 const CALLER: u16 = 1;
 
-/// Why a work isn't accepted.
+/// Why a job isn't accepted.
 ///
 /// ```
 /// match pool.submit_job(&rt, &mut visitor, work) {
@@ -39,17 +39,17 @@ const CALLER: u16 = 1;
 /// ```
 #[derive(Clone, Copy, Debug, PartialEq, Eq)]
 pub enum Refused {
-    /// There were 2^64 - 1 submissions, which is as far as they can be counted. Nothing is written.
+    /// There were 2^64 - 1 submissions, and no more can be counted. Nothing is written.
     Spent,
-    /// Memory ran out, for the record of the history or for the answer. Nothing is written.
+    /// Out of memory, for the record of the history or for the answer. Nothing is written.
     Memory,
     /// The pool is closed.
     Closed,
-    /// The queue is full and there are as many workers as the greatest size.
+    /// The queue is full, and there are as many workers as the maximum size.
     Full,
 }
 
-/// How a pool stands between two turns.
+/// The numbers of a pool between two turns.
 ///
 /// ```
 /// let numbers = pool.numbers(&rt);
@@ -59,17 +59,17 @@ pub enum Refused {
 pub struct Numbers {
     /// How many workers there are.
     pub workers: u32,
-    /// How many of them have a job.
+    /// How many workers have a job.
     pub running: usize,
     /// How many jobs wait in the queue.
     pub waiting: usize,
-    /// How many more may wait.
+    /// How many more jobs may wait.
     pub room: usize,
     /// The core size, in workers.
     pub core: u32,
-    /// The greatest size, in workers.
+    /// The maximum size, in workers.
     pub max: u32,
-    /// How many works were accepted.
+    /// How many jobs were accepted.
     pub accepted: u64,
     /// How many submissions were refused, by `Full` or `Closed`.
     pub refused: u64,
@@ -79,7 +79,7 @@ pub struct Numbers {
     pub closed: bool,
 }
 
-/// The rule, what the last turn noted, how many works were accepted, and the record of the history.
+/// The rule, what the last turn noted, how many jobs were accepted, and the record of the history.
 #[derive(Drop)]
 pub struct State<W: Drop, H: Record> {
     rule: Rule<W>,
@@ -88,7 +88,7 @@ pub struct State<W: Drop, H: Record> {
     kept: H,
 }
 
-/// The state in a block of its own. Contracts see the state.
+/// The state in its own block of memory. Contracts see the state.
 pub type BoxedState<W, H> = resil_lock::BoxedState<State<W, H>>;
 
 impl<W: Drop, H: Record> Guarded for State<W, H> {
@@ -108,8 +108,8 @@ impl<W: Drop, H: Record> Guarded for State<W, H> {
 
     ghost HasWork = { λ state. HasWork state.rule };
 
-    /// Whether there is a job to pick that may begin, or the pool is over. While the last jobs of a closed pool run, those
-    /// without a job sleep.
+    /// Whether there is a job to pick that may begin, or the pool is over. While the last jobs of a closed pool run,
+    /// workers without a job sleep.
     fn has_work(&self) -> bool {
         self.is_over()
             || self.rule.unpicked() > 0
@@ -117,7 +117,7 @@ impl<W: Drop, H: Record> Guarded for State<W, H> {
     }
 }
 
-// The pool's own next id. There is none past what 64 bits can count.
+// The pool's own next id. After the largest number of 64 bits there is none.
 fn next_id<W: Drop>(rule: &Rule<W>) -> Option<Id>
     ensures next { IfSome result (λ id. (id.caller ≡ 1) × (id.number ≡ suc (made_by rule.now 1))) }
     ensures counted { IfSome result (λ _. made_by rule.now 1 < 18446744073709551615) }
@@ -130,7 +130,7 @@ fn next_id<W: Drop>(rule: &Rule<W>) -> Option<Id>
     })
 }
 
-// Ends a job that is out, and answers where it was: at the place that is told, or else at the one that a search finds.
+// Ends a job that is out, and returns where it was: at the given place, or else at the place that a search finds.
 fn end_job<W: Drop>(rule: &mut Rule<W>, slot: Slot) -> Slot
     requires out { is_among slot.id (ids_out rule.old.out) ≡ true }
     ensures id { result.id ≡ slot.id }
@@ -149,11 +149,11 @@ fn end_job<W: Drop>(rule: &mut Rule<W>, slot: Slot) -> Slot
 }
 
 impl<W: Drop, H: Record> State<W, H> {
-    /// The state of a pool that was just opened, with a record of no event.
+    /// The state of a pool that was just opened, with a record of no events.
     ///
     /// # Errors
     ///
-    /// `Memory` where memory runs out.
+    /// `Memory` if out of memory.
     pub fn new(alloc: Global, limits: Sizes, blank: H) -> Result<State<W, H>, AdmitError>
         requires blank { H.IsRecordOf [] blank }
         ensures opened { IfOk result (λ s. (s.rule ≡ opened limits 2) × (s.last ≡ nothing) × (s.accepted ≡ 0)) }
@@ -173,8 +173,8 @@ impl<W: Drop, H: Record> State<W, H> {
         })
     }
 
-    // Whether no job is taken from the queue, since as many run as the greatest size says now. A job with a worker of its own was let
-    // in under the sizes of its submission.
+    // Whether no job is taken from the queue because as many run as the current maximum size. A job with its own worker was let in
+    // under the sizes at its submission.
     fn holds_back(&self) -> bool
         ensures held { OnTrue result (self.now.rule.max ≤ busy self.now.rule) }
         ensures free { OnFalse result (MayBegin self.now.rule) }
@@ -182,7 +182,7 @@ impl<W: Drop, H: Record> State<W, H> {
         self.rule.unpicked() == 0 && self.rule.running() >= self.rule.max() as usize
     }
 
-    // Makes room for so many events beside those that are owed.
+    // Makes room for this many events besides those that are owed.
     fn make_room(&mut self, events: usize) -> Result<(), AllocError>
         requires few { events ≤ 3 }
         requires owed { H.HasRoom (owed self.old.rule) self.old.kept }
@@ -227,11 +227,11 @@ impl<W: Drop, H: Record> State<W, H> {
         }
     }
 
-    /// A turn that submits work under the pool's own next number.
+    /// A turn that submits a job under the pool's own next number.
     ///
     /// # Errors
     ///
-    /// In this order, with the work handed back: `Spent`, `Memory`, `Closed`, `Full`.
+    /// In this order, each with the job handed back: `Spent`, `Memory`, `Closed`, `Full`.
     pub fn submit(&mut self, work: W) -> Result<(Id, Reply), (Refused, W)>
         requires known { 1 < length self.old.rule.made }
         requires room { H.HasRoom (owed self.old.rule) self.old.kept }
@@ -275,7 +275,7 @@ impl<W: Drop, H: Record> State<W, H> {
         }
     }
 
-    /// A turn that looks for a job. Where there is none, or none may begin since a resize, an idle worker may end.
+    /// A turn that polls for a job. If there is none, or none may begin after a resize, an idle worker may end.
     pub fn look(&mut self, timed_out: bool) -> Look<PickedJob<W>>
         requires room { H.HasRoom (owed self.old.rule) self.old.kept }
         ensures found { OnFound result (λ picked. Picks self.old.rule picked.slot.id picked.work self.new.rule self.new.last) }
@@ -318,7 +318,7 @@ impl<W: Drop, H: Record> State<W, H> {
         })
     }
 
-    // What a turn does that finds no job: an idle worker may end.
+    // The rest of a turn that finds no job: an idle worker may end.
     fn rest(&mut self, timed_out: bool)
         requires room { H.HasRoom (owed self.old.rule) self.old.kept }
         ensures steps { Steps self.old.rule self.new.last self.new.rule }
@@ -337,14 +337,14 @@ impl<W: Drop, H: Record> State<W, H> {
         }
     }
 
-    // Whether the pool is closed, and nothing waits and nothing runs.
+    // Whether the pool is closed, no job waits and none runs.
     fn is_over(&self) -> bool
         ensures { IsTrue result ↔ IsOverNow self.now.rule }
     {
         self.rule.closed() && self.rule.waiting() == 0 && self.rule.running() == 0
     }
 
-    /// A turn that ends a job that is out, and was run: this is what its run gave.
+    /// A turn that ends a job that is out and was run. `_output` is what its run returned.
     pub fn finish<C>(&mut self, slot: Slot, _output: &W::Output)
     where
         W: Run<C>,
@@ -359,7 +359,7 @@ impl<W: Drop, H: Record> State<W, H> {
         self.note(Event::Finish(slot.id));
     }
 
-    /// A turn that closes the pool, and says whether it was open.
+    /// A turn that closes the pool, and returns whether it was open.
     pub fn close(&mut self) -> bool
         requires room { H.HasRoom (owed self.old.rule) self.old.kept }
         ensures closed { OnTrue result (Writes self.old.rule Event.Close self.new.rule self.new.last) }
@@ -380,7 +380,7 @@ impl<W: Drop, H: Record> State<W, H> {
     ///
     /// # Errors
     ///
-    /// Those of `Rule::resize`, then `Memory` where there is no room in the record and memory runs out, with nothing written.
+    /// The errors of `Rule::resize`, in the same order, then `Memory` if the record has no room and it is out of memory, with nothing written.
     pub fn resize(&mut self, core: u32, max: u32) -> Result<(), AdmitError>
         requires room { H.HasRoom (owed self.old.rule) self.old.kept }
         ensures resized { OnOk result (Writes self.old.rule (Event.Resized core max) self.new.rule self.new.last) }
@@ -399,7 +399,7 @@ impl<W: Drop, H: Record> State<W, H> {
         Ok(())
     }
 
-    /// A turn that reads how the pool stands, and notes nothing.
+    /// A turn that reads the numbers of the pool, and notes nothing.
     pub fn numbers(&mut self) -> Numbers
         requires count { self.old.accepted ≤ made_by self.old.rule 1 }
         requires jobs { unfinished self.old.rule ≤ self.old.accepted }

@@ -1,4 +1,4 @@
-//! Works in a chain: each call submits one and waits for its answer.
+//! Jobs in a chain: each call submits one and waits for its answer.
 
 ghost use Rattle.std.specs.Prelude.{◌≡◌, false, IfOk, IfErr, OnOk};
 ghost use Rattle.std.specs.Duration.{as_nanos};
@@ -20,14 +20,14 @@ use std::sync::Wait;
 use std::time::Duration;
 
 impl<X: Answers, H: Record> Executor<Task<X>, H> {
-    /// Submits a work, in one turn, and waits for its answer so long at most (Resilience4j user guide, Decorators:
-    /// `withThreadPoolBulkhead`). In a closure it is a call, in which each attempt has a work of its own. A work whose answer comes too late
-    /// is run all the same. What the clauses say was seen by a visitor of the call's own; `submit_within_by` takes one.
+    /// Submits a job, in one turn, and waits for its answer for at most `longest` (Resilience4j user guide, Decorators:
+    /// `withThreadPoolBulkhead`). In a closure it is a call, and each attempt submits a job of its own. A job whose answer comes too late is
+    /// run all the same. The call's own visitor saw what the clauses say; `submit_within_by` takes a visitor of yours.
     ///
     /// # Errors
     ///
-    /// In this order: `Refused` where the pool refuses it, with why; `OutOfTime` where nothing came in time, or the clock couldn't be read;
-    /// `Unrun` if the job was dropped without a run.
+    /// In this order: `Refused` if the pool refuses the job, with the reason; `OutOfTime` if no answer came in time or the clock couldn't
+    /// be read; `Unrun` if the job was dropped without a run.
     ///
     /// ```
     /// let ask = || prices.submit_within(&rt, alloc, PriceOf { item: 7 }, longest);
@@ -50,11 +50,11 @@ impl<X: Answers, H: Record> Executor<Task<X>, H> {
         self.submit_within_by(rt, alloc, &mut visitor, work, longest)
     }
 
-    /// The same by a visitor, which has seen the submission then.
+    /// The same with your own visitor, which has then seen the submission.
     ///
     /// # Errors
     ///
-    /// Those of `submit_within`.
+    /// The errors of `submit_within`, in the same order.
     ///
     /// ```
     /// let mut visitor = prices.visitor();
@@ -82,7 +82,7 @@ impl<X: Answers, H: Record> Executor<Task<X>, H> {
         }
     }
 
-    // Submits a work whose answer is then waited for so long at most.
+    // Submits a job and returns what waits for its answer, for at most `longest`.
     fn submit_awaited<R: Wait>(
         &self,
         rt: &R,
@@ -106,7 +106,7 @@ impl<X: Answers, H: Record> Executor<Task<X>, H> {
     }
 }
 
-// What an answer is waited for with, and how long at most.
+// What waits for an answer, and for how long at most.
 #[derive(Drop)]
 struct Awaited<X: Answers> {
     pending: Pending<X>,

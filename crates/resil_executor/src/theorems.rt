@@ -1,4 +1,4 @@
-//! What the clauses of a worker rule out, whatever the bodies: laws that functions which do nothing carry.
+//! What the clauses of a worker rule out for any bodies: laws, carried by functions that do nothing.
 
 ghost use Rattle.std.specs.Prelude.{Option};
 ghost use Rattle.atomic_table.specs.Table.{State as TableState};
@@ -16,8 +16,8 @@ use resil_lock::{LockRule, View};
 use resil_rule::Record;
 use resil_task::by_hand::Run;
 
-/// Who picked a job and wrote nothing more hasn't worked, so a body of `Executor::work` that drops a job that it took, or runs it
-/// and never ends it, can't meet `worked`.
+/// A worker that picked a job and wrote nothing more hasn't worked. So a body of `Executor::work` that drops a job that it took,
+/// or runs it and never ends it, can't meet `worked`.
 ///
 /// ```
 /// picked_is_ended::<(), Errand, NoRecord>(); // From here on a proof has PickedIsEnded.
@@ -26,7 +26,7 @@ pub fn picked_is_ended<C, W: Run<C>, H>()
     ensures { PickedIsEnded (Opening H) W.HasRun }
 {}
 
-/// Who picked a job, then ended one, and has worked so, ended the one that it picked.
+/// A worker that picked a job, then ended one, and so has worked, ended the job that it picked.
 ///
 /// ```
 /// ended_was_picked::<(), Errand, NoRecord>(); // From here on a proof has EndedWasPicked.
@@ -35,7 +35,7 @@ pub fn ended_was_picked<C, W: Run<C>, H>()
     ensures { EndedWasPicked (Opening H) W.HasRun }
 {}
 
-/// A pick is nothing that a visitor's seat or the closer's may have written, so no body can lose a job by such a seat.
+/// Neither a visitor's seat nor the closer's may have written a pick, so no body can lose a job by such a seat.
 ///
 /// ```
 /// only_workers_pick::<Errand>(); // From here on a proof has OnlyWorkersPick.
@@ -44,8 +44,8 @@ pub fn only_workers_pick<W>()
     ensures { OnlyWorkersPick W }
 {}
 
-/// A look is a turn: a visitor that is made and has had none meets no clause of a call that looks, such as `Executor::numbers`,
-/// `join_for` and `submit`, so no body of these that doesn't look can meet them either.
+/// A look is a turn. A visitor that was made and has had no turn meets no clause of a call that looks, such as
+/// `Executor::numbers`, `join_for` and `submit`. So no body of these calls that doesn't look can meet the clauses either.
 ///
 /// ```
 /// a_look_is_a_turn::<Errand, NoRecord>(); // From here on a proof has ALookIsATurn.
@@ -54,8 +54,8 @@ pub fn a_look_is_a_turn<W, H>()
     ensures { ALookIsATurn W (Opening H) }
 {}
 
-/// The end of a pool stays. No event that may come after it accepts, starts or ends a job: what is left are refused
-/// submissions, idle ends and resizes.
+/// The end of a pool is final. No event that may come after it accepts, starts or ends a job. Only refused
+/// submissions, idle ends and resizes may still come.
 ///
 /// ```
 /// end_stays(); // From here on a proof has EndStays.
@@ -65,8 +65,8 @@ pub fn end_stays()
     ensures { EndStays }
 {}
 
-/// Numbers tell the end: where a pool is closed, and nothing waits and nothing runs, each accepted job is finished. A
-/// visitor's `numbers` that say so speak of a history that begins with its own submissions.
+/// Numbers show the end: if a pool is closed, no job waits and none runs, then each accepted job is finished. The
+/// numbers that a visitor reads belong to a history that begins with its own submissions.
 ///
 /// ```
 /// nothing_left_is_over(); // From here on a proof has NothingLeftIsOver.
@@ -76,9 +76,9 @@ pub fn nothing_left_is_over()
     ensures { NothingLeftIsOver }
 {}
 
-/// Between any two steps, whichever threads make them: there is one legal log, made up of what the seats wrote, of which
-/// each has seen a prefix. Never more jobs run than the greatest size of the opening says. Each job is picked once at most
-/// and ended once at most, by the one worker's seat that picked it, and these ends are the finishes of the history.
+/// Between any two steps of any threads: there is one legal log, which consists of what the seats wrote, and each seat has
+/// seen a prefix of it. Never more jobs run than the maximum size at the opening. Each job is picked at most once and
+/// ended at most once, by the same worker's seat, and these ends are the finishes of the history.
 ///
 /// ```
 /// holds_of_the_log::<Errand, NoRecord>(); // From here on a proof has HoldsOfTheLog of each such pool.

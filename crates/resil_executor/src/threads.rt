@@ -14,12 +14,12 @@ use std::sync::Wait;
 use std::thread;
 use std::thread::{Promise, PromisedHandle, Scope, Threads};
 
-// After how many empty looks a worker that ends a closed pool would be idle. It doesn't matter, since there is no idling.
+// After how many empty polls a worker that ends a closed pool would be idle. Any number will do, since such a worker never idles.
 const ANY_KEEP_ALIVE: u32 = 1;
 
 impl<W: Drop, H: Record> Executor<W, H> {
-    /// Ends the pool: closes it, and runs on this thread what no worker has run, until all that was accepted is finished. It
-    /// waits for jobs that run elsewhere. The worker that comes back has seen the end, and ended no job that it didn't run.
+    /// Ends the pool: closes it, and runs on this thread the jobs that no worker has run, until all accepted jobs are finished. It waits for jobs
+    /// that run on other threads. The worker that it returns has seen the end, and ended no job that it didn't run.
     ///
     /// ```
     /// let worker = pool.end(&rt, &mut closer, &mut ());
@@ -46,7 +46,7 @@ impl<W: Drop, H: Record> Executor<W, H> {
     }
 }
 
-/// A work that the threads of a pool run, each in a context of its own: the work may go to another thread.
+/// A job that the threads of a pool run, each in its own context. The job may go to another thread.
 ///
 /// ```
 /// let ended = work_while(&rt, &pool, closer, 20, || ask(&rt, &pool)); // `Executor<W>`, where `W: Run<()> + Drop + Send`
@@ -55,11 +55,11 @@ pub trait ThreadWork<C>: Drop + Send + Sized {
     ghost use Rattle.resil_executor.specs.Turn.{HasWorkedBy, SeesOver};
     ghost use Rattle.resil_executor.specs.Seats.{limits_of, IsOf, known_to};
 
-    /// It was run, in a context that a thread had.
+    /// It was run in a context of a thread.
     ghost WasRunThere: { Self → Type 0 };
 
-    /// Works on a thread of its own until the pool is over, as `Executor::work` says. The context is dropped then. The worker
-    /// that comes back has seen the end, and ended no job that it didn't run.
+    /// Works on its own thread until the pool is over, as `Executor::work` does. Then the context is dropped. The worker that
+    /// it returns has seen the end, and ended no job that it didn't run.
     fn work_at<H: Record + Send, R: Wait>(
         rt: &R,
         pool: &Executor<Self, H>,
@@ -95,8 +95,8 @@ impl<C: Drop, W: Run<C> + Drop + Send> ThreadWork<C> for W {
     }
 }
 
-/// What the end of a pool leaves: what the closure answered, the worker that ended the pool and has seen its end, and those of
-/// the threads. All that was accepted is finished then.
+/// What is left of a pool that has ended: what the closure returned, the worker that ended the pool and has seen its end, and
+/// the threads' workers. All accepted jobs are finished by then.
 ///
 /// ```
 /// let ended = work_while(&rt, &pool, closer, 20, || ask(&rt, &pool));
@@ -104,17 +104,17 @@ impl<C: Drop, W: Run<C> + Drop + Send> ThreadWork<C> for W {
 /// ```
 #[derive(Drop)]
 pub struct Ended<T, F, W: Drop, H: Record> {
-    /// The answer; or the closure, where no thread could be started.
+    /// What the closure returned, or the closure itself if no thread could be started.
     pub answer: Result<T, F>,
-    /// The worker of the calling thread. Contracts see in it what the pool's log was at its end.
+    /// The calling thread's worker. Contracts see in it what the pool's log was at its end.
     pub worker: ExecutorWorker<W, H>,
     /// The workers of the threads that were started, one for each. Contracts see in them that each ran what it ended.
     pub workers: Vec<ExecutorWorker<W, H>>,
-    /// What closed the pool. Contracts see in it how many workers were hired.
+    /// The closer of the pool. Contracts see in it how many workers were hired.
     pub closer: ExecutorCloser<W, H>,
 }
 
-/// Who works for a pool while a closure runs, and in which contexts.
+/// What works for a pool while a closure runs: a thread for each context, and the calling thread.
 ///
 /// ```
 /// let workers = Workers { contexts: connections, own: connection, keep_alive: 20 };
@@ -126,16 +126,16 @@ pub struct Workers<C> {
     pub contexts: Vec<C>,
     /// The context of the calling thread, which ends the pool.
     pub own: C,
-    /// After how many empty looks in a row an idle worker of the rule may end, as `Executor::work` says.
+    /// After how many empty polls in a row an idle worker of the rule may end, as for `Executor::work`.
     pub keep_alive: u32,
 }
 
 impl<C: Copy> Workers<C> {
-    /// So many threads that are lent the same, as a reference or several, and the calling thread too.
+    /// `threads` threads and the calling thread, which all lend the same context, such as one or several references.
     ///
     /// # Errors
     ///
-    /// `AllocError` where memory runs out.
+    /// `AllocError` if out of memory.
     ///
     /// ```
     /// let workers = Workers::alike(alloc, &rt, 4, 20)?;
@@ -161,7 +161,7 @@ impl<C: Copy> Workers<C> {
     }
 }
 
-// What the thread of a worker promises of it.
+// What the thread of a worker promises about it.
 #[derive(Drop)]
 struct Leaves<'s, C, W: ThreadWork<C>, H: Record> {
     pool: &'s Executor<W, H>,
@@ -181,7 +181,7 @@ struct Crew<'s, C, W: ThreadWork<C>, H: Record> {
     workers: Vec<ExecutorWorker<W, H>>,
 }
 
-// Room for so many threads and their workers; for none, where memory runs out.
+// Room for `count` threads and their workers, or for none if out of memory.
 fn room_for<'s, C, W: ThreadWork<C>, H: Record>(alloc: Global, count: usize) -> Crew<'s, C, W, H>
     ensures none { (result.threads.items ≡ []) × (result.workers.items ≡ []) }
     ensures room { vec_capacity result.threads ≤ vec_capacity result.workers }
@@ -198,7 +198,7 @@ fn room_for<'s, C, W: ThreadWork<C>, H: Record>(alloc: Global, count: usize) -> 
     }
 }
 
-// Starts a thread for each context, while there is room. One that can't be started is left out, with its context.
+// Starts a thread for each context, while there is room. If a thread can't be started, it is left out with its context.
 fn start_workers<
     's,
     E: 's,
@@ -252,7 +252,7 @@ fn start_workers<
     Crew { threads, workers }
 }
 
-// Waits for the threads, and gives their workers.
+// Waits for the threads, and returns their workers.
 fn join_workers<'s, C, W: ThreadWork<C>, H: Record, R: Threads>(
     rt: &R,
     _pool: &'s Executor<W, H>,
@@ -274,7 +274,7 @@ fn join_workers<'s, C, W: ThreadWork<C>, H: Record, R: Threads>(
     workers
 }
 
-// Calls the closure before the pool is closed: its closer has written nothing since it was handed in.
+// Calls the closure before the pool is closed: its closer has written nothing since it was passed in.
 fn call_unclosed<W: Drop, H: Record, T, F: FnOnce() -> T>(
     _closer: &ExecutorCloser<W, H>,
     _handed_in: Snapshot<ExecutorCloser<W, H>>,
@@ -287,7 +287,7 @@ fn call_unclosed<W: Drop, H: Record, T, F: FnOnce() -> T>(
     user()
 }
 
-// So many threads without a context; none, where memory runs out.
+// `threads` threads without a context, or none if out of memory.
 fn lone_workers(alloc: Global, threads: u32, keep_alive: u32) -> Workers<()>
     ensures few { length result.contexts.items ≤ threads }
 {
@@ -301,11 +301,11 @@ fn lone_workers(alloc: Global, threads: u32, keep_alive: u32) -> Workers<()>
     }
 }
 
-/// Has as many threads work for the pool as its greatest size, while `user` runs on this one. Then it closes the pool, waits
-/// for the threads, and ends it. A thread that can't be started is left out; where none can, or memory runs out for them,
-/// `user` isn't run and comes back. The pool is ended then too. When this call comes back, each accepted work is finished.
+/// Lets as many threads as the maximum size work for the pool, while `user` runs on this thread. Then it closes the pool, waits for the threads,
+/// and ends the pool. If a thread can't be started it is left out. If none can be started, or if it is out of memory for them, `user` isn't run
+/// and is returned. The pool is ended in that case too. When this call returns, each accepted job is finished.
 ///
-/// After `keep_alive` empty looks in a row an idle worker of the rule may end, as `Executor::work` says.
+/// After `keep_alive` empty polls in a row an idle worker of the rule may end, as for `Executor::work`.
 ///
 /// ```
 /// let answer = work_while(&rt, &pool, closer, 20, || ask(&rt, &pool)).answer;
@@ -340,8 +340,8 @@ pub fn work_while<
     work_while_with(rt, pool, closer, workers, user)
 }
 
-/// The same for works that need something of their worker: a thread for each context works for the pool, and lends its context
-/// to each work that it runs. A context is dropped as its thread ends. The pool is ended in the context `own`.
+/// The same for jobs that need something of their worker. For each context a thread works for the pool, and lends its context
+/// to each job that it runs. A context is dropped when its thread ends. The pool is ended in the context `own`.
 pub fn work_while_with<
     C: Drop + Send,
     W: Run<C> + ThreadWork<C>,

@@ -25,12 +25,12 @@ use std::thread;
 use std::time::{Clock, Duration};
 
 impl<W: Drop, H: Record> Executor<W, H> {
-    /// An open pool of these sizes, with a record of no event yet, and what closes it. It takes all its memory here, but
-    /// for the record of all events, which grows by each submission and resize, and the handles of threads (`work_while`).
+    /// An open pool of these sizes, with a record of no events yet, and its closer. It takes all its memory here, except for the record of all
+    /// events, which grows by each submission and resize, and for the handles of threads (`work_while`).
     ///
     /// # Errors
     ///
-    /// `Memory` where memory runs out.
+    /// `Memory` if out of memory.
     pub fn open(
         alloc: Global,
         limits: Sizes,
@@ -60,7 +60,7 @@ impl<W: Drop, H: Record> Executor<W, H> {
         Ok((pool, ExecutorCloser { seat }))
     }
 
-    /// The sizes of the opening.
+    /// The sizes that it was opened with.
     pub fn limits(&self) -> Sizes
         ensures { result ≡ limits_of self.now }
     {
@@ -90,13 +90,13 @@ impl<W: Drop, H: Record> Executor<W, H> {
         }
     }
 
-    /// Submits whatever the pool runs, in one turn, under the pool's own next number, and wakes a worker that sleeps. A
-    /// `WorkPool` has `submit` for works that answer.
+    /// Submits anything that the pool runs, in one turn, under the pool's own next number, and wakes a worker that
+    /// sleeps. A `WorkPool` has `submit`, for jobs that answer.
     ///
     /// # Errors
     ///
-    /// In this order, with the work handed back: `Spent` where no more submissions can be counted, and only there; `Memory`
-    /// where there is no room in the record and memory runs out; `Closed` and `Full` by the rule of admission (`Rule::next_reply`).
+    /// In this order, each with the job handed back: `Spent` if no more submissions can be counted, and only then; `Memory` if the
+    /// record has no room and it is out of memory; `Closed` and `Full` by the rule of admission (`Rule::next_reply`).
     ///
     /// ```
     /// match pool.submit_job(&rt, &mut visitor, work) {
@@ -127,7 +127,7 @@ impl<W: Drop, H: Record> Executor<W, H> {
         answer
     }
 
-    /// Closes the pool, in one turn, and says whether it was open. All workers wake. Work that was accepted is still run.
+    /// Closes the pool, in one turn, and returns whether it was open. All workers wake. Jobs that were accepted are still run.
     pub fn close<R: Wait>(&self, rt: &R, closer: &mut ExecutorCloser<W, H>) -> bool
         requires mine { IsOf self.now closer.old.seat }
         ensures mine { IsOf self.now closer.new.seat }
@@ -142,13 +142,13 @@ impl<W: Drop, H: Record> Executor<W, H> {
         closes
     }
 
-    /// Sets the core size and the greatest size, in workers, from here on, in one turn (ThreadPoolExecutor class documentation, core and
-    /// maximum pool sizes). No worker begins or ends by it: where there are more than the greatest size, those beyond it hold back, and no
-    /// job is taken from the queue while as many run as the greatest size says. Where it grows, a worker that sleeps is woken.
+    /// Sets the core size and the maximum size, in workers, from here on, in one turn (ThreadPoolExecutor class documentation, core and
+    /// maximum pool sizes). It starts and ends no worker. If there are more workers than the maximum size, the surplus holds back: no job
+    /// is taken from the queue while as many run as the maximum size. If the maximum size grows, a worker that sleeps is woken.
     ///
     /// # Errors
     ///
-    /// Those of `Rule::resize`, then `Memory` where there is no room in the record and memory runs out, with nothing written.
+    /// The errors of `Rule::resize`, in the same order, then `Memory` if the record has no room and it is out of memory, with nothing written.
     pub fn resize<R: Wait>(
         &self,
         rt: &R,
@@ -186,10 +186,10 @@ impl<W: Drop, H: Record> Executor<W, H> {
         self.numbers_by(rt, visitor).closed
     }
 
-    /// Waits until all that was accepted is finished, and says whether it is, as its last look saw it: at most so long, or until the
-    /// clock can't be read. It looks each millisecond, and once at least. It closes nothing, writes nothing, and counts works that are
-    /// submitted meanwhile (ExecutorService, `awaitTermination`, of an open pool). The answer comes with the visitor of the call's own that
-    /// saw it; `join_for_by` takes one.
+    /// Waits until all accepted jobs are finished, for at most `duration`, or until the clock can't be read. Returns whether all are
+    /// finished, as the last poll saw it. It polls every millisecond, and at least once. It closes nothing and writes nothing, and jobs
+    /// that are submitted meanwhile count too (ExecutorService, `awaitTermination`, of an open pool). The answer comes with the call's own
+    /// visitor, which saw it; `join_for_by` takes a visitor of yours.
     ///
     /// ```
     /// if !*pool.join_for(&rt, Duration::from_secs(2)) {
@@ -208,7 +208,7 @@ impl<W: Drop, H: Record> Executor<W, H> {
         Seen { value, visitor }
     }
 
-    /// The same by a visitor, which has seen then what the last look saw.
+    /// The same with your own visitor, which has then seen what the last poll saw.
     ///
     /// ```
     /// let joined = pool.join_for_by(&rt, &mut visitor, Duration::from_secs(2));
@@ -236,7 +236,7 @@ impl<W: Drop, H: Record> Executor<W, H> {
         }
     }
 
-    // Looks each millisecond until all is finished, or the time, which began just now, is over.
+    // Polls every millisecond until all jobs are finished, or the time, which has just begun, is over.
     fn join_until<R: Clock + Reads + Wait>(
         &self,
         rt: &R,
@@ -263,7 +263,7 @@ impl<W: Drop, H: Record> Executor<W, H> {
         unreachable!()
     }
 
-    // Whether all that was accepted is finished, as one look sees it.
+    // Whether all accepted jobs are finished, as one poll sees it.
     fn have_all_finished<R: Wait>(&self, rt: &R, visitor: &mut Visitor<W, H>) -> bool
         requires mine { IsOf self.now visitor.old.seat }
         ensures mine { IsOf self.now visitor.new.seat }
@@ -275,8 +275,8 @@ impl<W: Drop, H: Record> Executor<W, H> {
         numbers.running == 0 && numbers.waiting == 0
     }
 
-    /// How the pool stands, in one turn, which writes nothing. The numbers come with the visitor of the call's own that saw them;
-    /// `numbers_by` takes one.
+    /// The numbers of the pool, read in one turn, which writes nothing. They come with the call's own visitor, which saw them;
+    /// `numbers_by` takes a visitor of yours.
     pub fn numbers<R: Wait>(&self, rt: &R) -> Seen<Numbers, W, H>
         ensures mine { IsOf self.now result.visitor.seat }
         ensures sees { SeesMore (limits_of self.now) (new_visitor self.now) (known_to result.visitor.seat) }
@@ -287,7 +287,7 @@ impl<W: Drop, H: Record> Executor<W, H> {
         Seen { value, visitor }
     }
 
-    /// The same by a visitor, which has seen then what the numbers are of.
+    /// The same with your own visitor, which has then seen the history that the numbers belong to.
     ///
     /// ```
     /// let numbers = pool.numbers_by(&rt, &mut visitor);

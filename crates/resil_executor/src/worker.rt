@@ -1,7 +1,7 @@
-//! Working: what a worker does from its first look for a job to its end.
+//! What a worker does from its first poll for a job to its end.
 //!
-//! A worker looks for a job in one turn, runs it outside of any turn, and ends it in a turn of its own. It never holds the
-//! lock while it runs a job. The loop is the lock's.
+//! A worker polls for a job in one turn, runs it outside of any turn, and ends it in another turn. It never holds the lock
+//! while it runs a job. The loop is that of `resil_lock`.
 ghost use Rattle.std.specs.Prelude.{◌≡◌};
 ghost use Rattle.resil_rule.specs.declared.event.Event.TheVariants.{Finish};
 ghost use Rattle.resil_lock.specs.Work.{OnFound, OnNothing, OnOver};
@@ -17,8 +17,8 @@ use resil_task::by_hand::Run;
 use std::sync::Wait;
 
 impl<W: Drop, H: Record> Executor<W, H> {
-    /// Looks for a job, in one turn. Where there is none, or as many run as the greatest size says since a resize, an idle worker may
-    /// end: where the pool is closed, or where this one is `timed_out` and there are more workers than the core size.
+    /// Polls for a job, in one turn. If there is none, or as many run as the maximum size after a resize, an idle worker may end: if
+    /// the pool is closed, or if this worker is `timed_out` and there are more workers than the core size.
     ///
     /// ```
     /// if let Look::Found(picked) = pool.look(&rt, &mut worker, false) {
@@ -44,8 +44,8 @@ impl<W: Drop, H: Record> Executor<W, H> {
         look
     }
 
-    /// Ends a job that this worker picked and ran, in one turn, and gives what its run gave. It can't fail. What it is ended
-    /// with came of a run of the very work that was accepted under its id.
+    /// Ends a job that this worker picked and ran, in one turn, and returns what its run returned. It can't fail. The output
+    /// comes from a run of the very job that was accepted under its id.
     pub fn finish<C, R: Wait>(
         &self,
         rt: &R,
@@ -68,7 +68,7 @@ impl<W: Drop, H: Record> Executor<W, H> {
         output
     }
 
-    /// Looks for a job, runs the one that it finds in the worker's context, and ends it.
+    /// Polls for a job, runs the one that it finds in the worker's context, and ends it.
     ///
     /// ```
     /// let mut looks = Looks::new(20);
@@ -102,12 +102,11 @@ impl<W: Drop, H: Record> Executor<W, H> {
         }
     }
 
-    /// Works until the pool is over: it is closed, and all that it accepted is finished. So the end of one worker is the end
-    /// of all, and a worker waits for the last job that runs. It runs jobs in the context that it is lent.
+    /// Works until the pool is over: it is closed, and all jobs that it accepted are finished. So when one worker ends, all
+    /// do, and each waits for the last job that runs. It runs jobs in the context that it is lent.
     ///
-    /// While there is no job it sleeps, 1 ms at first and 64 ms at most between two looks. After `keep_alive` empty looks in a
-    /// row an idle worker of the rule may end (ThreadPoolExecutor class documentation, keep-alive times); the thread looks
-    /// on.
+    /// While there is no job it sleeps between two polls, for 1 ms at first and for at most 64 ms. After `keep_alive` empty polls in a row an idle
+    /// worker of the rule may end (ThreadPoolExecutor class documentation, keep-alive times); the thread goes on polling.
     ///
     /// ```
     /// let mut worker = pool.hire(&mut closer);
@@ -137,7 +136,7 @@ impl<W: Drop, H: Record> Executor<W, H> {
     }
 }
 
-// A worker at work: its pool, its seat there, and the context that its jobs are run in.
+// A running worker: its pool, its seat there, and the context in which its jobs are run.
 #[derive(Drop)]
 struct AtWork<'a, W: Drop, H: Record, C> {
     pool: &'a Executor<W, H>,

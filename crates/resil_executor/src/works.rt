@@ -1,4 +1,4 @@
-//! Works that answer: submitted, and waited for, in one call each.
+//! Jobs that answer: one call submits a job, and one waits for its answer.
 ghost use Rattle.std.specs.Prelude.{◌≡◌, IfOk, IfErr};
 ghost use Rattle.resil_rule.specs.declared.event.Reply.{Reply as AReply};
 ghost use Rattle.resil_executor.specs.Turn.{SeesAccepted, SeesRefusal};
@@ -13,8 +13,8 @@ use resil_task::{Answers, Pending};
 use std::alloc::Global;
 use std::sync::Wait;
 
-/// A pool of threads for works that answer, a `Work` or a `WorkAt` each, which threads share by `&`. `H` is the record of
-/// its history, as `Executor` says.
+/// A pool of threads for jobs that answer, each a `Work` or a `WorkAt`. Threads share it by `&`. `H` is the record of its
+/// history, as for `Executor`.
 ///
 /// ```
 /// let (prices, closer) = WorkPool::open(alloc, Sizes::new(2, 4, 100)?, NoRecord)?;
@@ -26,13 +26,12 @@ use std::sync::Wait;
 pub type WorkPool<W, H = NoRecord> = Executor<Task<W>, H>;
 
 impl<X: Answers, H: Record> Executor<Task<X>, H> {
-    /// Submits a work, in one turn, and gives its number and what its answer is waited for with (Resilience4j user guide,
-    /// ThreadPoolBulkhead: `executeSupplier`). The number comes with the visitor of the call's own that saw it, and so does a refusal;
-    /// `submit_by` takes one.
+    /// Submits a job, in one turn. Returns its number and the `Pending` that waits for its answer (Resilience4j user guide, ThreadPoolBulkhead:
+    /// `executeSupplier`). The number, or a refusal, comes with the call's own visitor, which saw it; `submit_by` takes a visitor of yours.
     ///
     /// # Errors
     ///
-    /// In this order, with the work handed back: `Memory` where memory runs out for the answer, and those of `submit_job`.
+    /// In this order, each with the job handed back: `Memory` if out of memory for the answer, and then the errors of `submit_job`.
     ///
     /// ```
     /// match prices.submit(&rt, alloc, PriceOf { item: 7 }) {
@@ -62,11 +61,11 @@ impl<X: Answers, H: Record> Executor<Task<X>, H> {
         }
     }
 
-    /// The same by a visitor, which has seen the submission then: only a turn at this pool can have shown it.
+    /// The same with your own visitor, which has then seen the submission: only a turn at this pool can have shown it.
     ///
     /// # Errors
     ///
-    /// Those of `submit`.
+    /// The errors of `submit`, in the same order.
     ///
     /// ```
     /// let mut visitor = prices.visitor();

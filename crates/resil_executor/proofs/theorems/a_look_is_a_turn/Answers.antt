@@ -1,4 +1,4 @@
--- The law: a number isn't below itself.
+-- The law: no number is less than itself.
 use Rattle.std.proofs.Common.{arith}
 use Rattle.resil_executor.proofs.theorems.a_look_is_a_turn.Goals as goal
 

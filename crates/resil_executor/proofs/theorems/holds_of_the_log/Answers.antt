@@ -1,4 +1,4 @@
--- What holds of any lock between any two steps gives each part of the law.
+-- Each part of the law follows from what holds of any lock between any two steps.
 use Rattle.resil_lock.proofs.BetweenSteps.{between-steps}
 use Rattle.resil_executor.specs.Log.{MayHaveWritten}
 use Rattle.resil_executor.proofs.OneLogLaws.{one-log}

@@ -1,4 +1,4 @@
--- A worker for each thread so far, which has left the pool.
+-- One worker, which has left the pool, for each thread so far.
 use Rattle.std.proofs.Common.{◌≡◌, ◌+◌, length, vec_capacity}
 use Rattle.std.specs.Prelude.{All}
 use Rattle.std.specs.Vec.Iter.{into_iter_items, into_iter_len}

@@ -1,4 +1,4 @@
--- The closer has written nothing and hired a worker for each context so far at most, and each thread was promised for the pool.
+-- The closer has written nothing and hired at most one worker for each context so far, and each thread made its promise about this pool.
 use Rattle.std.proofs.Common.{◌≡◌, ◌≤◌, ◌+◌, length, vec_capacity}
 use Rattle.std.specs.Prelude.{All}
 use Rattle.std.specs.Vec.Iter.{into_iter_items}

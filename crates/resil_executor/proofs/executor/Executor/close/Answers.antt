@@ -1,4 +1,4 @@
--- What the turn leaves and tells.
+-- What the turn leaves, and what is known after it.
 use Rattle.std.proofs.Common.{◌∙◌, rules}
 use Rattle.std.proofs.lemmas.Bool.{OnTrue_at, OnTrue_from, OnFalse_at, OnFalse_from}
 use Rattle.resil_rule.specs.declared.event.Event.TheVariants as event

@@ -1,4 +1,4 @@
--- What the turn leaves and tells.
+-- What the turn leaves, and what is known after it.
 use Rattle.std.proofs.Common.{◌∙◌, subst, sym}
 use Rattle.resil_rule.specs.declared.event.Event.TheVariants as event
 use Rattle.resil_executor.specs.Turn.{IsDue}

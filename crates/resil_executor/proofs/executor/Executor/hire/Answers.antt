@@ -1,4 +1,4 @@
--- What the closer is after it has made a seat.
+-- The closer after it has made a seat.
 use Rattle.std.proofs.Common.{ap}
 use Rattle.resil_executor.proofs.executor.Executor.hire.Goals as goal
 

@@ -1,4 +1,4 @@
--- A look in vain is one refusal more.
+-- A poll in vain is one more refusal.
 use Rattle.std.proofs.Common.{arith, rules, ◌∙◌}
 use Rattle.resil_clock.proofs.Waits.{refused_more}
 use Rattle.resil_executor.specs.Joining.{IsLookInVain}

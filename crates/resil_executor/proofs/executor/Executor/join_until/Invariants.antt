@@ -1,4 +1,4 @@
--- The visitor stays one of this pool; each of its looks was in vain, and by a reading of its own some of the time was left after it.
+-- The visitor still belongs to this pool. Each of its polls was in vain, and after each some of the time was left, by a reading of its own.
 use Rattle.std.proofs.Common.{◌≡◌, ◌≤◌}
 use mathlib.Core.List.{IsPrefix}
 use Rattle.std.specs.Duration.{as_nanos}

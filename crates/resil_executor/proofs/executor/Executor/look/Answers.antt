@@ -1,4 +1,4 @@
--- What the turn leaves and tells.
+-- What the turn leaves, and what is known after it.
 use Rattle.std.proofs.Common.{◌∙◌, rules}
 use Rattle.resil_executor.proofs.SeatLaws as seats
 use Rattle.resil_executor.proofs.executor.Executor.look.Goals as goal

@@ -1,4 +1,4 @@
--- What the turn leaves and tells.
+-- What the turn leaves, and what is known after it.
 use Rattle.std.proofs.Common.{◌∙◌, arith, rules}
 use Rattle.resil_executor.proofs.KeptLaws.{keeps-quiet}
 use Rattle.resil_executor.proofs.SeatLaws as seats

@@ -1,4 +1,4 @@
--- What the turn leaves and tells.
+-- What the turn leaves, and what is known after it.
 use Rattle.std.proofs.Common.{◌∙◌, ◌+◌, rules}
 use Rattle.std.proofs.lemmas.Result.{IfOk-weaker, IfErr-weaker}
 use Rattle.resil_rule.specs.RuleView.{owed}

@@ -1,4 +1,4 @@
--- What the rounds leave is what the worker sees once the pool is its caller's again.
+-- What the worker sees when its caller has the pool again is what the rounds left.
 use Rattle.std.proofs.Common.{rules, sym}
 use Rattle.resil_executor.proofs.WorkLaws.{gone-in_all}
 use Rattle.resil_executor.proofs.executor.Executor.work.Goals as goal

@@ -1,4 +1,4 @@
--- A job that was found was run and ended; else there is nothing to tell.
+-- A job that was found was run and ended. If none was found, there is nothing to show.
 use Rattle.std.proofs.Common.{ap}
 use Rattle.resil_executor.specs.Turn.{WasRun}
 use Rattle.resil_executor.proofs.WorkLaws.{ran-works, rested-works}

@@ -1,4 +1,4 @@
--- A look that finds no job.
+-- A poll that finds no job.
 use Rattle.std.proofs.Common.{subst}
 use Rattle.resil_executor.specs.Turn.{Steps}
 use Rattle.resil_executor.proofs.state.State.look.Goals as goal
