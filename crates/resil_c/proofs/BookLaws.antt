@@ -22,11 +22,11 @@ use Rattle.resil_rule.proofs.SlotLaws.{put-length, clear-length, none-out}
 use Rattle.resil_rule.proofs.UnpickedLaws.{filtered-same, filtered-more}
 use Rattle.resil_c.specs.Book.{BookView, in_64_bits, is_refusal, refusals, IsBookOf, Follows, StaysAt, IsSubmitted, IsPicked, AreCountsOf, opened_book, counts_of}
 
--- The last events are those of before with one more, whatever the history.
+-- The last events are those from before and one more, for any history.
 abbrev pub Writes : LastView → Event → LastView → Type 0
 Writes before event after = (history : List Event) → IsLastOf history before → IsLastOf (history ++ event ∷ []) after
 
--- a count that stops, with one more or with none
+-- a count that stops, with one or none added
 count-more : (more : Bool) (was n m : ℕ) → was ≡ in_64_bits n → m ≡ n + cond more 1 0 → cond more (in_64_bits (was + 1)) was ≡ in_64_bits m
 count-more true was n m is one = omega (arith, is, one)
 count-more false was n m is none = omega (arith, is, none)
@@ -56,7 +56,7 @@ refusals-more h e =
 abbrev pub unfinished_in : RuleView ℕ → ℕ
 unfinished_in v = busy v + length v.waiting
 
--- a step of a book is one of its rule, if what it counts fits the event
+-- a step of a book is a step of its rule, if what the book counts fits the event
 pub follow : (b c : BookView) (e : Event) → RuleFollows b.rule e c.rule → Writes b.last e c.last
     → c.refused ≡ cond (is_refusal e) (in_64_bits (b.refused + 1)) b.refused
     → c.finished ≡ cond (has (finished_id e)) (in_64_bits (b.finished + 1)) b.finished
@@ -76,7 +76,7 @@ follow b c e rule last refused finishes jobs h is =
       },
     )
 
--- an accepted submission is one job more
+-- an accepted submission adds one job
 accepts : (v : RuleView ℕ) (id : Id) (work : ℕ) (reply : Reply) → unfinished_in (with_submission v id work reply) ≡ unfinished_in v + cond (has (accepted_id (Submit id reply))) 1 0
 accepts v id work Core = omega (arith, length-append v.unpicked ((id, work) ∷ []))
 accepts v id work Queued = omega (arith, length-append v.waiting ((id, work) ∷ []))
@@ -84,7 +84,7 @@ accepts v id work Extra = omega (arith, length-append v.unpicked ((id, work) ∷
 accepts v id work Full = omega arith
 accepts v id work Closed = omega arith
 
--- an event that is of no submission and no finish, and leaves each job what it was
+-- an event that is neither a submission nor a finish, and leaves each job in its state
 pub quiet-follow : (v w : RuleView ℕ) (l m : LastView) (refused finishes : ℕ) (e : Event) → is_refusal e ≡ false → finished_id e ≡ None → accepted_id e ≡ None
     → unfinished_in w ≡ unfinished_in v → RuleFollows v e w → Writes l e m
     → Follows (record { rule = v; last = l; refused = refused; finished = finishes }) e (record { rule = w; last = m; refused = refused; finished = finishes })
@@ -120,13 +120,13 @@ picked-queue v w l m refused finishes origin slot work is free none front rule s
     subst (λ (o : Origin). IsPicked o slot work (record { rule = v; last = l; refused = refused; finished = finishes }) (record { rule = w; last = m; refused = refused; finished = finishes }))
     (sym is) (free, none, front, rule, quiet-follow v w l m refused finishes (Take slot.id) refl refl refl (omega (arith, more, fewer, jobs)) step last)
 
--- a place that has something is one of them
+-- an index at which the places have an item is one of theirs
 pub below : (places : List (Option Id)) (i : ℕ) (o : Option Id) → slice_get places i ≡ Some o → i < length places
 below [] i o there = absurd (cc there)
 below (p ∷ places) zero o there = omega arith
 below (p ∷ places) (suc i) o there = let rest = below places i o there in omega (arith, rest)
 
--- a pick of a job with a worker of its own
+-- a pick of a job with its own worker
 pub pick-stays : (b : BookView) (slot : Slot) (work : ℕ) → slice_get b.rule.out slot.place ≡ Some None → slice_get b.rule.unpicked 0 ≡ Some (slot.id, work)
     → RuleStaysAt b.rule (with_pick b.rule slot) → StaysAt b (record b { rule = with_pick b.rule slot })
 pick-stays b slot work free front stays h is =
@@ -153,7 +153,7 @@ opens sizes callers kept state last =
       accepted_are = omega (arith, none);
     }
 
--- the numbers of a book are those of each history that it may stand for
+-- the numbers of a book belong to each history that it may stand for
 pub counts : (b : BookView) (h : List Event) → IsBookOf h b → AreCountsOf b.rule.limits h (counts_of b)
 counts b h is = record {
   accepted_are = sum (busy b.rule) (length b.rule.waiting) (length (finished h)) (length (accepted h)) b.finished (2 ^ 64 - 1) is.finished_are is.accepted_are;

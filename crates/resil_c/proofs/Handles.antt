@@ -1,4 +1,4 @@
--- What a handle owns may go to another thread where the value may: any thread may free its block.
+-- What a handle owns may go to another thread if the value may: any thread may free its block.
 use mir.Raw.{raw}
 use base.Fraction.{full_share}
 use base.Shift.{Keyless}

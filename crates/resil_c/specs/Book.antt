@@ -1,4 +1,4 @@
--- What contracts see of a pool for C: its book. Which histories it may stand for, what each call does to it, and its numbers.
+-- What contracts see of a pool for C, which is its book: which histories it may stand for, what each call does to it, and its numbers.
 use Rattle.std.specs.Prelude.{ℕ, ◌≡◌, ◌≤◌, ◌+◌, ◌-◌, ◌^◌, ◌==◌, ◌&&◌, ◌++◌, ◌∷◌, [], not, suc, min, Bool, List, Some, None, Result, Ok, Err, length, filter, slice_get, nat_lt, if◌then◌else◌}
 use Rattle.resil_rule.specs.Limits.{Sizes, IsQueue}
 use Rattle.resil_rule.specs.Sizes.{AreSizes, IsWideCore, IsWideMax}
@@ -21,14 +21,14 @@ use Rattle.resil_c.specs.declared.pool.plain_data.PoolCounts.{PoolCounts}
 use Rattle.resil_c.specs.declared.pool.plain_data.OpenError.{OpenError}
 use Rattle.resil_c.specs.declared.pool.plain_data.OpenError.TheVariants as opening
 
--- what the rule keeps over the works of the callers; the last events; how many submissions were refused, and how many jobs are finished
+-- what the rule keeps over the callers' jobs; the last events; how many submissions were refused, and how many jobs are finished
 pub record BookView : Type 0 where
   pub rule : RuleView ℕ
   pub last : LastView
   pub refused : ℕ
   pub finished : ℕ
 
--- how far 64 bits count: up to their greatest number, which then stands for more
+-- how far 64 bits count: up to their largest number, which then also means more
 abbrev pub in_64_bits : ℕ → ℕ
 in_64_bits count = min count (2 ^ 64 - 1)
 
@@ -41,8 +41,8 @@ is_refusal _ = Bool.false
 abbrev pub refusals : List Event → List Event
 refusals history = filter is_refusal history
 
--- The book may stand for the history: its rule does, its last events are those of the history, and its counts are as far as 64 bits
--- count. Each accepted job runs, waits or is finished.
+-- The book may stand for the history: its rule does, its last events are the last of the history, and its counts are right as far
+-- as 64 bits count. Each accepted job runs, waits or is finished.
 pub record IsBookOf (history : List Event) (b : BookView) : Type 0 where
   pub state : IsStateOf history b.rule
   pub last : IsLastOf history b.last
@@ -50,7 +50,7 @@ pub record IsBookOf (history : List Event) (b : BookView) : Type 0 where
   pub finished_are : b.finished ≡ in_64_bits (length (finished history))
   pub accepted_are : length (accepted history) ≡ busy b.rule + length b.rule.waiting + length (finished history)
 
--- One event further: it may follow each history that the book stood for, and the book stands for that history with it.
+-- One more event: it may follow each history that the book stood for, and the book stands for that history with it.
 abbrev pub Follows : BookView → Event → BookView → Type 0
 Follows before event after =
     (history : List Event) → IsBookOf history before → IsAllowed before.rule.limits history event × IsBookOf (history ++ event ∷ []) after
@@ -59,11 +59,11 @@ Follows before event after =
 abbrev pub StaysAt : BookView → BookView → Type 0
 StaysAt before after = (history : List Event) → IsBookOf history before → IsBookOf history after
 
--- so many callers may submit: 1 to 65,535
+-- this many callers may submit: 1 to 65,535
 abbrev pub AreCallers : ℕ → Type 0
 AreCallers callers = (1 ≤ callers) × (callers ≤ 65535)
 
--- a book that was just made, for the callers from 1 on and so many of the last events
+-- a book that was just made, for the callers from 1 on and this many of the last events
 abbrev pub opened_book : Sizes → ℕ → ℕ → BookView
 opened_book sizes callers kept = record {
   rule = opened sizes (callers + 1);
@@ -72,7 +72,7 @@ opened_book sizes callers kept = record {
   finished = 0;
 }
 
--- why a book isn't made: the first range that is broken, or memory where none is
+-- why a book isn't made: the first range that is broken, or out of memory if none is
 abbrev pub IsOpenRefusal : Sizes → ℕ → OpenError → Type 0
 IsOpenRefusal sizes callers opening.CoreRange = ¬ IsWideCore sizes.core
 IsOpenRefusal sizes callers opening.MaxRange = IsWideCore sizes.core × ¬ IsWideMax sizes.core sizes.max
@@ -80,11 +80,11 @@ IsOpenRefusal sizes callers opening.QueueRange = IsWideCore sizes.core × IsWide
 IsOpenRefusal sizes callers opening.CallersRange = AreSizes sizes × ¬ AreCallers callers
 IsOpenRefusal sizes callers opening.Memory = AreSizes sizes × AreCallers callers
 
--- whether the number is that of a caller: they are counted from 1
+-- whether a caller has this number: callers are counted from 1
 abbrev pub has_caller : BookView → ℕ → Bool
 has_caller b caller = nat_lt 0 caller && nat_lt caller (length b.rule.made)
 
--- the answer of the rule, as an acceptance or a refusal
+-- the reply of the rule, as an acceptance or a refusal
 abbrev pub answer_by_rule : Reply → Result Reply Refusal
 answer_by_rule reply.Core = Ok reply.Core
 answer_by_rule reply.Queued = Ok reply.Queued
@@ -103,8 +103,8 @@ answer_to b id =
 abbrev pub IsSubmitted : Id → ℕ → BookView → BookView → Type 0
 IsSubmitted id work b c = (c.rule ≡ with_submission b.rule id work (next_reply b.rule)) × Follows b (Submit id (next_reply b.rule)) c
 
--- the id of a caller's next submission: one more than it has made. Past what 64 bits count there is none: this is the last one then,
--- which is answered as a wrong number.
+-- the id of a caller's next submission: one more than it has made. After the largest number of 64 bits there is none. The id is then
+-- that of the last submission, and is answered as a wrong number.
 abbrev pub next_id : BookView → ℕ → Id
 next_id b caller = record { caller = caller; number = in_64_bits (made_by b.rule caller + 1) }
 
@@ -112,8 +112,8 @@ next_id b caller = record { caller = caller; number = in_64_bits (made_by b.rule
 abbrev pub IsNextSubmitted : ℕ → ℕ → BookView → BookView → Type 0
 IsNextSubmitted caller work b c = IsSubmitted (next_id b caller) work b c
 
--- A job was picked, and has a place that was free: the oldest one with a worker of its own that wasn't picked yet, without an event;
--- where there is none, the one at the front of the queue, which is taken.
+-- A job was picked and has a place that was free. It is the oldest job with its own worker that wasn't picked yet, which adds no
+-- event; if there is none, it is the job at the front of the queue, which is taken.
 abbrev pub IsPicked : Origin → Slot → ℕ → BookView → BookView → Type 0
 IsPicked OwnStart slot work b c = (slice_get b.rule.out slot.place ≡ Some None) × (slice_get b.rule.unpicked 0 ≡ Some (slot.id, work))
     × (c ≡ record b { rule = with_pick b.rule slot }) × StaysAt b c
@@ -136,7 +136,7 @@ counts_of b = record {
   closed = if b.rule.closed then 1 else 0;
 }
 
--- The numbers are those of a history: each is its count, as far as its bits count.
+-- The numbers belong to a history: each is its count, as far as the number's bits count.
 pub record AreCountsOf (limits : Sizes) (history : List Event) (n : PoolCounts) : Type 0 where
   pub accepted_are : n.accepted ≡ in_64_bits (length (accepted history))
   pub refused_are : n.refused ≡ in_64_bits (length (refusals history))

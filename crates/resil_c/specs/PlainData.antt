@@ -1,4 +1,4 @@
--- Answers, jobs and events as numbers.
+-- Replies, jobs and events as numbers.
 use Rattle.std.specs.Prelude.{ℕ, Result, Ok, Err}
 use Rattle.resil_rule.specs.declared.slots.Slot.{Slot}
 use Rattle.resil_rule.specs.declared.rule.Origin.{Origin}
@@ -16,7 +16,7 @@ use Rattle.resil_c.specs.declared.pool.plain_data.OpenError.TheVariants as openi
 use Rattle.resil_c.specs.declared.pool.plain_data.PoolJob.{PoolJob}
 use Rattle.resil_c.specs.declared.pool.plain_data.PoolEvent.{PoolEvent}
 
--- why a pool isn't made, by what the rule says of its sizes and of memory
+-- why a pool isn't made, by what the rule says about its sizes and about memory
 abbrev pub from_rule : AdmitError → OpenError
 from_rule why.CoreOutOfRange = opening.CoreRange
 from_rule why.MaxOutOfRange = opening.MaxRange
@@ -47,7 +47,7 @@ submit_number (Err refused.Closed) = 4
 submit_number (Err refused.WrongNumber) = 5
 submit_number (Err refused.NoSuchCaller) = 6
 
--- where a picked job came from
+-- the origin of a picked job
 abbrev pub origin_number : Origin → ℕ
 origin_number OwnStart = 0
 origin_number Queue = 1
@@ -59,7 +59,7 @@ plain_job slot work = record { work = work; number = slot.id.number; place = slo
 abbrev pub slot_of : PoolJob → Slot
 slot_of job = record { id = record { caller = job.caller; number = job.number }; place = job.place }
 
--- an event; 255 stands where there is no reply, and 0 where there is no job and where there are no sizes
+-- an event; 255 means no reply, and 0 means no job or no sizes
 abbrev pub plain_event : Event → PoolEvent
 plain_event (Submit id reply) = record { number = id.number; caller = id.caller; kind = 0; reply = reply_number reply; core = 0; max = 0 }
 plain_event (Take id) = record { number = id.number; caller = id.caller; kind = 1; reply = 255; core = 0; max = 0 }

@@ -1,4 +1,4 @@
-//! A box on the heap, taken apart into its pointer and its allocator, which is what a handle is made of.
+//! A box on the heap, taken apart into its pointer and its allocator. A handle consists of these.
 //!
 //! Only the functions here and in the two files `handle.rt` touch a pointer.
 ghost use Rattle.std.specs.Prelude.{◌≡◌};
@@ -7,11 +7,11 @@ ghost use Rattle.std_alloc.specs.Box.Ownership.{box_owns};
 use std::alloc::Allocator;
 use std::marker::Model;
 
-// The pointer of a box with its allocator. It owns what the box owned.
+// A box's pointer with its allocator. It owns what the box owned.
 pub(crate) struct BoxParts<T, A: Allocator> {
-    // Where the value lies.
+    // The address of the value.
     pub(crate) at: *mut T,
-    // What frees it.
+    // The allocator that frees it.
     pub(crate) alloc: A,
     // The value.
     pub(crate) ghost value: { T },

@@ -1,4 +1,4 @@
-//! The permits: a thread has a handle to a pass of its own, which lies on the heap together with its permits.
+//! The permits: each thread has a handle to its own pass, which is on the heap together with its permits.
 //!
 //! No call waits for another thread. The header is `include/resil_permit.h`.
 

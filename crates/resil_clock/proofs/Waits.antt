@@ -1,4 +1,4 @@
--- One reading more, and one refusal more.
+-- One more reading, and one more refusal.
 use Rattle.std.proofs.Common.{ℕ, zero, suc, ◌<◌, refl}
 use Rattle.std.specs.Prelude.{Option, Some, ◌-◌}
 use Rattle.std.specs.Time.{instant_nanos}

@@ -5,7 +5,7 @@ use Rattle.std.specs.Time.{instant_nanos}
 use Rattle.std.specs.declared.time.Duration.{Duration}
 use Rattle.std.specs.declared.time.Instant.{Instant}
 
--- what a clock has said, asked after an earlier reading: nothing if it couldn't be read
+-- what a clock has said after an earlier reading, or after none: nothing if it couldn't be read
 abbrev pub Readings : Type 1
 Readings = Option Instant → Option Instant → Type 0
 
@@ -14,7 +14,7 @@ abbrev pub IsOverBy : Instant → ℕ → Option Instant → Type 0
 IsOverBy start longest None = Unit {0}
 IsOverBy start longest (Some now) = longest ≤ instant_nanos now - instant_nanos start
 
--- by what the clock said so much of the longest time since the start is left: nothing if it said nothing, or the time is over
+-- by what the clock said this much of the longest time since the start is left: nothing if the clock said nothing, or the time is over
 abbrev pub IsLeftBy : Instant → ℕ → Option Instant → Option Duration → Type 0
 IsLeftBy start longest said None = IsOverBy start longest said
 IsLeftBy start longest None (Some left) = ⊥

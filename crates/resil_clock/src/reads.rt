@@ -1,4 +1,4 @@
-//! A clock of which it is known what it said, and after which reading.
+//! A clock of which contracts know what it said, and after which reading.
 
 ghost use Rattle.std.specs.Prelude.{Option};
 ghost use Rattle.std.specs.declared.time.Instant.{Instant};
@@ -12,11 +12,11 @@ use std::time::{Clock, Instant};
 /// let later = rt.read(start);
 /// ```
 pub trait Reads {
-    /// Asked after this earlier reading, if there is one, it has said this: nothing if it can't be read. What that means is
-    /// abstract to all code that is generic over the clock.
+    /// After this earlier reading, or after none, the clock has said this: nothing if it can't be read. The meaning of this
+    /// relation is abstract to all code that is generic over the clock.
     ghost HasSaid: { Self → Option Instant → Option Instant → Type 0 } = { λ _ _ _. Unit {0} };
 
-    /// The time now, or nothing if the clock can't be read. The earlier reading is known to contracts alone.
+    /// The time now, or nothing if the clock can't be read. Only contracts see the earlier reading.
     fn read(&self, earlier: Option<Instant>) -> Option<Instant>
         ensures { HasSaid self.now earlier result };
 }

@@ -1,4 +1,4 @@
-//! A time from its start on, and how much of it is left.
+//! A time that has started, and how much of it is left.
 ghost use Rattle.std.specs.Prelude.{Option, Some, None, ◌≡◌, ◌<◌, ◌≤◌, ◌+◌, ◌-◌, IfSome, IfNone};
 ghost use Rattle.std.specs.Duration.{as_nanos};
 ghost use Rattle.std.specs.Time.{instant_nanos};
@@ -8,7 +8,7 @@ ghost use Rattle.resil_clock.specs.Readings.{IsLeftBy};
 use crate::reads::Reads;
 use std::time::{Duration, Instant};
 
-/// A time from its start on, and the last reading of the clock.
+/// A time that has started, and the last reading of the clock.
 ///
 /// ```
 /// let Some(mut time) = TimeLeft::start(&rt, Duration::from_millis(50)) else {
@@ -26,7 +26,7 @@ pub struct TimeLeft {
 }
 
 impl TimeLeft {
-    /// The time that starts now, or nothing if the clock can't be read.
+    /// A time that starts now and lasts `longest`, or nothing if the clock can't be read.
     pub fn start<R: Reads>(clock: &R, longest: Duration) -> Option<TimeLeft>
         ensures longest { IfSome result (λ time. time.longest ≡ longest) }
         ensures last { IfSome result (λ time. time.last ≡ time.start) }
@@ -41,7 +41,7 @@ impl TimeLeft {
         })
     }
 
-    /// How much of it is left by the clock, which is read once, or nothing if the time is over or the clock can't be read.
+    /// How much of it is left by the clock, which is read once. Nothing if the time is over or the clock can't be read.
     pub fn left<R: Reads>(&mut self, clock: &R) -> Option<Duration>
         ensures start { self.new.start ≡ self.old.start }
         ensures longest { self.new.longest ≡ self.old.longest }
@@ -53,7 +53,7 @@ impl TimeLeft {
         self.left_at(now)
     }
 
-    // The same at a reading of the clock: what is spent by then and what is left are the longest together.
+    // The same at a reading of the clock: the time spent by then and the time left add up to the longest time.
     fn left_at(&self, now: Instant) -> Option<Duration>
         ensures some { IfSome result (λ left. 0 < as_nanos left) }
         ensures left { IfSome result (λ left. instant_nanos now - instant_nanos self.now.start + as_nanos left ≡ as_nanos self.now.longest) }

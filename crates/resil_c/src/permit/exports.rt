@@ -1,7 +1,7 @@
-//! What C calls.
+//! The calls for C.
 //!
-//! What C owes: a handle that goes in is empty, or was filled by `new` or `split` and wasn't freed since, and is used
-//! by one call at a time. An empty one is answered by 255, or by 0 where the answer is a number, and nothing is done.
+//! C must ensure that a handle that goes in is empty, or was filled by `new` or `split` and hasn't been freed since, and that only one call
+//! at a time uses it. For an empty handle a call does nothing. It returns 255, or 0 if it returns a number.
 ghost use Rattle.std.specs.Prelude.{◌≡◌, ◌≢◌, ◌+◌, ◌<◌, ◌≤◌, ◌↔◌, ◌⊎◌, [], None as nothing, IfSome, length};
 ghost use Rattle.resil_permit.specs.declared.event.PermitEvent.TheVariants.{Gave, Retired, Raised};
 ghost use Rattle.resil_permit.specs.declared.permits.Attempt.TheVariants.{Taken, Full, Contended};
@@ -18,7 +18,7 @@ use std::alloc::Global;
 
 /// Makes `max` permits, all free, and writes the handle of their first pass to `out`.
 ///
-/// 0: made. 1: out of memory. 2: `max` is above 65,535. After 1 and 2 `out` is as it was.
+/// 0: made. 1: out of memory. 2: `max` is above 65,535. After 1 and 2 `out` is unchanged.
 #[unsafe(no_mangle)]
 pub extern "C" fn resil_permit_new(alloc: Global, max: u32, out: &mut Handle) -> u8
     ensures answers { result ≤ 2 }
@@ -39,10 +39,9 @@ pub extern "C" fn resil_permit_new(alloc: Global, max: u32, out: &mut Handle) ->
     0
 }
 
-/// Writes the handle of a second pass, for another thread, to `out`. It holds nothing, and the one that went in
-/// comes back as it was.
+/// Writes the handle of a second pass, for another thread, to `out`. It holds nothing. The handle that went in comes back unchanged.
 ///
-/// 0: made. 1: out of memory, and `out` is as it was.
+/// 0: made. 1: out of memory, and `out` is unchanged.
 #[unsafe(no_mangle)]
 pub extern "C" fn resil_permit_split(
     alloc: Global,
@@ -78,7 +77,7 @@ pub extern "C" fn resil_permit_split(
 
 /// Tries once to take a permit.
 ///
-/// 0: taken. 1: all permits in use were held. 2: contended, another thread came in between and nothing was done. 255: empty.
+/// 0: taken. 1: all permits in use were held. 2: contended: another thread came in between, and nothing was done. 255: empty.
 #[unsafe(no_mangle)]
 pub extern "C" fn resil_permit_try_once(handle: Handle, back: &mut Handle) -> u8
     ensures answers { (result ≤ 2) ⊎ (result ≡ 255) }
@@ -126,7 +125,7 @@ pub extern "C" fn resil_permit_leave(handle: Handle, back: &mut Handle) -> u8
     if gave { 0 } else { 1 }
 }
 
-/// Retires a permit that the pass holds: the pass keeps it back, and one permit less is in use.
+/// Retires a permit that the pass holds: the pass keeps it back, and one permit fewer is in use.
 ///
 /// 0: retired. 1: the pass holds no permit, and nothing was done. 255: empty.
 #[unsafe(no_mangle)]
@@ -148,7 +147,7 @@ pub extern "C" fn resil_permit_retire(handle: Handle, back: &mut Handle) -> u8
     if kept_back { 0 } else { 1 }
 }
 
-/// Raises a permit that the pass has retired: it is free, and one permit more is in use.
+/// Raises a permit that the pass has retired: it is free, and one more permit is in use.
 ///
 /// 0: raised. 1: the pass has retired no permit, and nothing was done. 255: empty.
 #[unsafe(no_mangle)]
@@ -170,7 +169,7 @@ pub extern "C" fn resil_permit_raise(handle: Handle, back: &mut Handle) -> u8
     if raised { 0 } else { 1 }
 }
 
-/// How many permits the pass has retired and not raised again. The pass comes back as it was. 0 where the handle is empty.
+/// How many permits the pass has retired and not raised again. The pass comes back unchanged. 0 if the handle is empty.
 #[unsafe(no_mangle)]
 pub extern "C" fn resil_permit_retired(handle: Handle, back: &mut Handle) -> u32
     ensures back { IfSome handle.value (λ _. back.new.value ≡ handle.value) }
@@ -185,7 +184,7 @@ pub extern "C" fn resil_permit_retired(handle: Handle, back: &mut Handle) -> u32
     retired
 }
 
-/// The number of free permits at this point: those in use that nobody holds. 0 where the handle is empty.
+/// The number of free permits at this point: those in use that no pass holds. 0 if the handle is empty.
 #[unsafe(no_mangle)]
 pub extern "C" fn resil_permit_available(handle: Handle, back: &mut Handle) -> u32
     ensures pass { UnlessEmpty IsSamePass handle.value back.new.value }
@@ -203,7 +202,7 @@ pub extern "C" fn resil_permit_available(handle: Handle, back: &mut Handle) -> u
     free
 }
 
-/// Lets a pass go. A permit that it holds or has retired is never given back. An empty handle has nothing to let go.
+/// Frees a pass. A permit that it holds or has retired is never given back. For an empty handle it does nothing.
 #[unsafe(no_mangle)]
 pub extern "C" fn resil_permit_free(handle: Handle) {
     drop(handle.into_pass());

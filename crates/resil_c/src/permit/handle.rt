@@ -1,4 +1,4 @@
-//! The handle that C has: a pointer, which it never follows.
+//! The handle that C has: a pointer that C never follows.
 ghost use Rattle.std.specs.Prelude.{◌≡◌, Option, Some, option_map};
 ghost use Rattle.resil_permit.specs.Passes.{PassView};
 
@@ -9,8 +9,7 @@ use std::marker::Model;
 
 /// A pointer to a pass on the heap, or an empty handle, whose pointer is null.
 ///
-/// The pointer is to bytes, since C is to know nothing of what lies there. A handle that is dropped leaves its
-/// pass on the heap.
+/// It points to bytes, since C must not know what is there. If a handle is dropped, its pass stays on the heap.
 #[repr(C)]
 #[derive(Drop)]
 pub struct Handle {
@@ -40,7 +39,7 @@ impl Handle {
         }
     }
 
-    // The parts of a handle, and nothing of an empty one.
+    // The parts of a handle, or nothing if it is empty.
     fn into_parts(self) -> Option<BoxParts<OwnedPass, Global>>
         ensures { self.value ≡ option_map (λ parts. parts.value) result }
     {
@@ -62,7 +61,7 @@ impl Handle {
         Handle::of_parts(BoxParts::of(pass))
     }
 
-    // The pass of a handle, and nothing of an empty one.
+    // The pass of a handle, or nothing if it is empty.
     pub(crate) fn into_pass(self) -> Option<Box<OwnedPass>>
         ensures { self.value ≡ option_map (λ pass. pass.value) result }
     {

@@ -1,4 +1,4 @@
-//! A pass together with the permits that it came from, so that no call has to require that they fit.
+//! A pass together with the permits that it came from, so that no call has to require that they belong together.
 ghost use Rattle.std.specs.Prelude.{◌≡◌, ◌≢◌, ◌+◌, ◌<◌, ◌↔◌, [], length, IfOk, IsErrOf};
 ghost use Rattle.std.specs.Bool.{OnTrue, OnFalse};
 ghost use Rattle.resil_permit.specs.declared.event.PermitEvent.TheVariants.{Gave, Retired, Raised};
@@ -11,7 +11,7 @@ use std::alloc::{AllocError, Global};
 use std::marker::Model;
 use std::sync::Arc;
 
-/// What one thread takes permits with and gives them back with, and its share of the permits.
+/// A thread takes permits and gives them back with it. It shares the permits with other passes.
 #[derive(Drop)]
 pub struct OwnedPass {
     permits: Arc<Permits, Global>,
@@ -68,7 +68,7 @@ impl OwnedPass {
         self.permits.try_once(&mut self.pass)
     }
 
-    // Gives a permit back, or answers `false` where the pass holds none, and does nothing.
+    // Gives a permit back. If the pass holds none, it returns `false` and does nothing.
     pub(crate) fn leave(&mut self) -> bool
         ensures pass { IsSamePass self.old self.new }
         ensures gave { OnTrue result (AppendsEvent self.old (Gave self.old.number) (λ _. Unit {0}) self.new) }
@@ -83,7 +83,7 @@ impl OwnedPass {
         true
     }
 
-    // Retires a permit, or answers `false` where the pass holds none, and does nothing.
+    // Retires a permit. If the pass holds none, it returns `false` and does nothing.
     pub(crate) fn retire(&mut self) -> bool
         ensures pass { IsSamePass self.old self.new }
         ensures kept_back { OnTrue result (AppendsEvent self.old (Retired self.old.number) (λ _. Unit {0}) self.new) }
@@ -98,7 +98,7 @@ impl OwnedPass {
         holds
     }
 
-    // Raises a permit, or answers `false` where the pass has retired none, and does nothing.
+    // Raises a permit. If the pass has retired none, it returns `false` and does nothing.
     pub(crate) fn raise(&mut self) -> bool
         ensures pass { IsSamePass self.old self.new }
         ensures raised { OnTrue result (AppendsEvent self.old (Raised self.old.number) (λ _. Unit {0}) self.new) }

@@ -1,8 +1,8 @@
-//! The book of a pool: the rule over the works of its callers, the last events, and two counts.
+//! The book of a pool: the rule over its callers' jobs, the last events, and two counts.
 //!
-//! A work is 64 bits of the service's own, which the book keeps until its job is picked. All memory is taken by `new`.
-//! Each call says which event it adds to every history that the book may stand for; of these the book keeps the last
-//! ones and the numbers.
+//! The work of a job is 64 bits that mean something to the service only. The book keeps them until the job is picked.
+//! `new` takes all memory. The contract of each call says which event it adds to every history that the book may stand
+//! for. The book keeps the last events of such a history, and its numbers.
 ghost use Rattle.std.specs.Prelude.{◌≡◌, ◌↔◌, ◌⊎◌, ◌<◌, ◌≤◌, ◌+◌, not, Some, [], if◌then◌else◌, suc, length, slice_get, false, IsTrue, IsOk, IfOk, IfErr, IfSome, IfNone, OnOk, OnErr};
 ghost use Rattle.std.specs.Bool.{OnTrue, OnFalse};
 ghost use Rattle.resil_rule.specs.Limits.{AreSizesWithin};
@@ -19,14 +19,14 @@ use resil_rule::{
 use std::alloc::Global;
 use std::marker::Model;
 
-/// A pool whose works are the service's own.
+/// A pool whose jobs are 64 bits of the service.
 #[derive(Drop)]
 pub struct Book {
     rule: Rule<u64>,
     last: LastEvents,
-    // How many submissions the rule refused, as far as 64 bits count.
+    // How many submissions the rule refused. The count stops at the largest number of 64 bits.
     refused: u64,
-    // How many jobs are finished, as far as 64 bits count.
+    // How many jobs are finished. The count stops at the largest number of 64 bits.
     finished: u64,
     // How many callers there are, numbered from 1. The rule counts them from 0.
     callers: u32,
@@ -40,11 +40,11 @@ impl Model for Book {
 
     ghost view = { λ b. record { rule = b.rule; last = b.last; refused = b.refused; finished = b.finished } };
 
-    // A place fits into 32 bits, and the rule knows the callers.
+    // A place fits into 32 bits, and the rule counts the callers.
     ghost invariant = { λ b. (length b.rule.out ≤ 1024) × (length b.rule.made ≡ b.callers + 1) };
 }
 
-// The count of refusals after an answer of the rule.
+// The count of refusals after a reply of the rule.
 fn refused_after(refused: u64, reply: Reply) -> u64
     ensures { result ≡ (if not (is_acceptance reply) then in_64_bits (refused + 1) else refused) }
 {
@@ -55,7 +55,7 @@ fn refused_after(refused: u64, reply: Reply) -> u64
 }
 
 impl Book {
-    // An open book of these sizes for so many callers, which keeps so many of the last events.
+    // An open book of these sizes, for this many callers, which keeps this many of the last events.
     pub(crate) fn new(
         alloc: Global,
         core: u32,
@@ -86,7 +86,7 @@ impl Book {
         })
     }
 
-    // Submits work under its caller's next number. The caller still has the work of a refusal.
+    // Submits work under its caller's next number. If it is refused, the caller still has the work.
     pub(crate) fn submit(&mut self, id: Id, work: u64) -> Result<Reply, Refusal>
         ensures answer { result ≡ answer_to self.old id }
         ensures submitted { submit_number result ≤ 4 → IsSubmitted id work self.old self.new }
@@ -101,7 +101,7 @@ impl Book {
         by_rule(self.submit_next(id, work))
     }
 
-    // The id of a caller's next submission. Past what 64 bits count there is none, and this one is refused.
+    // The id of a caller's next submission. After the largest number of 64 bits there is none; this id is then refused.
     pub(crate) fn next_id(&self, caller: u16) -> Id
         ensures { result ≡ next_id self.now caller }
     {
@@ -109,14 +109,14 @@ impl Book {
         Id { caller, number }
     }
 
-    // Whether a number is that of a caller.
+    // Whether a caller has this number.
     fn has_caller(&self, caller: u16) -> bool
         ensures { result ≡ has_caller self.now caller }
     {
         caller != 0 && u32::from(caller) <= self.callers
     }
 
-    // Submits work under a number that is its caller's next one, and answers by the rule.
+    // Submits work under its caller's next number, and returns the reply of the rule.
     fn submit_next(&mut self, id: Id, work: u64) -> Reply
         requires caller { id.caller < length self.old.rule.made }
         requires next { id.number ≡ suc (made_by self.old.rule id.caller) }
@@ -130,7 +130,7 @@ impl Book {
         reply
     }
 
-    // Picks the job that is to run next: as the rule does, with a take as an event.
+    // Picks the job that runs next, as the rule does. A take is an event.
     pub(crate) fn pick(&mut self) -> Option<Picked<u64>>
         ensures picked { IfSome result (λ p. IsPicked p.origin p.slot p.work self.old self.new) }
         ensures place { IfSome result (λ p. p.slot.place < 1024) }
@@ -145,7 +145,7 @@ impl Book {
         Some(picked)
     }
 
-    // Ends a job that is out, and says whether it was.
+    // Ends a job that is out, and returns whether it was.
     pub(crate) fn finish(&mut self, slot: Slot) -> bool
         ensures out { IsTrue result ↔ (slice_get self.old.rule.out slot.place ≡ Some (Some slot.id)) }
         ensures event { OnTrue result (self.new.rule ≡ with_finish self.old.rule slot) }
@@ -174,7 +174,7 @@ impl Book {
         Ok(())
     }
 
-    // Ends an idle worker, and says whether it did.
+    // Ends an idle worker, and returns whether it did.
     pub(crate) fn idle_end(&mut self) -> bool
         ensures ends { IsTrue result ↔ MayEndIdle self.old.rule }
         ensures event { OnTrue result (self.new.rule ≡ with_idle_end self.old.rule) }
@@ -188,7 +188,7 @@ impl Book {
         ended
     }
 
-    // Closes the pool, and says whether it was open.
+    // Closes the pool, and returns whether it was open.
     pub(crate) fn close(&mut self) -> bool
         ensures closes { IsTrue result ↔ (self.old.rule.closed ≡ false) }
         ensures event { OnTrue result (self.new.rule ≡ with_close self.old.rule) }
@@ -202,7 +202,7 @@ impl Book {
         closed
     }
 
-    // The numbers, all of one moment. Each accepted job runs, waits or is finished.
+    // The numbers, all at one moment. Each accepted job runs, waits or is finished.
     pub(crate) fn numbers(&self) -> PoolCounts
         ensures { result ≡ counts_of self.now }
     {

@@ -1,7 +1,7 @@
-//! What C calls.
+//! The calls for C.
 //!
-//! What C owes: a handle that goes in is empty, or was filled by `new` and wasn't freed since, and is used by one call at
-//! a time. An empty one is answered by 255, or by 0 where the answer is a number, and nothing is done.
+//! C must ensure that a handle that goes in is empty, or was filled by `new` and hasn't been freed since, and that only
+//! one call at a time uses it. For an empty handle a call does nothing. It returns 255, or 0 if it returns a number.
 ghost use Rattle.std.specs.Prelude.{◌≡◌, ◌≢◌, ◌+◌, ◌≤◌, ◌↔◌, ◌⊎◌, [], suc, List, None as nothing, Some, IfSome, false, length, slice_get, option_map};
 ghost use Rattle.resil_rule.specs.declared.rule.Origin.TheVariants as origin;
 ghost use Rattle.resil_rule.specs.declared.event.Event.{Event as EventOf};
@@ -25,12 +25,12 @@ use crate::pool::plain_data::{
 use resil_rule::{AdmitError, Id, Slot};
 use std::alloc::Global;
 
-/// Makes an open pool of these sizes without workers or jobs, and writes its handle to `out`: a core size from 1
-/// to 1,024, a greatest size from the core size to 1,024, a queue capacity from 1 to 65,536. It is for the callers from 1 to
-/// `callers`, which is 1 to 65,535, and keeps so many of the last events.
+/// Makes an open pool of these sizes without workers or jobs, and writes its handle to `out`. The core size is from 1 to
+/// 1,024, the maximum size from the core size to 1,024, and the queue capacity from 1 to 65,536. The pool serves the callers
+/// from 1 to `callers`, which is from 1 to 65,535, and keeps the last `kept` events.
 ///
-/// 0: made. 1: out of memory. 2, 3, 4, 5: the core size, the greatest size, the queue capacity, the number of callers is
-/// out of its range, in this order. But for 0 `out` is as it was.
+/// 0: made. 1: out of memory. 2, 3, 4, 5: the core size, the maximum size, the queue capacity, the number of callers is
+/// out of its range, checked in this order. Except after 0, `out` is unchanged.
 #[unsafe(no_mangle)]
 pub extern "C" fn resil_pool_new(
     alloc: Global,
@@ -61,10 +61,10 @@ pub extern "C" fn resil_pool_new(
     0
 }
 
-/// Submits work under its caller's next number, and answers by the rule of admission.
+/// Submits work under its caller's next number. Returns the reply of the rule of admission.
 ///
 /// 0: core. 1: queued. 2: extra. 3: full. 4: closed. 5: the number isn't one more than the caller's submissions so
-/// far. 6: the caller isn't one of the pool's. After 5 and 6 nothing was changed. 255: the handle is empty.
+/// far. 6: the pool doesn't have this caller. After 5 and 6 nothing was changed. 255: the handle is empty.
 #[unsafe(no_mangle)]
 pub extern "C" fn resil_pool_submit(
     handle: Handle,
@@ -87,11 +87,11 @@ pub extern "C" fn resil_pool_submit(
     submit_number(answer)
 }
 
-/// Submits work under its caller's next number, which the pool counts: one more than all that the rule has answered this
-/// caller, refusals too. It answers by the rule of admission, and writes the number to `number`.
+/// Submits work under its caller's next number, which the pool counts: one more than all submissions that the rule has answered this caller,
+/// including refusals. Returns the reply of the rule of admission, and writes the number to `number`.
 ///
-/// 0: core. 1: queued. 2: extra. 3: full. 4: closed. 5: the caller's submissions have reached 2^64 - 1. 6: the caller isn't
-/// one of the pool's. After 5 and 6 nothing was changed, and `number` is as it was. 255: the handle is empty.
+/// 0: core. 1: queued. 2: extra. 3: full. 4: closed. 5: the caller's submissions have reached 2^64 - 1. 6: the pool doesn't
+/// have this caller. After 5 and 6 nothing was changed, and `number` is unchanged. 255: the handle is empty.
 #[unsafe(no_mangle)]
 pub extern "C" fn resil_pool_submit_next(
     handle: Handle,
@@ -120,11 +120,10 @@ pub extern "C" fn resil_pool_submit_next(
     answer
 }
 
-/// Picks the job that is to run next, and writes it to `job`: the oldest one with a worker of its own that wasn't picked
-/// yet, and else the oldest one of the queue, where a worker is idle.
+/// Picks the job that runs next, and writes it to `job`: the oldest job with its own worker that wasn't picked yet, or
+/// else, if a worker is idle, the oldest job of the queue.
 ///
-/// 0: one with a worker of its own. 1: one of the queue. 2: there is none to pick, and nothing was changed. 255: the
-/// handle is empty.
+/// 0: a job with its own worker. 1: a job of the queue. 2: there is none to pick, and nothing was changed. 255: the handle is empty.
 #[unsafe(no_mangle)]
 pub extern "C" fn resil_pool_pick(handle: Handle, back: &mut Handle, job: &mut PoolJob) -> u8
     ensures answers { (result ≤ 2) ⊎ (result ≡ 255) }
@@ -149,7 +148,7 @@ pub extern "C" fn resil_pool_pick(handle: Handle, back: &mut Handle, job: &mut P
     origin_number(picked.origin)
 }
 
-/// Ends a job that is out: one that was picked, with this place, and isn't finished.
+/// Ends a job that is out: it was picked, has this place, and isn't finished.
 ///
 /// 0: ended. 1: no such job is out, and nothing was changed. 255: the handle is empty.
 #[unsafe(no_mangle)]
@@ -178,12 +177,11 @@ pub extern "C" fn resil_pool_finish(
     if finished { 0 } else { 1 }
 }
 
-/// Sets the core size and the greatest size, in workers, from here on. The queue's capacity and all jobs stay, and no
-/// worker begins or ends by it.
+/// Sets the core size and the maximum size, in workers, from here on. The queue's capacity and all jobs stay. It starts and ends no worker.
 ///
-/// 0: set, also where they stay the same and where the pool is closed. 1: the core size isn't from 1 to 64, or to
-/// 1,024 where that of `new` was greater than 64. 2: it is, and the greatest size isn't from the core size to that of `new`.
-/// After 1 and 2 nothing was changed. 255: the handle is empty.
+/// 0: set, even if the sizes stay the same and if the pool is closed. 1: the core size isn't from 1 to 64, or to 1,024 if
+/// the maximum size at `new` was greater than 64. 2: it is, and the maximum size isn't from the core size to the one at
+/// `new`. After 1 and 2 nothing was changed. 255: the handle is empty.
 #[unsafe(no_mangle)]
 pub extern "C" fn resil_pool_resize(handle: Handle, back: &mut Handle, core: u32, max: u32) -> u8
     ensures answers { (result ≤ 2) ⊎ (result ≡ 255) }
@@ -207,8 +205,8 @@ pub extern "C" fn resil_pool_resize(handle: Handle, back: &mut Handle, core: u32
     }
 }
 
-/// Ends an idle worker, where nothing waits, fewer jobs run than there are workers, and there are more workers than
-/// the core size or the pool is closed.
+/// Ends an idle worker, if no job waits, fewer jobs run than there are workers, and either there are more workers
+/// than the core size or the pool is closed.
 ///
 /// 0: ended. 1: none may end, and nothing was changed. 255: the handle is empty.
 #[unsafe(no_mangle)]
@@ -229,7 +227,7 @@ pub extern "C" fn resil_pool_idle_end(handle: Handle, back: &mut Handle) -> u8
     if ended { 0 } else { 1 }
 }
 
-/// Closes the pool. Jobs accepted before are still picked.
+/// Closes the pool. Jobs that were accepted before can still be picked.
 ///
 /// 0: closed. 1: it was closed already, and nothing was changed. 255: the handle is empty.
 #[unsafe(no_mangle)]
@@ -250,9 +248,9 @@ pub extern "C" fn resil_pool_close(handle: Handle, back: &mut Handle) -> u8
     if closed { 0 } else { 1 }
 }
 
-/// Writes the numbers of the pool to `counts`, all of one moment.
+/// Writes the numbers of the pool to `counts`, all at one moment.
 ///
-/// 0: written. 255: the handle is empty, and `counts` is as it was.
+/// 0: written. 255: the handle is empty, and `counts` is unchanged.
 #[unsafe(no_mangle)]
 pub extern "C" fn resil_pool_numbers(
     handle: Handle,
@@ -275,7 +273,7 @@ pub extern "C" fn resil_pool_numbers(
     0
 }
 
-/// How many of the last events are kept now: 0 where the handle is empty.
+/// How many of the last events are kept now. 0 if the handle is empty.
 #[unsafe(no_mangle)]
 pub extern "C" fn resil_pool_event_count(handle: Handle, back: &mut Handle) -> usize
     ensures same { IfSome handle.value (λ _. back.new.value ≡ handle.value) }
@@ -290,7 +288,7 @@ pub extern "C" fn resil_pool_event_count(handle: Handle, back: &mut Handle) -> u
     count
 }
 
-/// How many events came before those that are kept: 0 where the handle is empty.
+/// How many events came before those that are kept. 0 if the handle is empty.
 #[unsafe(no_mangle)]
 pub extern "C" fn resil_pool_lost(handle: Handle, back: &mut Handle) -> u64
     ensures same { IfSome handle.value (λ _. back.new.value ≡ handle.value) }
@@ -308,7 +306,7 @@ pub extern "C" fn resil_pool_lost(handle: Handle, back: &mut Handle) -> u64
 
 /// Writes one of the kept events to `event`, by its index from 0, oldest first.
 ///
-/// 0: written. 1: no more events are kept than the index, and `event` is as it was. 255: the handle is empty.
+/// 0: written. 1: the index isn't below the number of kept events, and `event` is unchanged. 255: the handle is empty.
 #[unsafe(no_mangle)]
 pub extern "C" fn resil_pool_event(
     handle: Handle,
@@ -336,7 +334,7 @@ pub extern "C" fn resil_pool_event(
     0
 }
 
-/// Lets a pool go, with all that is in it. An empty handle has nothing to let go.
+/// Frees a pool, with all that is in it. For an empty handle it does nothing.
 #[unsafe(no_mangle)]
 pub extern "C" fn resil_pool_free(handle: Handle) {
     drop(handle.into_book());

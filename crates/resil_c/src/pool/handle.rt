@@ -1,4 +1,4 @@
-//! The handle that C has: a pointer, which it never follows.
+//! The handle that C has: a pointer that C never follows.
 ghost use Rattle.std.specs.Prelude.{◌≡◌, Option, Some, option_map};
 ghost use Rattle.resil_c.specs.Book.{BookView};
 
@@ -9,8 +9,7 @@ use std::marker::Model;
 
 /// A pointer to a pool on the heap, or an empty handle, whose pointer is null.
 ///
-/// The pointer is to bytes, since C is to know nothing of what lies there. A handle that is dropped leaves its
-/// pool on the heap.
+/// It points to bytes, since C must not know what is there. If a handle is dropped, its pool stays on the heap.
 #[repr(C)]
 #[derive(Drop)]
 pub struct Handle {
@@ -40,7 +39,7 @@ impl Handle {
         }
     }
 
-    // The parts of a handle, and nothing of an empty one.
+    // The parts of a handle, or nothing if it is empty.
     fn into_parts(self) -> Option<BoxParts<Book, Global>>
         ensures { self.value ≡ option_map (λ parts. parts.value) result }
     {
@@ -62,7 +61,7 @@ impl Handle {
         Handle::of_parts(BoxParts::of(book))
     }
 
-    // The pool of a handle, and nothing of an empty one.
+    // The pool of a handle, or nothing if it is empty.
     pub(crate) fn into_book(self) -> Option<Box<Book>>
         ensures { self.value ≡ option_map (λ book. book.value) result }
     {

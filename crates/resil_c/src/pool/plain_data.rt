@@ -1,24 +1,24 @@
-//! Answers, events, jobs and numbers as C has them.
+//! Replies, events, jobs and numbers in the form that C has.
 ghost use Rattle.std.specs.Prelude.{◌≡◌, ◌<◌, ◌≤◌};
 ghost use Rattle.resil_c.specs.Book.{answer_by_rule};
 ghost use Rattle.resil_c.specs.PlainData.{open_number, reply_number, submit_number, origin_number, plain_job, plain_event};
 
 use resil_rule::{AdmitError, Event, Id, Origin, Refusal, Reply, Slot};
 
-/// The greatest number of callers.
+/// The largest number of callers.
 pub(crate) const MAX_CALLERS: u32 = 65_535;
 
-// The greatest number of a reply of the rule.
+// The largest number of a reply of the rule.
 pub(crate) const CLOSED: u8 = 4;
 
 /// Why a pool isn't made.
 #[derive(Clone, Copy, Debug, PartialEq, Eq)]
 pub enum OpenError {
-    /// Memory ran out.
+    /// Out of memory.
     Memory,
     /// The core size isn't from 1 to 1,024.
     CoreRange,
-    /// The greatest size isn't from the core size to 1,024.
+    /// The maximum size isn't from the core size to 1,024.
     MaxRange,
     /// The queue capacity isn't from 1 to 65,536.
     QueueRange,
@@ -46,7 +46,7 @@ impl From<AdmitError> for OpenError {
 #[repr(C)]
 #[derive(Clone, Copy, Drop)]
 pub struct PoolJob {
-    /// What was submitted with it.
+    /// The work that was submitted with it.
     pub work: u64,
     /// Its number.
     pub number: u64,
@@ -56,7 +56,7 @@ pub struct PoolJob {
     pub caller: u16,
 }
 
-/// The numbers of a pool, all of one moment. A count of 64 bits stops at their greatest number.
+/// The numbers of a pool, all at one moment. A count of 64 bits stops at the largest number of 64 bits.
 #[repr(C)]
 #[derive(Clone, Copy, Drop)]
 pub struct PoolCounts {
@@ -66,11 +66,11 @@ pub struct PoolCounts {
     pub refused: u64,
     /// How many jobs were finished.
     pub finished: u64,
-    /// The core size now, in workers.
+    /// The current core size, in workers.
     pub core: u32,
-    /// The greatest size now, in workers.
+    /// The current maximum size, in workers.
     pub max: u32,
-    /// The greatest size at the opening, in workers.
+    /// The maximum size at the opening, in workers.
     pub greatest: u32,
     /// The capacity of the queue, in jobs.
     pub capacity: u32,
@@ -80,7 +80,7 @@ pub struct PoolCounts {
     pub running: u32,
     /// How many jobs wait in the queue.
     pub waiting: u32,
-    /// 1 where the pool is closed, and else 0.
+    /// 1 if the pool is closed, otherwise 0.
     pub closed: u32,
 }
 
@@ -88,17 +88,17 @@ pub struct PoolCounts {
 #[repr(C)]
 #[derive(Clone, Copy, Drop)]
 pub struct PoolEvent {
-    /// The job's number, and 0 where the event is of no job.
+    /// The job's number, or 0 if the event is about no job.
     pub number: u64,
-    /// The job's caller, and 0 where the event is of no job.
+    /// The job's caller, or 0 if the event is about no job.
     pub caller: u16,
     /// 0 a submission, 1 a take, 2 a finish, 3 the end of an idle worker, 4 the closing, 5 new sizes.
     pub kind: u8,
-    /// Of a submission: 0 core, 1 queued, 2 extra, 3 full, 4 closed. Of another event 255.
+    /// For a submission: 0 core, 1 queued, 2 extra, 3 full, 4 closed. For any other event 255.
     pub reply: u8,
-    /// Of new sizes the core size, in workers. Of another event 0.
+    /// For new sizes the core size, in workers. For any other event 0.
     pub core: u32,
-    /// Of new sizes the greatest size, in workers. Of another event 0.
+    /// For new sizes the maximum size, in workers. For any other event 0.
     pub max: u32,
 }
 
@@ -114,7 +114,7 @@ pub(crate) fn open_number(error: OpenError) -> u8
     }
 }
 
-// The answer of the rule, as an acceptance or a refusal.
+// The reply of the rule, as an acceptance or a refusal.
 pub(crate) fn by_rule(reply: Reply) -> Result<Reply, Refusal>
     ensures answer { result ≡ answer_by_rule reply }
     ensures by_rule { submit_number result ≤ 4 }
@@ -184,7 +184,7 @@ pub(crate) fn plain_event(event: Event) -> PoolEvent
     }
 }
 
-// An event of a job.
+// An event about a job.
 fn of_job(id: Id, kind: u8, reply: u8) -> PoolEvent
     ensures { result ≡ record { number = id.number; caller = id.caller; kind = kind; reply = reply; core = 0; max = 0 } }
 {
@@ -198,7 +198,7 @@ fn of_job(id: Id, kind: u8, reply: u8) -> PoolEvent
     }
 }
 
-// An event of no job: new sizes, or one whose sizes are 0.
+// An event about no job: new sizes, or an event whose sizes are 0.
 fn of_sizes(kind: u8, core: u32, max: u32) -> PoolEvent
     ensures { result ≡ record { number = 0; caller = 0; kind = kind; reply = 255; core = core; max = max } }
 {

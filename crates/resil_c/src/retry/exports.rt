@@ -1,6 +1,6 @@
-//! What C calls.
+//! The calls for C.
 //!
-//! C owes nothing for an interval: one that no call has made is answered by 255, and nothing is written.
+//! C needn't ensure anything for an interval. For an interval that no call has made they return 255, and write nothing.
 ghost use Rattle.std.specs.Prelude.{◌≡◌, ◌≢◌, ◌<◌, ◌≤◌, ◌↔◌, ◌⊎◌, Some};
 ghost use Rattle.resil_retry.specs.declared.interval.Backoff.TheVariants.{Fixed, Exponential};
 ghost use Rattle.resil_retry.specs.Interval.{interval as wait_after, interval_limit, IsBackoff, IsMultiplier};
@@ -13,7 +13,7 @@ use resil_retry::{Interval, RetryError};
 
 /// Makes the interval of one wait of `ms` milliseconds after each attempt, and writes it to `out`.
 ///
-/// 0: made. 1: the wait is above 31,536,000,000 ms, and `out` is as it was.
+/// 0: made. 1: the wait is above 31,536,000,000 ms, and `out` is unchanged.
 #[unsafe(no_mangle)]
 pub extern "C" fn resil_retry_fixed(ms: u64, out: &mut RetryInterval) -> u8
     ensures answers { result ≤ 1 }
@@ -28,11 +28,11 @@ pub extern "C" fn resil_retry_fixed(ms: u64, out: &mut RetryInterval) -> u8
     0
 }
 
-/// Makes the interval of `initial` milliseconds after the first attempt, times `numerator / denominator` from attempt
-/// to attempt, truncated to whole milliseconds at each step, and at most `cap` milliseconds, and writes it to `out`.
+/// Makes an interval that grows, and writes it to `out`: `initial` milliseconds after the first attempt, multiplied by `numerator /
+/// denominator` from attempt to attempt, truncated to whole milliseconds at each step, and at most `cap` milliseconds.
 ///
 /// 0: made. In this order: 1: `initial` or `cap` is above 31,536,000,000 ms. 2: not 1 <= `denominator` <= `numerator`
-/// <= 1,000. 3: `cap` is below `initial`. After 1 to 3 `out` is as it was.
+/// <= 1,000. 3: `cap` is below `initial`. After 1 to 3 `out` is unchanged.
 #[unsafe(no_mangle)]
 pub extern "C" fn resil_retry_exponential(
     initial: u64,
@@ -60,8 +60,7 @@ pub extern "C" fn resil_retry_exponential(
 
 /// Writes the wait after an attempt, in milliseconds, to `wait`. Attempts are numbered from 1.
 ///
-/// 0: written. 1: the attempt is 0. 255: the interval is one that no call has made. After 1 and 255 `wait` is as it
-/// was.
+/// 0: written. 1: the attempt is 0. 255: no call has made this interval. After 1 and 255 `wait` is unchanged.
 #[unsafe(no_mangle)]
 pub extern "C" fn resil_retry_wait(interval: &RetryInterval, attempt: u32, wait: &mut u64) -> u8
     ensures answers { (result ≤ 1) ⊎ (result ≡ 255) }

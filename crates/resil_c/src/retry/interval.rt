@@ -1,4 +1,4 @@
-//! The interval that C has: the numbers that it was made of.
+//! The interval that C has: the numbers that it was made with.
 ghost use Rattle.std.specs.Prelude.{◌≡◌, Some, IfSome, IfNone};
 ghost use Rattle.resil_retry.specs.declared.interval.Backoff.TheVariants.{Fixed, Exponential};
 ghost use Rattle.resil_retry.specs.Interval.{IsBackoff};
@@ -7,27 +7,26 @@ ghost use Rattle.resil_c.specs.Retry.{backoff_of};
 
 use resil_retry::Interval;
 
-// What the word `kind` of an interval says. 0 is no interval.
+// The values of the word `kind` of an interval. 0 is no interval.
 const FIXED: u32 = 1;
 
 const EXPONENTIAL: u32 = 2;
 
 /// An interval. The waits are in milliseconds.
 ///
-/// Nothing keeps C from writing other numbers into it, so each call that takes one makes the interval anew, by the
-/// rules of its first making.
+/// C may write other numbers into it, so each call that takes one makes the interval anew, by the rules of its first making.
 #[repr(C)]
 #[derive(Clone, Copy, Drop)]
 pub struct RetryInterval {
     /// The wait after the first attempt.
     pub initial: u64,
-    /// The longest wait, of an exponential interval. Else 0.
+    /// For an exponential interval the longest wait, otherwise 0.
     pub cap: u64,
-    /// What a wait is multiplied by for the next one, of an exponential interval. Else 0.
+    /// For an exponential interval the factor for the next wait, otherwise 0.
     pub numerator: u32,
-    /// What it is divided by then. Else 0.
+    /// For an exponential interval the divisor for the next wait, otherwise 0.
     pub denominator: u32,
-    /// 0 no interval, 1 a fixed one, 2 an exponential one.
+    /// 0 no interval, 1 a fixed interval, 2 an exponential one.
     pub kind: u32,
 }
 
@@ -63,7 +62,7 @@ impl RetryInterval {
         }
     }
 
-    // The interval of these numbers, and nothing where they are of none.
+    // The interval of these numbers, or nothing if no interval has them.
     pub(crate) fn interval(&self) -> Option<Interval>
         ensures interval { IfSome result (λ backoff. backoff_of self.now ≡ Some backoff) }
         ensures made { IfSome result IsBackoff }

@@ -1,4 +1,4 @@
--- `of` takes the box apart by `Box::into_raw_with_allocator`, and puts what that answers into a struct.
+-- `of` takes the box apart by `Box::into_raw_with_allocator`, and puts the result into a struct.
 use Rattle.resil_c.proofs.Walks.{◌≡◌, List, [], ◌∷◌, ◌++◌, refl, sym, ap, ◌∙◌, subst, Fn, Args, a_type, dcons, dnil, bare, Val, vstruct, of_list, inst_fn}
 use Rattle.resil_c.proofs.Walks.{SProp, ent, emp, never, id⊢, fst∗, ftrue, fsep, flft, WpFn, sem, Item, ‵, raw, ◌⊛◌, some, later, ◌$◌, ◌∵◌, !, qed, by, move}
 use Rattle.resil_c.proofs.Walks.{keep, drop, split, split3, join, fsplit, fjoin, fpick, pick, suffices, use0, use1, await, rewrite, feq_l, stop, fld, of_opd}

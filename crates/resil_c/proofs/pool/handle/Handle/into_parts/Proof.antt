@@ -1,4 +1,4 @@
--- `into_parts` compares the pointer with null: an empty handle has no parts, and another one and its parts own the same.
+-- `into_parts` compares the pointer with null: an empty handle has no parts, and any other handle owns what its parts own.
 use Rattle.resil_c.proofs.Walks.{◌≡◌, List, [], ◌∷◌, ◌++◌, ◌∙◌, refl, sym, ap, subst, lit<, Val, vnull, vcons, vnil, SProp, ent, id⊢, emp, ftrue, WpFn, ‵}
 use Rattle.resil_c.proofs.Walks.{raw, given, at_ret, ◌⊛◌, ◌$◌, ◌∵◌, !, qed, by, move, keep, drop, split, fsplit, fpick, learn, rewrite, suffices, use0, use1}
 use Rattle.resil_c.proofs.Walks.{fjoin, stop, fld, lit, of_opd, bin, no_more, and_then, first, branches, exec, returns, enter, alloc_all, pass_all, free_all}
