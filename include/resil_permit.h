@@ -1,6 +1,6 @@
 /* Permits that threads share, for C and C++: the proved permits of crates/resil_permit.
  *
- * A number of permits is made together with a first pass. Each thread that takes permits has a pass of its own;
+ * A number of permits is made together with a first pass. Each thread that takes permits has its own pass;
  * resil_permit_split makes one more for each other thread. A pass counts the permits that it holds, and all passes
  * together never hold more than are in use. All permits are in use except the retired ones: a retired permit is
  * kept by its pass, neither free nor held, until the same pass raises it again. No function waits for another
@@ -45,7 +45,7 @@ typedef struct resil_permit_pass {
 enum {
     RESIL_PERMIT_MADE = 0,     /* `out` has a pass */
     RESIL_PERMIT_MEMORY = 1,   /* out of memory; `out` is unchanged */
-    RESIL_PERMIT_TOO_MANY = 2  /* more than 65,535 permits were asked for; `out` is unchanged */
+    RESIL_PERMIT_TOO_MANY = 2  /* `max` is above 65,535; `out` is unchanged */
 };
 
 /* What resil_permit_try_once returns. */
@@ -87,7 +87,7 @@ uint8_t resil_permit_raise(resil_permit_pass pass, resil_permit_pass *back);
 /* Returns how many permits the pass has retired and not raised again. The pass is unchanged. */
 uint32_t resil_permit_retired(resil_permit_pass pass, resil_permit_pass *back);
 
-/* Returns the number of free permits at this moment: those in use that nobody holds. */
+/* Returns the number of free permits at this moment: those in use that no pass holds. */
 uint32_t resil_permit_available(resil_permit_pass pass, resil_permit_pass *back);
 
 /* Frees a pass; the permits are freed with their last pass. A permit that the pass holds or has retired is never

@@ -59,8 +59,8 @@ typedef struct resil_pool_job {
     uint16_t caller; /* its caller */
 } resil_pool_job;
 
-/* The pool's numbers, all of one moment: accepted = running + waiting + finished. The 64-bit counts stop at 2^64 - 1,
- * which then also stands for any larger number. */
+/* The pool's numbers, all at one moment: accepted = running + waiting + finished. The 64-bit counts stop at 2^64 - 1,
+ * which then also means any larger number. */
 typedef struct resil_pool_counts {
     uint64_t accepted; /* how many submissions were accepted */
     uint64_t refused;  /* how many the rule refused, with RESIL_POOL_FULL or RESIL_POOL_CLOSED */
@@ -108,7 +108,7 @@ enum {
 
 /* What resil_pool_pick returns. */
 enum {
-    RESIL_POOL_PICKED_OWN = 0,   /* a job that has had a worker of its own since its submission */
+    RESIL_POOL_PICKED_OWN = 0,   /* a job that has had its own worker since its submission */
     RESIL_POOL_PICKED_QUEUE = 1, /* a job that was taken from the queue */
     RESIL_POOL_NONE = 2          /* there is none to pick; nothing changed */
 };
@@ -174,7 +174,7 @@ RESIL_MUST_USE uint8_t resil_pool_submit(resil_pool pool, resil_pool *back, uint
 RESIL_MUST_USE uint8_t resil_pool_submit_next(resil_pool pool, resil_pool *back, uint16_t caller, uint64_t work,
                                               uint64_t *number);
 
-/* Picks the job to run next: the oldest that has a worker of its own and wasn't picked yet; otherwise the oldest in the
+/* Picks the job to run next: the oldest that has its own worker and wasn't picked yet; otherwise the oldest in the
  * queue, if a worker is idle. Returns PICKED_OWN, PICKED_QUEUE or NONE; `job` is written if one was picked. */
 RESIL_MUST_USE uint8_t resil_pool_pick(resil_pool pool, resil_pool *back, resil_pool_job *job);
 
@@ -194,7 +194,7 @@ uint8_t resil_pool_idle_end(resil_pool pool, resil_pool *back);
 /* Closes the pool. Accepted jobs are still picked. Returns CLOSED_NOW or CLOSED_BEFORE. */
 uint8_t resil_pool_close(resil_pool pool, resil_pool *back);
 
-/* Writes the pool's numbers, all of one moment, to `counts`. Returns TOLD. */
+/* Writes the pool's numbers, all at one moment, to `counts`. Returns TOLD. */
 uint8_t resil_pool_numbers(resil_pool pool, resil_pool *back, resil_pool_counts *counts);
 
 /* Returns how many of the last events are kept now: all that have happened, up to `kept` of resil_pool_new. */

@@ -54,8 +54,8 @@ impl PoolRuleBuilder {
     ///
     /// # Errors
     ///
-    /// In this order: `CoreOutOfRange` where the core size isn't from 1 to 1,024; `MaxOutOfRange` where the greatest size
-    /// isn't from the core size to 1,024; `QueueOutOfRange`; `CallersOutOfRange`; `Memory` where memory runs out.
+    /// In this order: `CoreOutOfRange` if the core size isn't from 1 to 1,024; `MaxOutOfRange` if the maximum size isn't
+    /// from the core size to 1,024; `QueueOutOfRange`; `CallersOutOfRange`; `Memory` if out of memory.
     pub fn open(self) -> Result<PoolRule, PoolError> {
         let (core, max, queue) = (self.core, self.max, self.queue);
         let mut handle = Handle::EMPTY;
@@ -99,7 +99,7 @@ pub struct PoolRule {
 unsafe impl Send for PoolRule {}
 
 impl PoolRule {
-    /// Begins a pool of a core size from 1 to 1,024 and a greatest size from the core size to 1,024, in workers.
+    /// Returns a builder for a pool with a core size from 1 to 1,024 and a maximum size from the core size to 1,024, in workers.
     pub fn builder(core: u32, max: u32) -> PoolRuleBuilder {
         PoolRuleBuilder {
             core,
@@ -161,8 +161,8 @@ impl PoolRule {
     ///
     /// # Errors
     ///
-    /// In this order: `CoreOutOfRange` where the core size isn't from 1 to 64, or to 1,024 where the greatest size at making was
-    /// above 64; `MaxOutOfRange` where the greatest size is below the core size, or above that at making.
+    /// In this order: `CoreOutOfRange` if the core size isn't from 1 to 64, or to 1,024 if the pool was made with a maximum size
+    /// above 64; `MaxOutOfRange` if the maximum size is below the core size, or above the one that the pool was made with.
     pub fn resize(&mut self, core: u32, max: u32) -> Result<(), PoolError> {
         // SAFETY: as in `submit`.
         match unsafe { resil_pool_resize(self.handle, &raw mut self.handle, core, max) } {

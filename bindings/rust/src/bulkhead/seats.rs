@@ -77,7 +77,7 @@ impl Seat {
     }
 }
 
-/// Where a permit is held.
+/// The place where a permit is held.
 #[derive(Debug, Clone, Copy, PartialEq, Eq)]
 pub(super) enum Place {
     Seat(usize),

@@ -146,7 +146,7 @@ impl Calls {
         }
     }
 
-    // Where this thread counts, and whether it is the only one there: no two live threads have the same number.
+    // The place where this thread counts, and whether it is the only thread there: no two live threads have the same number.
     #[inline]
     fn own(&self) -> (&CallCounts, bool) {
         match self.places.get(thread_number::current()) {

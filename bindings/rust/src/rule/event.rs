@@ -40,7 +40,7 @@ impl Reply {
     }
 }
 
-/// Where a picked job comes from.
+/// The origin of a picked job.
 #[derive(Debug, Clone, Copy, PartialEq, Eq, Hash)]
 pub enum Origin {
     /// It has had a worker of its own since its submission.
@@ -58,7 +58,7 @@ pub struct Picked {
     pub work: u64,
     /// The place that it keeps until it is finished.
     pub place: u32,
-    /// Where it comes from.
+    /// Its origin.
     pub origin: Origin,
 }
 

@@ -111,10 +111,10 @@ impl ThreadPoolBuilder {
     ///
     /// # Errors
     ///
-    /// In this order: `NulInName` where the name has a byte 0; `RecordOutOfRange`; `CoreOutOfRange` where the core size isn't from 1 to
-    /// 1,024; `MaxOutOfRange` where the greatest size isn't from the core size to 1,024; `QueueOutOfRange`; `Memory` where there is none
-    /// for the library's pool, the record, the queue or the ends of jobs. What else is taken here and for each job, some hundred bytes, is
-    /// taken as everywhere in Rust: the process ends where it can't be had.
+    /// In this order: `NulInName` if the name has a byte 0; `RecordOutOfRange`; `CoreOutOfRange` if the core size isn't from 1 to 1,024;
+    /// `MaxOutOfRange` if the maximum size isn't from the core size to 1,024; `QueueOutOfRange`; `Memory` if out of memory for the
+    /// library's pool, the record, the queue or the ends of jobs. Everything else that is allocated here and for each job, some hundred
+    /// bytes, is allocated as everywhere in Rust: the process aborts if there is no memory for it.
     ///
     /// ```
     /// let pool = resil::ThreadPool::builder(2, 4).queue(10).name("letters").open()?;

@@ -29,14 +29,14 @@ pub(super) struct Crew {
     pub(super) ring: Arc<Ring>,
     /// Jobs that ended while the book was locked.
     pub(super) ends: Ends,
-    /// Where submitters that find the book locked wait. `workers` is the same for workers that have run a job.
+    /// The door where submitters wait that find the book locked. `workers` is the same for workers that have run a job.
     pub(super) submitters: Door,
     pub(super) workers: &'static Door,
     /// Set if something was submitted while a thread searched.
     pub(super) found: AtomicBool,
-    /// Where threads without a job sleep.
+    /// Threads without a job sleep here.
     pub(super) bell: Condvar,
-    /// Where joining threads sleep.
+    /// Joining threads sleep here.
     pub(super) quiet: Condvar,
     pub(super) kind: Kind,
     // Set if the pool is recorded.
