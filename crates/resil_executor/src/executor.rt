@@ -29,7 +29,7 @@ pub struct Executor<W: Drop, H: Record = NoRecord> {
     ghost sizes: { lock.table.shared.key.limits ≡ limits },
 }
 
-/// A thread submits by it, and reads the numbers. It takes no memory, and any thread may have one.
+/// The seat by which a thread submits jobs and reads the numbers. It takes no memory, and any thread may have one.
 ///
 /// ```
 /// let mut visitor = pool.visitor();
@@ -42,7 +42,7 @@ pub struct Visitor<W: Drop, H: Record = NoRecord> {
     ghost rank: { seat.me.0.rank ≡ rank.Visitor },
 }
 
-/// A thread runs jobs by it. It takes no memory.
+/// The seat by which a thread runs jobs. It takes no memory.
 ///
 /// ```
 /// let mut worker = pool.hire(&mut closer);
@@ -55,7 +55,7 @@ pub struct ExecutorWorker<W: Drop, H: Record = NoRecord> {
     ghost rank: { seat.me.0.rank ≡ rank.Worker },
 }
 
-/// It closes and resizes a pool, and hires its workers. There is one, which `open` returns.
+/// The seat that closes and resizes a pool, and hires its workers. There is one, which `open` returns.
 ///
 /// ```
 /// let worker = pool.hire(&mut closer);

@@ -87,7 +87,7 @@ pub struct View<K, E> {
     pub own: LinkedList<E>,
 }
 
-/// With this value a thread takes the lock. It has no bytes.
+/// The seat by which a thread takes the lock. It has no bytes.
 pub type LockSeat<S, K, E> = Seat<Option<S>, View<K, E>>;
 
 /// The rule of a table with one word and one slot. The state is in the slot while the word is 0.

@@ -86,7 +86,7 @@ pub struct Looks {
 }
 
 impl Looks {
-    /// For a worker that times out after `keep_alive` empty polls in a row; 0 means 1.
+    /// The polls of a worker that times out after `keep_alive` empty ones in a row, where 0 means 1.
     pub fn new(keep_alive: u32) -> Looks
         ensures { (result.keep_alive ≡ keep_alive) × (result.left ≡ keep_alive) }
     {

@@ -11,7 +11,7 @@ use std::alloc::{AllocError, Global};
 use std::marker::Model;
 use std::sync::Arc;
 
-/// A thread takes permits and gives them back with it. It shares the permits with other passes.
+/// The pass by which a thread takes permits and gives them back, together with the permits, which it shares with other passes.
 #[derive(Drop)]
 pub struct OwnedPass {
     permits: Arc<Permits, Global>,

@@ -1,4 +1,4 @@
--- The first look was the last, or it was in vain and all others came after it.
+-- The first poll was the last, or it was in vain and all others came after it.
 use Rattle.std.proofs.Common.{arith, ap, inl, inr, refl}
 use Rattle.std.specs.Prelude.{not}
 use Rattle.resil_executor.specs.Seats.{known_to}
