@@ -3,7 +3,7 @@
 //!
 //! A caller in C has a handle, which is one pointer, to a pass or a pool on the heap. A handle goes into a call by
 //! value, which empties the caller's copy, and comes back through `back`. In the logic it owns what it points to, so
-//! the clauses of the libraries below are stated again about the handle's value. The headers are in `include/`.
+//! each clause of the libraries below is stated again for the handle's value. The headers are in `include/`.
 #![tactic(auto)]
 
 mod box_parts;

@@ -54,7 +54,7 @@ module _ {W : Type 0} where
     queue = known-more log (entry_of after noted) v.waiting after.waiting queue s.queue;
   }
 
-  -- A turn that wrote an event, after the step was written down: the rule is left in its new state, and the event is noted.
+  -- A turn that wrote an event, from a step whose result is known: the rule is left as the step left it, and the event is noted.
   pub writes-by : (v known step after : RuleView W) (last : Option Note) (e : Event) → known.limits ≡ v.limits → length known.made ≡ length v.made
       → ((id : Id) → times id (ids_out known.out) + times id (ended_in (entry_of known (note.Event e) ∷ [])) ≡ times id (ids_out v.out) + times id (picked_in (entry_of known (note.Event e) ∷ [])))
       → IsGrown (job_of (note.Event e) (work_of known (note.Event e))) v.unpicked known.unpicked → IsGrown (job_of (note.Event e) (work_of known (note.Event e))) v.waiting known.waiting

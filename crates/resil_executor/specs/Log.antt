@@ -44,7 +44,7 @@ module _ {W : Type 0} where
   abbrev pub entry_of : RuleView W → Note → Entry W
   entry_of v noted = record { note = noted; payload = work_of v noted }
 
-  -- what a turn wrote, by the rule after it and what it noted
+  -- what a turn wrote, given the rule after the turn and what the turn noted
   abbrev pub entries_of : RuleView W → Option Note → List (Entry W)
   entries_of v None = []
   entries_of v (Some noted) = entry_of v noted ∷ []

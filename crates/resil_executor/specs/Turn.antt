@@ -56,11 +56,11 @@ module _ {W : Type 0} where
     pub ended : ended_id noted ≡ None
     pub known : (limits : Sizes) (log : List (Entry W)) → StandsFor limits log before → Contains (accepted_in log) (id, work)
 
-  -- no job may be picked, or as many run as the current maximum size
+  -- no job may be picked, or as many run as the current maximum size allows
   abbrev pub HasNoneToRun : RuleView W → Type 0
   HasNoneToRun v = HasNoneToPick v ⊎ (v.max ≤ busy v)
 
-  -- a job may begin: one that was let in with its own worker waits for it, or fewer run than the current maximum size
+  -- a job may begin: one that was let in with its own worker waits for it, or fewer run than the current maximum size allows
   abbrev pub MayBegin : RuleView W → Type 0
   MayBegin v = (0 < length v.unpicked) ⊎ (busy v < v.max)
 

@@ -1,4 +1,4 @@
-//! The parts below a pool of your own jobs: turns by hand, with the seats that see what was written, and the jobs that a worker picks and ends.
+//! The parts of which a `WorkPool` is made: turns by hand, with the seats that see what was written, and the jobs that a worker picks and ends.
 
 pub use crate::executor::{ExecutorWorker, Visitor};
 pub use crate::job::{PickedJob, RanJob};

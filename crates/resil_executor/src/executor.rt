@@ -1,4 +1,4 @@
-//! A pool, and what takes turns at it: each of these has a seat at the pool's lock.
+//! A pool, and its visitors, workers and closer: each has a seat at the pool's lock.
 ghost use Rattle.std.specs.Prelude.{◌≡◌, []};
 ghost use Rattle.resil_lock.specs.declared.protocol.Phase.TheVariants.{Idle};
 ghost use Rattle.resil_lock.specs.declared.protocol.Rank.TheVariants as rank;

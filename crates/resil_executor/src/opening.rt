@@ -3,7 +3,7 @@
 use resil_rule::Sizes;
 use std::snapshot::Snapshot;
 
-/// What is fixed when a pool is opened: the key of its lock.
+/// The key of a pool's lock: what is fixed when the pool is opened.
 #[derive(Drop)]
 pub struct Opening<H> {
     /// The sizes.

@@ -2,7 +2,7 @@
 //!
 //! The record has room for all events that may come of what the rule has: the finish of each job that runs, the
 //! take and the finish of each job that waits, the end of each worker, and the closing. A submission and a resize
-//! make room for more before they change anything, so only these two can be refused because it is out of memory.
+//! make room for more before they change anything, so only these two can be refused with `Memory`.
 ghost use Rattle.std.specs.Prelude.{◌≡◌, ◌≤◌, ◌⊎◌, ◌+◌, ◌<◌, [], ◌++◌, ◌∷◌, List, true, false, suc, length, slice_get, IfOk, IfErr, IfSome, IfNone, OnOk, OnErr, IsTrue, ◌↔◌, Some, None as nothing};
 ghost use Rattle.std.specs.Bool.{OnTrue, OnFalse};
 ghost use Rattle.resil_rule.specs.History.{is_among};
@@ -25,7 +25,7 @@ use resil_rule::{AdmitError, Event, Id, Origin, Record, Refusal, Reply, Rule, Si
 use resil_task::by_hand::Run;
 use std::alloc::{AllocError, Global};
 
-// The caller of all submissions of a pool. In a text of events, callers have names from 1 on.
+// The caller of all submissions of a pool. A text of events numbers its callers from 1.
 const CALLER: u16 = 1;
 
 /// Why a job isn't accepted.
@@ -173,8 +173,8 @@ impl<W: Drop, H: Record> State<W, H> {
         })
     }
 
-    // Whether no job is taken from the queue because as many run as the current maximum size. A job with its own worker was let in
-    // under the sizes at its submission.
+    // Whether no job is taken from the queue because as many run as the current maximum size allows. A job with its own worker was
+    // let in under the sizes at its submission.
     fn holds_back(&self) -> bool
         ensures held { OnTrue result (self.now.rule.max ≤ busy self.now.rule) }
         ensures free { OnFalse result (MayBegin self.now.rule) }

@@ -35,7 +35,7 @@ pub fn ended_was_picked<C, W: Run<C>, H>()
     ensures { EndedWasPicked (Opening H) W.HasRun }
 {}
 
-/// Neither a visitor's seat nor the closer's may have written a pick, so no body can lose a job by such a seat.
+/// Neither a visitor's seat nor the closer's can have written a pick, so no body can lose a job through such a seat.
 ///
 /// ```
 /// only_workers_pick::<Errand>(); // From here on a proof has OnlyWorkersPick.
@@ -66,7 +66,7 @@ pub fn end_stays()
 {}
 
 /// Numbers show the end: if a pool is closed, no job waits and none runs, then each accepted job is finished. The
-/// numbers that a visitor reads belong to a history that begins with its own submissions.
+/// history that a visitor's numbers belong to begins with what the visitor had seen, including its own submissions.
 ///
 /// ```
 /// nothing_left_is_over(); // From here on a proof has NothingLeftIsOver.

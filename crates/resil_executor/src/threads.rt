@@ -301,9 +301,10 @@ fn lone_workers(alloc: Global, threads: u32, keep_alive: u32) -> Workers<()>
     }
 }
 
-/// Lets as many threads as the maximum size work for the pool, while `user` runs on this thread. Then it closes the pool, waits for the threads,
-/// and ends the pool. If a thread can't be started it is left out. If none can be started, or if it is out of memory for them, `user` isn't run
-/// and is returned. The pool is ended in that case too. When this call returns, each accepted job is finished.
+/// Lets as many threads as the maximum size work for the pool, while `user` runs on this thread. Then it closes the pool,
+/// waits for the threads, and ends the pool. If a thread can't be started it is left out. If none can be started, or if out
+/// of memory for the threads, `user` isn't run and is returned. The pool is ended in that case too. When this call returns,
+/// each accepted job is finished.
 ///
 /// After `keep_alive` empty polls in a row an idle worker of the rule may end, as for `Executor::work`.
 ///

@@ -144,7 +144,7 @@ impl<W: Drop, H: Record> Executor<W, H> {
 
     /// Sets the core size and the maximum size, in workers, from here on, in one turn (ThreadPoolExecutor class documentation, core and
     /// maximum pool sizes). It starts and ends no worker. If there are more workers than the maximum size, the surplus holds back: no job
-    /// is taken from the queue while as many run as the maximum size. If the maximum size grows, a worker that sleeps is woken.
+    /// is taken from the queue while as many run as the maximum size allows. If the maximum size grows, a worker that sleeps is woken.
     ///
     /// # Errors
     ///

@@ -17,8 +17,8 @@ use resil_task::by_hand::Run;
 use std::sync::Wait;
 
 impl<W: Drop, H: Record> Executor<W, H> {
-    /// Polls for a job, in one turn. If there is none, or as many run as the maximum size after a resize, an idle worker may end: if
-    /// the pool is closed, or if this worker is `timed_out` and there are more workers than the core size.
+    /// Polls for a job, in one turn. If there is none, or as many run as the maximum size allows after a resize, an idle worker may
+    /// end: if the pool is closed, or if this worker is `timed_out` and there are more workers than the core size.
     ///
     /// ```
     /// if let Look::Found(picked) = pool.look(&rt, &mut worker, false) {

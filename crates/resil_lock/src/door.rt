@@ -4,11 +4,12 @@
 //! each time twice as long, and later sleeps. The seat that releases the lock wakes one that sleeps, but not at each
 //! release: a wake-up takes as long as several turns, and moves the machine to the cache of another processor. So the
 //! lock is left to the seats that are awake, and a sleeper is called in only after many releases, or once a worker
-//! finds no job. The seat that is called in doesn't get the lock by that: any seat may take it first.
+//! finds no job. Being called in doesn't give that seat the lock: any seat may take it first.
 //!
-//! A seat announces that it will sleep before it looks at the lock for the last time, and a holder releases the lock before it checks
-//! whether a seat sleeps. So one of the two sees the other. This isn't proved. The seats that are awake may also leave before they have
-//! released the lock often enough. So a sleep ends after at most 100 microseconds.
+//! A seat announces that it will sleep before it looks at the lock for the last time, and a holder releases the lock
+//! before it checks whether a seat sleeps. So one of the two sees the other. This isn't proved. The seats that are
+//! awake may also leave before they have released the lock often enough. So a sleep ends after at most 100
+//! microseconds.
 
 use crate::apart::Apart;
 use std::sync::Wait;
@@ -24,7 +25,7 @@ const RELEASES: u64 = 1_024;
 // The longest sleep, in microseconds.
 const LONGEST_SLEEP: u64 = 100;
 
-/// What the seats that wait for the lock sleep on. Each word has its own cache line.
+/// Seats that wait for the lock sleep on its words. Each word has its own cache line.
 #[derive(Drop)]
 pub(crate) struct Door {
     // 0 if no seat sleeps, or else the number of the next release since one went to sleep, counted from 1.
@@ -82,7 +83,8 @@ impl Door {
         openings
     }
 
-    /// Sleeps for at most 100 microseconds, or not at all if a seat was woken since that count was read. Other seats may sleep after that.
+    /// Sleeps for at most 100 microseconds, or not at all if a seat was woken since that count was read. Other seats
+    /// may still be asleep after that, which it notes.
     pub(crate) fn sleep<R: Wait>(&self, rt: &R, openings: u64) {
         let longest = Duration::from_micros(LONGEST_SLEEP);
         self.openings

@@ -15,6 +15,6 @@ pub enum Note {
 pub struct Logged<P> {
     /// What the turn noted.
     pub note: Note,
-    /// What came with it: for a submission, the work.
+    /// The payload of the entry: for a submission, its work.
     pub payload: P,
 }

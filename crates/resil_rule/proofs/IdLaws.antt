@@ -31,7 +31,7 @@ among-unfinished done a b id =
     any-filter_same (is_same_id id) (λ x. not (is_among x done)) (not (is_among id done)) (λ x same. ap (λ (y : Id). not (is_among y done)) (sym (same_id-equal id x same))) (a ++ b)
     ∙ ap (λ t. not (is_among id done) && t) (list_any-append (is_same_id id) a b)
 
--- an id among the first ones of a list is among all
+-- an id among the first items of a list is in the list
 among-take : (n : ℕ) (id : Id) (xs : List Id) → is_among id (take n xs) ≡ true → is_among id xs ≡ true
 among-take n id xs h =
     let whole : is_among id (take n xs ++ drop n xs) ≡ true = list_any-append (is_same_id id) (take n xs) (drop n xs) ∙ rw h refl in

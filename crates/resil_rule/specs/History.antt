@@ -101,7 +101,7 @@ waiting history = drop (length (taken history)) (queued history)
 abbrev pub running : List Event → List Id
 running history = unfinished history (started history ++ taken history)
 
--- whether the pool is closed: the history has its closing
+-- whether the pool is closed, that is, whether the history has a closing
 abbrev pub is_closed : List Event → Bool
 is_closed history = list_any is_close history
 

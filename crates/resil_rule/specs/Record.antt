@@ -2,7 +2,7 @@
 use Rattle.std.specs.Prelude.{ℕ, ◌≡◌, ◌-◌, ◌^◌, List, length, drop, min}
 use Rattle.resil_rule.specs.declared.event.Event.{Event}
 
--- all events, oldest first, and for how many more there is memory
+-- all events, oldest first, and how many more there is memory for
 pub record AllView : Type 0 where
   pub events : List Event
   pub room : ℕ

@@ -30,7 +30,7 @@ pub enum AdmitError {
     /// The submission's number isn't its caller's next one.
     #[error("not the caller's next number")]
     WrongNumber,
-    /// No job with this id was picked and isn't finished.
+    /// No unfinished job with this id was picked.
     #[error("no job with this id is running")]
     NotOut,
     /// The run belongs to another plan than the one that was submitted under this id.

@@ -3,7 +3,7 @@
 //! `Event` and `Limits` are the words. `specs/History.antt` says what a history of events means, and
 //! `specs/Admission.antt` says which event may come next. A `Rule` keeps what it needs to decide that, and no
 //! history: no event makes it take more memory. `audit` judges a history in one pass, with a rule whose jobs
-//! have no content, and `answer_to` says why an event isn't carried out. `Timed` is an event with its time.
+//! carry no work, and `answer_to` says why an event isn't carried out. `Timed` is an event with its time.
 //!
 //! The rule is that of the class documentation of `java.util.concurrent.ThreadPoolExecutor`. The comment on
 //! `Rule::next_reply` states it.

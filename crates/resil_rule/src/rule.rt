@@ -89,9 +89,9 @@ impl<W: Drop> Model for Rule<W> {
 }
 
 impl<W: Drop> Rule<W> {
-    /// The rule of an open pool of these sizes, without workers or jobs, for the callers from 0 to `callers -
-    /// 1`. At most 65,536 callers can be named. It takes the room for a full queue, for as many jobs as there
-    /// may be workers, and for the count of each caller's submissions.
+    /// The rule of an open pool of these sizes, without workers or jobs, for the callers from 0 to
+    /// `callers - 1`. At most 65,536 callers can be named. It takes the room for a full queue, for as many
+    /// jobs as there may be workers, and for the count of each caller's submissions.
     ///
     /// # Errors
     ///
@@ -272,8 +272,8 @@ impl<W: Drop> Rule<W> {
         })
     }
 
-    /// Ends the run of a job that is out. Returns whether the job was out: whether `pick` gave it with that
-    /// place, and it isn't finished yet.
+    /// Ends the run of a job that is out. Returns whether the job was out, that is, whether `pick` returned
+    /// it with this place and it isn't finished yet.
     ///
     /// ```
     /// assert!(rt; rule.finish(picked.slot));

@@ -1,7 +1,7 @@
 //! The jobs that are out, each at its own place.
 //!
 //! `put` gives the free place that was cleared last, and a place is free again once it is cleared. So a job is found by its place at
-//! once. The free places are kept in a ring, so neither call searches. All places exist from the making on.
+//! once. The free places are kept in a ring, so neither `put` nor `clear` searches. All places exist from the making on.
 
 ghost use Rattle.std.specs.Prelude.{◌≡◌, ◌↔◌, ◌<◌, ◌+◌, List, Option, None as nothing, Some, false, length, position, replicate, slice_get, slice_set, IsTrue, IfOk, IfSome, IfNone};
 ghost use Rattle.std.specs.Bool.{OnTrue, OnFalse};

@@ -1,10 +1,10 @@
 //! The audit of a history: whether it is legal, and if not, the first event that isn't.
 //!
-//! An audit compares each event with the state that the rule has after the events before it. The jobs of that rule have no content.
-//! A job with its own worker is picked at once, so all jobs that run are out. The events before the current one are always legal,
-//! so the first event that may not follow them is the first illegal one. The audit is one pass. For each event it looks at most
-//! through the places of the jobs that are out, as many as the maximum size. The first submission of a new caller allocates the
-//! room to count that caller.
+//! An audit compares each event with the state that a rule has after the events before it. The jobs of that
+//! rule carry no work. A job with its own worker is picked at once, so all jobs that run are out. The events
+//! before the current one are always legal, so the first event that may not follow them is the first illegal
+//! one. The audit is one pass. For each event it looks at most through the places of the jobs that are out,
+//! as many as the maximum size. The first submission of a new caller allocates the room to count that caller.
 
 ghost use Rattle.std.specs.Prelude.{◌≡◌, ◌<◌, [], suc, length, IfOk, IfErr};
 ghost use Rattle.std.specs.Bool.{OnTrue, OnFalse};

@@ -101,7 +101,8 @@ impl Book {
         by_rule(self.submit_next(id, work))
     }
 
-    // The id of a caller's next submission. After the largest number of 64 bits there is none; this id is then refused.
+    // The id of a caller's next submission. After the largest number of 64 bits there is none, and the id
+    // that it returns is refused.
     pub(crate) fn next_id(&self, caller: u16) -> Id
         ensures { result ≡ next_id self.now caller }
     {

@@ -1,6 +1,6 @@
 //! The calls for C.
 //!
-//! C needn't ensure anything for an interval. For an interval that no call has made they return 255, and write nothing.
+//! C needn't ensure anything for an interval. For an interval that no call has made a call returns 255, and writes nothing.
 ghost use Rattle.std.specs.Prelude.{◌≡◌, ◌≢◌, ◌<◌, ◌≤◌, ◌↔◌, ◌⊎◌, Some};
 ghost use Rattle.resil_retry.specs.declared.interval.Backoff.TheVariants.{Fixed, Exponential};
 ghost use Rattle.resil_retry.specs.Interval.{interval as wait_after, interval_limit, IsBackoff, IsMultiplier};
@@ -28,8 +28,8 @@ pub extern "C" fn resil_retry_fixed(ms: u64, out: &mut RetryInterval) -> u8
     0
 }
 
-/// Makes an interval that grows, and writes it to `out`: `initial` milliseconds after the first attempt, multiplied by `numerator /
-/// denominator` from attempt to attempt, truncated to whole milliseconds at each step, and at most `cap` milliseconds.
+/// Makes an interval that grows, and writes it to `out`: `initial` milliseconds after the first attempt, multiplied by
+/// `numerator / denominator` from attempt to attempt, truncated to whole milliseconds at each step, and at most `cap` milliseconds.
 ///
 /// 0: made. In this order: 1: `initial` or `cap` is above 31,536,000,000 ms. 2: not 1 <= `denominator` <= `numerator`
 /// <= 1,000. 3: `cap` is below `initial`. After 1 to 3 `out` is unchanged.

@@ -1,4 +1,4 @@
--- The state in the slot and the first seat keep the rule.
+-- The rule holds for the state in the slot and the first seat.
 use Rattle.std.proofs.Common.{◌≡◌, List, [], ◌∷◌, Option, Some, map, sym, subst, rules}
 use mathlib.Core.Option as m
 use Rattle.resil_lock.specs.Lock.{LockInvariant, first_view}
