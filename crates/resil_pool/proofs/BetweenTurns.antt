@@ -9,7 +9,7 @@ use Rattle.resil_lock.specs.declared.protocol.Phase.{Phase}
 use Rattle.resil_lock.specs.declared.protocol.Phase.TheVariants.{Joined}
 use Rattle.resil_lock.specs.Lock.{holds_lock, is_there}
 use Rattle.resil_lock.specs.BetweenSteps.{IsSeatAt, HoldsBetweenSteps}
-use Rattle.resil_pool.specs.Words.{LoggedEvent, Opening, State}
+use Rattle.resil_pool.specs.Words.{LoggedEvent, PoolOpening, PoolState}
 use Rattle.resil_pool.specs.Lock.{is_own_note, is_own, own_in, View, StandsFor, MayHaveWritten}
 use Rattle.resil_pool.proofs.Logs.{numbering, due-runs}
 use Rattle.resil_pool.specs.BetweenTurns.{StandWithTheirCallers, HoldsBetweenTurns}
@@ -41,7 +41,7 @@ module _ {A : Type 0} where
     Contains-from_filter : (xs : List A) (y : A) → Contains (filter p xs) y → Contains xs y
     Contains-from_filter xs y c = All-contains (Contains xs) (filter p xs) y (All-filter p (Contains xs) xs (All-contains_itself xs)) c
 
-module _ (opening : Opening) (words : List ℕ) (homes : List (m.Option (Option State))) (views : List View) (k : HoldsBetweenSteps StandsFor MayHaveWritten is_own opening words homes views) where
+module _ (opening : PoolOpening) (words : List ℕ) (homes : List (m.Option (Option PoolState))) (views : List View) (k : HoldsBetweenSteps StandsFor MayHaveWritten is_own opening words homes views) where
   submissions : StandWithTheirCallers k.log views
   submissions submission id reply c is =
       let mine_is : is_own id.caller submission ≡ true = ap (is_own_note id.caller) is ∙ eq-eqb id.caller id.caller refl in
@@ -69,8 +69,8 @@ module _ (opening : Opening) (words : List ℕ) (homes : List (m.Option (Option 
         legal = k.stood.1.legal;
         longest = k.longest;
         at_home = λ state at. (k.at_home state at).home;
-        holder = λ index v at is. record { sized = ap (λ (o : Opening). o.limits) (k.keyed index v at (holder_there v.phase is)); whole = k.holder index v at is };
-        opened = λ index v at is. ap (λ (o : Opening). o.limits) (k.keyed index v at is);
+        holder = λ index v at is. record { sized = ap (λ (o : PoolOpening). o.limits) (k.keyed index v at (holder_there v.phase is)); whole = k.holder index v at is };
+        opened = λ index v at is. ap (λ (o : PoolOpening). o.limits) (k.keyed index v at is);
         numbered = n.numbered;
         apart = λ index other v w at at' differ is is' same. differ (sym (n.numbered index v at is) ∙ (same ∙ n.numbered other w at' is'));
         own = n.all_own;

@@ -11,7 +11,7 @@ use Rattle.resil_lock.specs.declared.protocol.Rank.{Rank}
 use Rattle.resil_lock.proofs.LogLaws.{ended-is, covered-ends}
 pub use Rattle.resil_lock.proofs.LogLaws.{events_in-append}
 use Rattle.resil_lock.specs.Lock.{IsCovered, IsNumbering}
-use Rattle.resil_pool.specs.Words.{taken, taken_id, finished, times, is_among, started, running, Id, IsLegal, Sizes, MachineView, jobs_in_flight, LoggedEvent, Opening}
+use Rattle.resil_pool.specs.Words.{taken, taken_id, finished, times, is_among, started, running, Id, IsLegal, Sizes, MachineView, jobs_in_flight, LoggedEvent, PoolOpening}
 use Rattle.resil_pool.specs.Lock.{events_in, picked_in, ended_in, is_own, own_in, plans_in, logged_plan, IsMachineOf, MayHaveWritten, starts_of, EndsOnlyPicked, IsDue}
 
 pub own_in-append : (c : ℕ) (xs ys : List LoggedEvent) → own_in c (xs ++ ys) ≡ own_in c xs ++ own_in c ys
@@ -42,7 +42,7 @@ due-out limits m id legal due =
     among-some id (jobs_in_flight m) (omega (arith, left, due, one id))
 
 -- the jobs that a log has as ended are those of the machine that stands for it
-module _ (opening : Opening) (log : List LoggedEvent) (m : MachineView) (is : IsMachineOf opening log m) where
+module _ (opening : PoolOpening) (log : List LoggedEvent) (m : MachineView) (is : IsMachineOf opening log m) where
   ended-are : (id : Id) → times id (ended_in log) ≡ times id (finished m.history)
   ended-are id = ap (times id) (ended-is log) ∙ ap (λ es. times id (finished es)) (sym is.home.history)
 
@@ -54,7 +54,7 @@ module _ (opening : Opening) (log : List LoggedEvent) (m : MachineView) (is : Is
   due-runs id due = subst (λ es. is_among id (running es) ≡ true) is.home.history (in_flight-running m.history m.picked id (due-out opening.limits m id legal-here (omega (arith, due, is.picks id, ended-are id, one id))))
 
 -- a seat among all that wrote the log, which a machine stands for
-module _ (opening : Opening) (log own : List LoggedEvent) (m : MachineView) (is : IsMachineOf opening log m) (covered : IsCovered MayHaveWritten log own) where
+module _ (opening : PoolOpening) (log own : List LoggedEvent) (m : MachineView) (is : IsMachineOf opening log m) (covered : IsCovered MayHaveWritten log own) where
   -- the log without what the seat wrote has no more ends of a job than picks
   others : (id : Id) → times id (finished m.history) + times id (picked_in own) ≤ times id (starts_of m) + times id (taken m.history) + times id (ended_in own)
   others id = omega (arith, covered-ends MayHaveWritten log own covered (λ who entries fits. fits.balanced) id, is.picks id, ended-are opening log m is id)

@@ -3,7 +3,7 @@ use Rattle.std.proofs.Common.{◌≡◌, ◌≢◌, ne_eqb, ℕ, ◌+◌, ◌≤
 use Rattle.std.specs.List.{cons_option}
 use Rattle.std.proofs.lemmas.List.{map-append, length-map}
 use Rattle.resil_rule.specs.declared.error.AdmitError.TheVariants as cause
-use Rattle.resil_pool.specs.Words.{AdmitError, TableId, PlanView, is_submit_of, submissions, next_number, IsLegal, MachineView, IsSubmitRefusal, Id, Reply, Event, Submit, Close, Resized, LoggedEvent, Note, Opening, Receipt}
+use Rattle.resil_pool.specs.Words.{AdmitError, TableId, PlanView, is_submit_of, submissions, next_number, IsLegal, MachineView, IsSubmitRefusal, Id, Reply, Event, Submit, Close, Resized, LoggedEvent, Note, PoolOpening, Receipt}
 use Rattle.resil_lock.specs.declared.log.Note.TheVariants as note
 use Rattle.resil_pool.specs.Lock.{log_event, event_of, events_in, closer_number, is_own_event, is_own_note, own_in, SeesOwn, View, LockSeatState, MayHaveWritten, IsMoved}
 use Rattle.resil_pool.specs.Resize.{SeesResize}
@@ -39,8 +39,8 @@ module _ {old : LockSeatState} {m : MachineView} {entries : List LoggedEvent} {m
     member = ap (λ (v : View). v.rank) (view-now t) ∙ is.member;
     numbered = ap (λ (v : View). v.number) (view-now t) ∙ is.numbered;
     not_closer = is.not_closer;
-    within = subst (λ (key : Opening). number ≤ key.callers) (sym (key-now t)) is.within;
-    legal = subst (λ (key : Opening). IsLegal key.limits (events_in new.0.seen)) (sym (key-now t)) legal;
+    within = subst (λ (key : PoolOpening). number ≤ key.callers) (sym (key-now t)) is.within;
+    legal = subst (λ (key : PoolOpening). IsLegal key.limits (events_in new.0.seen)) (sym (key-now t)) legal;
     own = ap (λ (j : ℕ). own_in j new.0.seen) (sym is.numbered) ∙ own;
   }
 

@@ -8,7 +8,7 @@ use Rattle.resil_rule.proofs.TimesLaws.{times-append}
 use Rattle.resil_lock.specs.declared.protocol.Phase.TheVariants.{Holding}
 use Rattle.resil_lock.specs.Lock.{IsNumbering, IsCovered, holder_view, left_view}
 use Rattle.resil_lock.proofs.LogLaws.{pick_of, end_of, times-more}
-use Rattle.resil_pool.specs.Words.{IsPrefix, PlanView, Sizes, IsAllowed, IsLegal, is_among, started, started_id, taken, taken_id, times, Id, Event, Submit, Take, Close, MachineView, jobs_in_flight, Row, LoggedEvent, Note, Opening, State, TableId}
+use Rattle.resil_pool.specs.Words.{IsPrefix, PlanView, Sizes, IsAllowed, IsLegal, is_among, started, started_id, taken, taken_id, times, Id, Event, Submit, Take, Close, MachineView, jobs_in_flight, Row, LoggedEvent, Note, PoolOpening, PoolState, TableId}
 use Rattle.resil_lock.specs.declared.log.Note.TheVariants as note
 use Rattle.resil_pool.specs.declared.lock.logged_event.Carried.{Carried}
 use Rattle.resil_pool.specs.Lock.{NamesCaller, AllNameCallers, log_event, events_in, picked_in, ended_in, closer_number, is_own_note, is_own, own_in, plans_in, plan_entry, runs_in, SeesMore, SeesOwn, View, LockSeatState, IsMachineOf, MayHaveWritten, starts_of, told, IsDue, Tallies, EndsOnlyPicked, IsResting, MayWrite, IsStep, IsMoved, WritesAtMost, SeesClosing, WroteCloseAtMost, TookATurn}
@@ -60,7 +60,7 @@ pub either : {entries a b : List LoggedEvent} (P : List LoggedEvent → Type 0) 
 either P one other is = ⊎_elim (λ e. subst P (sym e) one) (λ e. subst P (sym e) other) is
 
 -- what the lock tells a seat that takes it
-abbrev pub Took : TableId → TableId → LockSeatState → LockSeatState → State → Type 0
+abbrev pub Took : TableId → TableId → LockSeatState → LockSeatState → PoolState → Type 0
 Took table table' old me state = record {
   source : table' ≡ table;
   key : me.0.key ≡ old.0.key;
@@ -76,20 +76,20 @@ Took table table' old me state = record {
 }
 
 -- so it has a turn; the state that it took was lent out of its block
-pub has-turn : {table table' : TableId} {me : LockSeatState} {lent taken : State} (old : LockSeatState) → lent ≡ taken → Took table table' old me taken → HasTurn old lent.machine me
-has-turn {me = me} {taken = taken} old same t = subst (λ (s : State). HasTurn old s.machine me) (sym same) (record {
+pub has-turn : {table table' : TableId} {me : LockSeatState} {lent taken : PoolState} (old : LockSeatState) → lent ≡ taken → Took table table' old me taken → HasTurn old lent.machine me
+has-turn {me = me} {taken = taken} old same t = subst (λ (s : PoolState). HasTurn old s.machine me) (sym same) (record {
   view = t.view;
   slot = t.slot;
   begins = t.begins;
   same_own = t.same_own numbering;
-  home = subst (λ (o : Opening). IsMachineOf o me.0.seen taken.machine) t.key t.home;
+  home = subst (λ (o : PoolOpening). IsMachineOf o me.0.seen taken.machine) t.key t.home;
   fits = subst (λ (v : View). MayHaveWritten v.rank v.own) t.view t.fits;
   out = subst (λ (xs : List LoggedEvent). (id : Id) → IsDue id xs → is_among id (jobs_in_flight taken.machine) ≡ true) t.own (due-job me.0.key me.0.seen me.0.own taken.machine t.home t.covered);
   few = few-job me.0.key me.0.seen me.0.own taken.machine t.home t.covered me.0.rank t.fits;
 })
 
 -- what the turn made of the state, and wrote
-pub acted : {table table' : TableId} {me : LockSeatState} {lent taken : State} (old : LockSeatState) (new : State) → lent ≡ taken → Took table table' old me taken → IsMoved lent.machine (told new) new.machine → (MayHaveWritten old.0.rank old.0.own → MayHave old (told new))
+pub acted : {table table' : TableId} {me : LockSeatState} {lent taken : PoolState} (old : LockSeatState) (new : PoolState) → lent ≡ taken → Took table table' old me taken → IsMoved lent.machine (told new) new.machine → (MayHaveWritten old.0.rank old.0.own → MayHave old (told new))
     → Acted old lent.machine me (told new) new.machine
 acted old new same t moved may = let took = has-turn old same t in record { took = took; moved = moved; wrote = may took.fits }
 
@@ -102,7 +102,7 @@ event-picked payload (Take id) = refl
 event-picked payload _ = refl
 
 -- the log with what a turn wrote is that of the machine that it left
-step-stands : (opening : Opening) (log : List LoggedEvent) (m m' : MachineView) (number : ℕ) (plan : Option PlanView) (ended : Option Row) (written : Note) → IsMachineOf opening log m → IsStep plan m written m' → MayWriteNote opening.callers number written
+step-stands : (opening : PoolOpening) (log : List LoggedEvent) (m m' : MachineView) (number : ℕ) (plan : Option PlanView) (ended : Option Row) (written : Note) → IsMachineOf opening log m → IsStep plan m written m' → MayWriteNote opening.callers number written
     → IsMachineOf opening (log ++ record { note = written; payload = record { plan = plan; ended = ended } } ∷ []) m'
 step-stands opening log m m' number plan ended (note.Event e) is step own =
     let entry : LoggedEvent = record { note = note.Event e; payload = record { plan = plan; ended = ended } } in
@@ -152,7 +152,7 @@ step-stands opening log m m' number plan ended (note.Started id) is step own =
       within = omega (arith, inside, picked, same);
     }
 
-stands : (opening : Opening) (log : List LoggedEvent) (m m' : MachineView) (number : ℕ) (entries : List LoggedEvent) → IsMachineOf opening log m → IsMoved m entries m' → MayWriteEach opening.callers number entries → IsMachineOf opening (log ++ entries) m'
+stands : (opening : PoolOpening) (log : List LoggedEvent) (m m' : MachineView) (number : ℕ) (entries : List LoggedEvent) → IsMachineOf opening log m → IsMoved m entries m' → MayWriteEach opening.callers number entries → IsMachineOf opening (log ++ entries) m'
 stands opening log m m' number [] is moved own = subst (λ (x : List LoggedEvent × MachineView). IsMachineOf opening x.0 x.1) (λ i. (sym (append-nil log) i, sym moved i)) is
 stands opening log m m' number (entry ∷ []) is moved own = step-stands opening log m m' number entry.payload.plan entry.payload.ended entry.note is moved own.0
 stands opening log m m' number (entry ∷ next ∷ entries) is moved own = absurd moved
@@ -206,7 +206,7 @@ ends-none old entries fits may ends = record { may = may; due = λ id. let b = f
 pub may-close : (old : LockSeatState) (entries : List LoggedEvent) → MayHaveWritten old.0.rank old.0.own → old.0.number ≡ closer_number → WritesAtMost Close entries → MayHave old entries
 may-close old entries fits first closes = either (MayHave old) (ends-none old [] fits tt refl) (ends-none old (log_event None Close ∷ []) fits (first, tt) refl) closes
 
-pub acted-close : {table table' : TableId} {me : LockSeatState} {lent taken : State} (old : LockSeatState) (new : State) → lent ≡ taken → Took table table' old me taken → IsMoved lent.machine (told new) new.machine → old.0.number ≡ closer_number → WritesAtMost Close (told new)
+pub acted-close : {table table' : TableId} {me : LockSeatState} {lent taken : PoolState} (old : LockSeatState) (new : PoolState) → lent ≡ taken → Took table table' old me taken → IsMoved lent.machine (told new) new.machine → old.0.number ≡ closer_number → WritesAtMost Close (told new)
     → Acted old lent.machine me (told new) new.machine
 acted-close old new same t moved first closes = acted old new same t moved (λ fits. may-close old (told new) fits first closes)
 
@@ -298,7 +298,7 @@ pub closer-stays : {old : LockSeatState} {m : MachineView} {entries : List Logge
 closer-stays {new = new} t is = record {
   rest = rests-now t;
   first = ap (λ (v : View). v.number) (view-now t) ∙ is.first;
-  legal = subst (λ (key : Opening). IsLegal key.limits (events_in new.0.seen)) (sym (key-now t)) (home-now t).legal;
+  legal = subst (λ (key : PoolOpening). IsLegal key.limits (events_in new.0.seen)) (sym (key-now t)) (home-now t).legal;
 }
 
 pub same-source : {old : LockSeatState} {m : MachineView} {entries : List LoggedEvent} {m' : MachineView} {new : LockSeatState} (table table' : TableId) → Turned old m entries m' new → table' ≡ table → source_of table' new ≡ source_of table old

@@ -13,7 +13,7 @@ use Rattle.resil_lock.specs.Work.{AfterRounds, OnFound, OnNothing, OnOver}
 use Rattle.resil_lock.proofs.RoundLaws.{after-rounds}
 use Rattle.resil_permit.proofs.Log.Prefixes.{prefix_trans}
 use Rattle.resil_pool.specs.Words.{PlanView, RunView, Asked, is_same_id, MachineView, plan_of, Accepted, Id, Take, IdleEnd, Row, LoggedEvent}
-use Rattle.resil_pool.specs.declared.worker.AtWork.{AtWork}
+use Rattle.resil_pool.specs.declared.worker.WorkerRounds.{WorkerRounds}
 use Rattle.resil_pool.specs.Lock.{log_event, start_of, finish_of, plans_in, plan_entry, runs_in, LockSeatState, IsDue, Tallies, Takes, WritesAtMost}
 use Rattle.resil_pool.proofs.Logs.{plans_in-append}
 use Rattle.resil_pool.proofs.TurnLaws.{HasTurn, MayHave, Turned, either, IsQuiet, takes-now, runs-now, tallies-now}
@@ -136,13 +136,13 @@ run_takes-more Between first now next before runs after takes between takes' id 
 -- what all rounds of a worker leave, by what each of them does
 module _ {P H : Type 0} (Between : P → List Asked → P → Type 0) (held : P → ℕ → ℕ) where
   -- what one round leaves of a worker at work
-  abbrev HasGone : AtWork P H → AtWork P H → Type 0
+  abbrev HasGone : WorkerRounds P H → WorkerRounds P H → Type 0
   HasGone x y =
       (y.pool ≡ x.pool) × (y.seat.ghost_name ≡ x.seat.ghost_name) × (y.permitter.ghost_name ≡ x.permitter.ghost_name) × (y.seat.now.table_id ≡ x.seat.now.table_id)
       × HasMadeRound Between held x.permitter.now y.permitter.now x.seat.now.me.0 y.seat.now.me.0
 
   module _ (none : (p : P) → Between p [] p) (append : (p q r : P) (front back : List Asked) → Between p front q → Between q back r → Between p (front ++ back) r) where
-    stays : (x : AtWork P H) → HasWorked Between held x x
+    stays : (x : WorkerRounds P H) → HasWorked Between held x x
     stays x = record {
       pool = refl;
       seat = refl;
@@ -154,7 +154,7 @@ module _ {P H : Type 0} (Between : P → List Asked → P → Type 0) (held : P 
       holds = λ id. refl;
     }
 
-    both : (x y z : AtWork P H) → HasWorked Between held x y → HasGone y z → HasWorked Between held x z
+    both : (x y z : WorkerRounds P H) → HasWorked Between held x y → HasGone y z → HasWorked Between held x z
     both x y z a b = record {
       pool = b.0 ∙ a.pool;
       seat = b.1 ∙ a.seat;
@@ -172,5 +172,5 @@ module _ {P H : Type 0} (Between : P → List Asked → P → Type 0) (held : P 
       holds = λ id. b.4.holds id ∙ a.holds id;
     }
 
-    pub went : (rounds : ℕ) (x y : AtWork P H) → AfterRounds HasGone rounds x y → HasWorked Between held x y
+    pub went : (rounds : ℕ) (x y : WorkerRounds P H) → AfterRounds HasGone rounds x y → HasWorked Between held x y
     went = after-rounds HasGone (HasWorked Between held) stays both

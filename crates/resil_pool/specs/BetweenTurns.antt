@@ -1,7 +1,7 @@
 -- What holds of a running pool between any two steps, whichever threads make them: of the word `turn`, of the slot of the machine, and of what all seats have seen.
 use Rattle.std.specs.Prelude.{◌≡◌, ◌≢◌, ◌⊎◌, ◌↔◌, ℕ, ◌≤◌, ◌<◌, true, List, [], length, slice_index, Contains, Option}
 use mathlib.Core.Option as math
-use Rattle.resil_pool.specs.Words.{Sizes, AreLimits, times, is_among, running, Id, Reply, Submit, LoggedEvent, State}
+use Rattle.resil_pool.specs.Words.{Sizes, AreLimits, times, is_among, running, Id, Reply, Submit, LoggedEvent, PoolState}
 use Rattle.resil_lock.specs.declared.log.Note.TheVariants as note
 use Rattle.resil_lock.specs.Lock.{holds_lock, is_there}
 use Rattle.resil_lock.specs.BetweenSteps.{IsSeatAt, HasOneHolder, HasNoHolder, IsSlotOut, IsLongest, IsInSlot}
@@ -13,11 +13,11 @@ turn words = slice_index words 0
 
 -- what is in a slot, unless a seat has it
 abbrev pub Home : Type 0
-Home = math.Option (Option State)
+Home = math.Option (Option PoolState)
 
 -- the machine is in the slot
 abbrev pub HasMachine : List Home → Type 0
-HasMachine homes = (state : State) × IsInSlot homes state
+HasMachine homes = (state : PoolState) × IsInSlot homes state
 
 -- the seat that holds the turn knows the limits and the whole history, with its plans, that the machine had in the slot
 pub record KnowsMachine (limits : Sizes) (history : List LoggedEvent) (v : View) : Type 0 where
@@ -61,7 +61,7 @@ pub record HoldsBetweenTurns (limits : Sizes) (words : List ℕ) (homes : List H
   pub history : List LoggedEvent
   pub legal : IsLegalLog limits history
   pub longest : IsLongest history views
-  pub at_home : (state : State) → IsInSlot homes state → MatchesLog limits history state.machine
+  pub at_home : (state : PoolState) → IsInSlot homes state → MatchesLog limits history state.machine
   pub holder : (index : ℕ) (v : View) → IsSeatAt views index v → holds_lock v.phase ≡ true → KnowsMachine limits history v
   pub opened : (index : ℕ) (v : View) → IsSeatAt views index v → is_there v.phase ≡ true → v.key.limits ≡ limits
   pub numbered : (index : ℕ) (v : View) → IsSeatAt views index v → is_there v.phase ≡ true → v.number ≡ index

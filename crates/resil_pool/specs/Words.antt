@@ -18,8 +18,8 @@ pub use Rattle.resil_admission.specs.MachineView.{MachineView, AreResultsOf, job
 pub use Rattle.resil_admission.specs.declared.jobs.Accepted.{Accepted}
 pub use Rattle.resil_admission.specs.declared.row.Row.{Row}
 pub use Rattle.resil_lock.specs.declared.log.Note.{Note}
-pub use Rattle.resil_pool.specs.declared.lock.opening.Opening.{Opening}
-pub use Rattle.resil_pool.specs.declared.lock.state.State.{State}
+pub use Rattle.resil_pool.specs.declared.lock.opening.PoolOpening.{PoolOpening}
+pub use Rattle.resil_pool.specs.declared.lock.state.PoolState.{PoolState}
 pub use Rattle.resil_pool.specs.declared.lock.state.Written.{Written}
 pub use Rattle.resil_pool.specs.declared.receipt.Receipt.{Receipt}
 pub use Rattle.resil_pool.specs.declared.receipt.Ticket.{Ticket}

@@ -4,7 +4,7 @@ use Rattle.resil_lock.specs.declared.work.Look.{Look}
 use Rattle.resil_lock.specs.declared.work.Look.TheVariants.{Nothing}
 use Rattle.resil_pool.specs.Words.{AdmitError, Accepted, plan_of, IsPrefix, Sizes, is_closed, taken, IsAllowed, Row, Id, Event, Take, IdleEnd, MachineView, IsFinishRefusal, with_event, PlanView, RunView, Asked, LoggedEvent}
 use Rattle.resil_pool.specs.Lock.{events_in, plans_in, plan_entry, runs_in, MatchesLog, View, IsMoved, WritesAtMost}
-use Rattle.resil_pool.specs.declared.worker.AtWork.{AtWork}
+use Rattle.resil_pool.specs.declared.worker.WorkerRounds.{WorkerRounds}
 
 -- no job may be taken after this history
 abbrev pub AllowsNoTake : Sizes → List Event → Type 0
@@ -119,7 +119,7 @@ pub record HasMadeRound {P : Type 0} (Between : P → List Asked → P → Type 
 
 -- What all rounds of a worker leave: its seat has seen more, jobs were run with the permitter, which holds what it held before, and no run was
 -- refused.
-pub record HasWorked {P H : Type 0} (Between : P → List Asked → P → Type 0) (held : P → ℕ → ℕ) (x y : AtWork P H) : Type 0 where
+pub record HasWorked {P H : Type 0} (Between : P → List Asked → P → Type 0) (held : P → ℕ → ℕ) (x y : WorkerRounds P H) : Type 0 where
   pub pool : y.pool ≡ x.pool
   pub seat : y.seat.ghost_name ≡ x.seat.ghost_name
   pub permitter : y.permitter.ghost_name ≡ x.permitter.ghost_name

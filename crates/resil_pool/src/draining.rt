@@ -22,7 +22,7 @@ mod report;
 
 use crate::draining::callers::{are_numbered, join_callers};
 use crate::draining::report::into_report;
-use crate::lock::State;
+use crate::lock::PoolState;
 use crate::parts::{Caller, Closer, WorkerEnd};
 use crate::pool::Pool;
 pub use report::{DrainFault, Report};
@@ -112,7 +112,7 @@ pub fn drain<R: Wait, P: Permitter>(
     let state = lock.take(rt, &mut seat);
     let receipts = join_callers(&lock, &mut seat, callers, receipts, count);
     let inner = Box::into_inner(state.inner);
-    let State {
+    let PoolState {
         mut machine,
         last: _last,
     } = inner;

@@ -9,7 +9,7 @@ ghost use Rattle.resil_rule.specs.History.{is_closed};
 ghost use Rattle.resil_pool.specs.Lock.{events_in, told, IsMoved, WritesAtMost, SeesClosing, WroteCloseAtMost};
 ghost use Rattle.resil_pool.specs.Hold.{AreRows, BeginsWithRows, TellsOfRows};
 
-use crate::lock::State;
+use crate::lock::PoolState;
 use crate::parts::Closer;
 use crate::pool::Pool;
 use crate::submit::is_submission_of;
@@ -41,7 +41,7 @@ fn are_rows(events: &[Event], rows: &[JobRow]) -> bool
     true
 }
 
-impl State {
+impl PoolState {
     // Closes the machine, if it is open, and returns whether its history was that of the rows.
     fn close_after_rows(&mut self, rows: &[JobRow]) -> bool
         ensures wrote { IsMoved self.old.machine (told self.new) self.new.machine }

@@ -1,13 +1,13 @@
 //! The laws of the turn. Each is a function whose contract states the law.
 ghost use Rattle.std.specs.Prelude.{◌≡◌, ℕ, [], Option, None};
 ghost use Rattle.atomic_table.specs.Table as table;
-ghost use Rattle.resil_pool.specs.Words.{PlanView, RunView, MachineView, with_submission, with_finish, IsPicked, Id, Reply, LoggedEvent, State as Lot, Opening};
+ghost use Rattle.resil_pool.specs.Words.{PlanView, RunView, MachineView, with_submission, with_finish, IsPicked, Id, Reply, LoggedEvent, PoolState, PoolOpening};
 ghost use Rattle.resil_pool.specs.Lock.{closer_number, AllNameCallers, LockSeatState, IsTurn, AppendsToMachine, AppendsAtMostOne, AppendsCloseAtMost};
 ghost use Rattle.resil_lock.specs.declared.protocol.View.{View};
 ghost use Rattle.resil_pool.specs.BetweenTurns.{HoldsBetweenTurns};
 ghost use Rattle.resil_pool.specs.NamedCallers.{IsCallersNumber, KeepsNames, LeavesNames};
 
-use crate::lock::{LoggedEvent, Opening, State};
+use crate::lock::{LoggedEvent, PoolOpening, PoolState};
 use atomic_table::TableRule;
 use resil_admission::Event;
 use resil_lock::{BoxedState, LockRule, View};
@@ -17,7 +17,7 @@ use resil_lock::{BoxedState, LockRule, View};
 /// prefix of it that includes all its own events. All seats have different numbers. There are never more jobs running
 /// than the maximum size that the pool was opened with, and each job that was picked and not ended is one of them.
 pub fn holds_between_turns()
-    ensures { (opening : Opening) (s : table.State (Option Lot) (View Opening LoggedEvent)) → ⟦<LockRule<BoxedState<State>> as TableRule<Option<BoxedState<State>>, View<Opening, LoggedEvent>, Opening>>⟧.holds opening s → HoldsBetweenTurns opening.limits s.words s.homes s.views }
+    ensures { (opening : PoolOpening) (s : table.State (Option PoolState) (View PoolOpening LoggedEvent)) → ⟦<LockRule<BoxedState<PoolState>> as TableRule<Option<BoxedState<PoolState>>, View<PoolOpening, LoggedEvent>, PoolOpening>>⟧.holds opening s → HoldsBetweenTurns opening.limits s.words s.homes s.views }
 {}
 
 /// In a pool with this many callers, each submission in the history names one of them, from 1 to their number. This is

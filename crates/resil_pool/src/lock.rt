@@ -14,13 +14,13 @@ mod plan_seen;
 mod state;
 
 pub(crate) use logged_event::LoggedEvent;
-pub(crate) use opening::Opening;
+pub(crate) use opening::PoolOpening;
 pub(crate) use plan_seen::PlanSeen;
 use resil_lock::BoxedState;
-pub(crate) use state::{State, Written, note_if};
+pub(crate) use state::{PoolState, Written, note_if};
 
 /// The lock over the machine, which threads share.
-pub(crate) type Lock = resil_lock::Lock<BoxedState<State>>;
+pub(crate) type Lock = resil_lock::Lock<BoxedState<PoolState>>;
 
 /// What one thread takes the lock with. Only contracts see what it has seen of the history, and what its own turns wrote.
-pub(crate) type LockSeat = resil_lock::LockSeat<BoxedState<State>, Opening, LoggedEvent>;
+pub(crate) type LockSeat = resil_lock::LockSeat<BoxedState<PoolState>, PoolOpening, LoggedEvent>;

@@ -10,7 +10,7 @@ ghost use Rattle.resil_pool.specs.declared.pool.OpenError.TheVariants.{Memory};
 ghost use Rattle.resil_pool.specs.Lock.{events_in, closer_view, pool_id, told, IsMoved, WritesAtMost, SeesClosing, WroteCloseAtMost};
 ghost use Rattle.resil_pool.specs.Parts.{new_callers, new_worker};
 
-use crate::lock::{Lock, LockSeat, Opening, State, note_if};
+use crate::lock::{Lock, LockSeat, PoolOpening, PoolState, note_if};
 use crate::parts::{Caller, Closer, Worker};
 use crate::receipt::Receipt;
 use resil_admission::{Event, Limits, Machine};
@@ -126,7 +126,7 @@ pub fn open_pool(
     let receipts = Vec::with_capacity(alloc, usize::from(callers))?;
     let caller_room = Vec::with_capacity(alloc, usize::from(callers))?;
     let worker_room = Vec::with_capacity(alloc, limits.max() as usize)?;
-    let Ok((lock, mut seat)) = make_lock(alloc, Opening { limits, callers }) else {
+    let Ok((lock, mut seat)) = make_lock(alloc, PoolOpening { limits, callers }) else {
         return Err(OpenError::Memory);
     };
     let submitters = make_callers(alloc, &lock, &mut seat, caller_room, callers);
@@ -142,7 +142,7 @@ pub fn open_pool(
 }
 
 // The lock over a new machine, and the closer's seat.
-fn make_lock(alloc: Global, opening: Opening) -> Result<(Lock, LockSeat), AllocError>
+fn make_lock(alloc: Global, opening: PoolOpening) -> Result<(Lock, LockSeat), AllocError>
     ensures key { IfOk result (λ r. r.0.table.shared.key ≡ opening) }
     ensures seat { IfOk result (λ r. (r.1.table_id ≡ r.0.table.shared.table_id) × (r.1.me ≡ (closer_view opening 1, []))) }
 {
@@ -150,7 +150,7 @@ fn make_lock(alloc: Global, opening: Opening) -> Result<(Lock, LockSeat), AllocE
         return Err(AllocError);
     };
     let last = None;
-    let inner = Box::new(alloc, State { machine, last })?;
+    let inner = Box::new(alloc, PoolState { machine, last })?;
     resil_lock::Lock::new(alloc, BoxedState { inner }, &opening)
 }
 
@@ -221,7 +221,7 @@ impl Pool {
     }
 }
 
-impl State {
+impl PoolState {
     // Closes the machine, if it is open.
     pub(crate) fn close(&mut self)
         ensures wrote { IsMoved self.old.machine (told self.new) self.new.machine }

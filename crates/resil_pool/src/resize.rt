@@ -9,7 +9,7 @@ ghost use Rattle.resil_pool.specs.Lock.{log_event, own_in, SeesMore, told, IsMov
 ghost use Rattle.resil_pool.specs.Parts.{IsSameCaller, submission_of};
 ghost use Rattle.resil_pool.specs.Resize.{SeesResize};
 
-use crate::lock::{State, note_if};
+use crate::lock::{PoolState, note_if};
 use crate::parts::Caller;
 use crate::pool::Pool;
 use resil_admission::{AdmitError, Event, Limits};
@@ -84,7 +84,7 @@ impl Pool {
     }
 }
 
-impl State {
+impl PoolState {
     // Sets the sizes of the machine. It compares the core size with 64, since nothing here says that the maximum size
     // that the pool was opened with is at most 64.
     fn resize(&mut self, core: u32, max: u32) -> Result<(), ResizeError>

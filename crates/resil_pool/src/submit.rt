@@ -10,7 +10,7 @@ ghost use Rattle.resil_pool.specs.Lock.{own_in, SeesMore, SeesOwn, told};
 ghost use Rattle.resil_pool.specs.Submit.{AnswersSubmission};
 ghost use Rattle.resil_pool.specs.Parts.{IsSameCaller, receipt_of, submission_of};
 
-use crate::lock::{PlanSeen, State, Written};
+use crate::lock::{PlanSeen, PoolState, Written};
 use crate::parts::Caller;
 use crate::pool::Pool;
 use crate::receipt::{Receipt, Ticket};
@@ -97,7 +97,7 @@ impl Pool {
     }
 }
 
-impl State {
+impl PoolState {
     // Submits the job to the machine, and notes what was written, with the plan.
     fn submit(&mut self, alloc: Global, id: Id, job: Job) -> Result<Reply, (AdmitError, Job)>
         ensures { AnswersSubmission self.old.machine id job result (told self.new) self.new.machine }

@@ -14,7 +14,7 @@ ghost use Rattle.resil_pool.specs.Parts.{IsWitness};
 ghost use Rattle.resil_pool.specs.Worker.{EndsIdle, EndsWith, HasNoTake, HasFirstRefusal, HasRunJob, HasRunJobs, HasWorked, IsAtEnd, OnNoJob, HasRunTakes, KeepsPlan, TakesAtMost, WasRefused, takes_in};
 
 use crate::hook::Hook;
-use crate::lock::{LockSeat, State, note_if};
+use crate::lock::{LockSeat, PoolState, note_if};
 use crate::parts::{Worker, WorkerEnd};
 use crate::pool::Pool;
 use resil_admission::{Event, Id};
@@ -34,7 +34,7 @@ fn note_of_pick(id: Id, before: usize, after: usize) -> Note
     }
 }
 
-impl State {
+impl PoolState {
     // Polls for a job. If there is none, the worker asks to end if the pool is closed, or if it has `timed_out` after enough empty polls.
     fn look(&mut self, timed_out: bool) -> Look<(Id, Job)>
         ensures found { OnFound result (λ picked. IsPicked self.old.machine picked.0 self.new.machine × (plan_of self.old.machine.jobs picked.0 ≡ Some picked.1)) }
@@ -179,7 +179,7 @@ impl Pool {
         let Worker { mut seat } = worker;
         make_rounds(
             rt,
-            &mut AtWork {
+            &mut WorkerRounds {
                 pool: self,
                 seat: &mut seat,
                 permitter,
@@ -192,7 +192,7 @@ impl Pool {
 
 // A worker at work: its pool, its seat there, and what it is lent.
 #[derive(Drop)]
-struct AtWork<'a, P, H> {
+struct WorkerRounds<'a, P, H> {
     pool: &'a Pool,
     seat: &'a mut LockSeat,
     permitter: &'a mut P,
@@ -200,7 +200,7 @@ struct AtWork<'a, P, H> {
 }
 
 // Makes rounds until the worker sees that its pool is over.
-fn make_rounds<R: Wait, P: Permitter, H: Hook>(rt: &R, at_work: &mut AtWork<'_, P, H>)
+fn make_rounds<R: Wait, P: Permitter, H: Hook>(rt: &R, at_work: &mut WorkerRounds<'_, P, H>)
     requires source { at_work.old.seat.now.table_id ≡ at_work.old.pool.now.source.table_id }
     requires rest { IsWitness at_work.old.seat.now.me }
     requires settled { IsSettled at_work.old.seat.now.me.0.own }
@@ -213,7 +213,7 @@ fn make_rounds<R: Wait, P: Permitter, H: Hook>(rt: &R, at_work: &mut AtWork<'_, 
     pool.lock.work(rt, at_work, pool.keep_alive);
 }
 
-impl<P: Permitter, H: Hook> Rounds for AtWork<'_, P, H> {
+impl<P: Permitter, H: Hook> Rounds for WorkerRounds<'_, P, H> {
     ghost use Rattle.std.specs.Prelude.{◌≡◌};
     ghost use Rattle.resil_pool.specs.Lock.{events_in, IsSettled};
     ghost use Rattle.resil_pool.specs.Parts.{IsWitness};

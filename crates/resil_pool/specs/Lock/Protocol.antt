@@ -9,20 +9,20 @@ use Rattle.resil_lock.specs.declared.protocol.Phase.TheVariants.{Idle}
 use Rattle.resil_lock.specs.Lock.{view_of}
 use Rattle.resil_rule.specs.History.{is_closed}
 use Rattle.resil_admission.specs.MachineView.{HasOneToPick}
-use Rattle.resil_pool.specs.Words.{started, taken, finished, times, Id, MachineView, Accepted, LoggedEvent, Note, Opening, State, Written}
+use Rattle.resil_pool.specs.Words.{started, taken, finished, times, Id, MachineView, Accepted, LoggedEvent, Note, PoolOpening, PoolState, Written}
 use Rattle.resil_pool.specs.Lock.LoggedEvent.{AllNameCallers, IsLegalLog, MatchesLog, events_in, picked_in, ended_in, IsBalanced, logged}
 
 -- what a seat knows of the history
 abbrev pub View : Type 0
-View = lock.View Opening LoggedEvent
+View = lock.View PoolOpening LoggedEvent
 
 -- what the closer's seat knows of a new pool in which this many seats are made
-abbrev pub closer_view : Opening → ℕ → View
+abbrev pub closer_view : PoolOpening → ℕ → View
 closer_view opening made = view_of opening rank.Opener 0 made 0 Idle [] []
 
 -- what a seat knows, with the slot if it holds it
 abbrev pub LockSeatState : Type 0
-LockSeatState = Me (Option State) View
+LockSeatState = Me (Option PoolState) View
 
 -- the jobs with a worker of their own that were picked
 abbrev pub starts_of : MachineView → List Id
@@ -30,14 +30,14 @@ starts_of machine = take machine.picked (started machine.history)
 
 -- The machine represents its legal history, with the plans of its jobs; each submission there names a caller of the pool; and the jobs that were
 -- picked are those of the log.
-pub record IsMachineOf (opening : Opening) (log : List LoggedEvent) (machine : MachineView) : Type 0 where
+pub record IsMachineOf (opening : PoolOpening) (log : List LoggedEvent) (machine : MachineView) : Type 0 where
   pub home : MatchesLog opening.limits log machine
   pub legal : IsLegalLog opening.limits log
   pub names : AllNameCallers opening.callers (events_in log)
   pub picks : (id : Id) → times id (picked_in log) ≡ times id (starts_of machine) + times id (taken machine.history)
   pub within : machine.picked ≤ length (started machine.history)
 
-abbrev pub StandsFor : Opening → List LoggedEvent → State → Type 0
+abbrev pub StandsFor : PoolOpening → List LoggedEvent → PoolState → Type 0
 StandsFor opening log state = IsMachineOf opening log state.machine
 
 -- all seats have numbers: all are split from the closer's
@@ -58,11 +58,11 @@ abbrev pub entries_of : List Accepted → Option Written → List LoggedEvent
 entries_of jobs None = []
 entries_of jobs (Some written) = logged (option_map (λ plan. plan.value) written.plan) jobs written.note ∷ []
 
-abbrev pub told : State → List LoggedEvent
+abbrev pub told : PoolState → List LoggedEvent
 told state = entries_of state.machine.jobs state.last
 
 -- a worker has something to do: the machine is closed, or has a job to pick
-abbrev pub HasWork : State → Type 0
+abbrev pub HasWork : PoolState → Type 0
 HasWork state = (is_closed state.machine.history ≡ true) ⊎ HasOneToPick state.machine
 
 -- a seat that wrote this has picked this job and not ended it: with one more end of it, no job was ended more often than it was picked

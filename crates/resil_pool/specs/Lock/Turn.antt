@@ -1,7 +1,7 @@
 -- What one turn does: from taking the lock to releasing it.
 use Rattle.std.specs.Prelude.{◌≡◌, ◌≢◌, ◌≤◌, ◌⊎◌, ◌+◌, ℕ, ◌++◌, ◌∷◌, List, [], Option, Some, None, map}
 use Rattle.resil_lock.specs.declared.protocol.Phase.TheVariants.{Idle}
-use Rattle.resil_pool.specs.Words.{TableId, PlanView, Sizes, IsAllowed, Id, MachineView, next_started, Event, Submit, Take, Close, Resized, LoggedEvent, Opening, Note}
+use Rattle.resil_pool.specs.Words.{TableId, PlanView, Sizes, IsAllowed, Id, MachineView, next_started, Event, Submit, Take, Close, Resized, LoggedEvent, PoolOpening, Note}
 use Rattle.resil_lock.specs.declared.log.Note.TheVariants as note
 use Rattle.resil_pool.specs.Lock.LoggedEvent.{log_event, events_in, start_of, closer_number, MatchesLog, plans_in, plan_entry, SeesMore, SeesOwn}
 use Rattle.resil_pool.specs.Lock.Protocol.{LockSeatState}
@@ -12,7 +12,7 @@ pub record PoolId : Type 0 where
   pub limits : Sizes
   pub callers : ℕ
 
-abbrev pub pool_id : TableId → Opening → PoolId
+abbrev pub pool_id : TableId → PoolOpening → PoolId
 pool_id table opening = record { table_id = table; limits = opening.limits; callers = opening.callers }
 
 -- a seat between two turns

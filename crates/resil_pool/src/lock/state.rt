@@ -3,7 +3,7 @@ ghost use Rattle.std.specs.Prelude.{◌≡◌, Some, None, if◌then◌else◌};
 ghost use Rattle.resil_pool.specs.Lock.{plain};
 
 use crate::lock::logged_event::LoggedEvent;
-use crate::lock::opening::Opening;
+use crate::lock::opening::PoolOpening;
 use crate::lock::plan_seen::PlanSeen;
 use resil_admission::Machine;
 use resil_lock::{Guarded, Note, WithJoins};
@@ -17,7 +17,7 @@ pub struct Written {
 
 /// The machine, and what the last turn wrote.
 #[derive(Drop)]
-pub struct State {
+pub struct PoolState {
     pub(crate) machine: Machine,
     pub(crate) last: Option<Written>,
 }
@@ -33,10 +33,10 @@ pub(crate) fn note_if(written: bool, note: Note) -> Option<Written>
     }
 }
 
-impl Guarded for State {
+impl Guarded for PoolState {
     ghost use Rattle.resil_pool.specs.Lock.{is_own, StandsFor, MayHaveWritten, told, HasWork};
 
-    type Key = Opening;
+    type Key = PoolOpening;
 
     type Entry = LoggedEvent;
 
@@ -56,6 +56,6 @@ impl Guarded for State {
     }
 }
 
-impl WithJoins for State {
+impl WithJoins for PoolState {
     ghost spent_key = { record { limits = record { core = 1; max = 1; queue = 0 }; callers = 0 } };
 }

@@ -5,7 +5,7 @@ use Rattle.resil_lock.specs.declared.log.Note.TheVariants as note
 use Rattle.resil_pool.specs.Lock.{run_of}
 use Rattle.resil_pool.proofs.RemainingLaws.{run_of-with_run}
 use Rattle.resil_pool.proofs.MachineCalls.{moved-one, finish-step, finish-told}
-use Rattle.resil_pool.proofs.lock.state.State.finish.Goals as goal
+use Rattle.resil_pool.proofs.lock.state.PoolState.finish.Goals as goal
 
 pub returns-clause-wrote : goal.returns-clause-wrote
 returns-clause-wrote c = moved-one _ _ _ (note.Event (Finish c.args.id)) c.note_if-self.ensures (finish-step _ _ _ _ c.requires.out c.in-Ok.ensures.event)

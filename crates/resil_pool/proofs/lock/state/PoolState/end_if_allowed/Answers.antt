@@ -2,7 +2,7 @@
 use Rattle.std.proofs.Common.{refl}
 use Rattle.resil_pool.specs.Words.{IdleEnd}
 use Rattle.resil_pool.proofs.MachineCalls.{as_noted, idle_end_after}
-use Rattle.resil_pool.proofs.lock.state.State.end_if_allowed.Goals as goal
+use Rattle.resil_pool.proofs.lock.state.PoolState.end_if_allowed.Goals as goal
 
 pub returns : goal.returns
 returns c =
