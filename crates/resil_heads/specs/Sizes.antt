@@ -1,7 +1,7 @@
 -- The sizes of a pool at the keys of a table.
 use Rattle.std.specs.Prelude.{ℕ, ◌&&◌, not, Bool, List, [], ◌∷◌, Result, Ok, Err, if◌then◌else◌, codes, nat_le}
 use Rattle.toml.specs.Data.{Members}
-use Rattle.resil_rule.specs.Limits.{Sizes}
+use Rattle.resil_rule.specs.Limits.{Sizes, most_waiting, most_workers}
 use Rattle.resil_rule.specs.declared.error.AdmitError.TheVariants as refused
 use Rattle.resil_heads.specs.declared.error.HeadError.{HeadError}
 use Rattle.resil_heads.specs.declared.error.HeadError.TheVariants as error
@@ -27,9 +27,9 @@ is_within low high n = nat_le low n && nat_le n high
 -- the sizes, where a pool takes them, or the error of the first that is out of its range
 abbrev pub build_limits : Sizes → Result Sizes HeadError
 build_limits sizes =
-    if not (is_within 1 64 sizes.core) then Err (error.Limits refused.CoreOutOfRange)
-    else if not (is_within sizes.core 64 sizes.max) then Err (error.Limits refused.MaxOutOfRange)
-    else if not (is_within 1 65536 sizes.queue) then Err (error.Limits refused.QueueOutOfRange)
+    if not (is_within 1 most_workers sizes.core) then Err (error.Limits refused.CoreOutOfRange)
+    else if not (is_within sizes.core most_workers sizes.max) then Err (error.Limits refused.MaxOutOfRange)
+    else if not (is_within 1 most_waiting sizes.queue) then Err (error.Limits refused.QueueOutOfRange)
     else Ok sizes
 
 -- the sizes at the keys of a table, where a pool takes them

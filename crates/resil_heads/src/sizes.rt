@@ -17,13 +17,13 @@ use resil_rule::{AdmitError, Limits};
 use toml::Table;
 
 /// The core size, in workers.
-pub const CORE: Key = Key::Required("core", Form::Count(1, 64));
+pub const CORE: Key = Key::Required("core", Form::Count(1, Limits::MAX_WORKERS as i64));
 
 /// The greatest size, in workers.
-pub const MAX: Key = Key::Required("max", Form::Count(1, 64));
+pub const MAX: Key = Key::Required("max", Form::Count(1, Limits::MAX_WORKERS as i64));
 
 /// The capacity of the queue, in jobs.
-pub const QUEUE: Key = Key::Optional("queue", Form::Count(1, 65_536));
+pub const QUEUE: Key = Key::Optional("queue", Form::Count(1, Limits::MAX_WAITING as i64));
 
 /// The core size of a pool of the JDK, in workers.
 pub(crate) const JDK_CORE: Key = Key::Required("core", Form::Count(0, 536_870_911));

@@ -9,17 +9,24 @@ pub record Sizes : Type 0 where
   pub max : ℕ
   pub queue : ℕ
 
+-- the largest size of a pool that records everything, in workers, and the largest capacity of a queue, in jobs; `Limits` has both for code
+abbrev pub most_workers : ℕ
+most_workers = 64
+
+abbrev pub most_waiting : ℕ
+most_waiting = 65536
+
 -- a core size is from 1 to 64
 abbrev pub IsCore : ℕ → Type 0
-IsCore core = (1 ≤ core) × (core ≤ 64)
+IsCore core = (1 ≤ core) × (core ≤ most_workers)
 
 -- a maximum size is from the core size to 64
 abbrev pub IsMax : ℕ → ℕ → Type 0
-IsMax core max = (core ≤ max) × (max ≤ 64)
+IsMax core max = (core ≤ max) × (max ≤ most_workers)
 
 -- a queue capacity is from 1 to 65,536
 abbrev pub IsQueue : ℕ → Type 0
-IsQueue queue = (1 ≤ queue) × (queue ≤ 65536)
+IsQueue queue = (1 ≤ queue) × (queue ≤ most_waiting)
 
 -- sizes that a pool may have
 pub record AreLimits (sizes : Sizes) : Type 0 where

@@ -1,16 +1,20 @@
 -- The sizes of a pool, which may have more workers than `Limits` allows: which are allowed, and which a resize may set.
 use Rattle.std.specs.Prelude.{ℕ, ◌≤◌, nat_lt, if◌then◌else◌}
-use Rattle.resil_rule.specs.Limits.{Sizes, IsQueue, AreSizesWithin}
+use Rattle.resil_rule.specs.Limits.{Sizes, IsQueue, AreSizesWithin, most_workers}
 use Rattle.resil_rule.specs.declared.error.AdmitError.{AdmitError}
 use Rattle.resil_rule.specs.declared.error.AdmitError.TheVariants as refused
 
+-- the largest size of a pool for your own jobs, in workers; `Sizes` has it for code
+abbrev pub most_wide_workers : ℕ
+most_wide_workers = 1024
+
 -- a core size is from 1 to 1,024
 abbrev pub IsWideCore : ℕ → Type 0
-IsWideCore core = (1 ≤ core) × (core ≤ 1024)
+IsWideCore core = (1 ≤ core) × (core ≤ most_wide_workers)
 
 -- a maximum size is from the core size to 1,024
 abbrev pub IsWideMax : ℕ → ℕ → Type 0
-IsWideMax core max = (core ≤ max) × (max ≤ 1024)
+IsWideMax core max = (core ≤ max) × (max ≤ most_wide_workers)
 
 -- sizes that a pool may have
 pub record AreSizes (sizes : Sizes) : Type 0 where
@@ -27,7 +31,7 @@ IsSizesRefusal sizes _ = ⊥
 
 -- the largest core size that a resize may set: 64, or 1,024 in a pool that was opened for more than 64 workers
 abbrev pub most_core : Sizes → ℕ
-most_core sizes = if nat_lt 64 sizes.max then 1024 else 64
+most_core sizes = if nat_lt most_workers sizes.max then most_wide_workers else most_workers
 
 abbrev pub IsCoreOf : Sizes → ℕ → Type 0
 IsCoreOf sizes core = (1 ≤ core) × (core ≤ most_core sizes)
