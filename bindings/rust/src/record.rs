@@ -54,7 +54,7 @@ fn noted(at: u64, caller: u8, job: u64, what: What) -> Noted {
 }
 
 fn resized(core: u32, max: u32) -> What {
-    let size = |size: u32| u16::try_from(size).expect("a size is at most 1,024");
+    let size = |size: u32| u16::try_from(size).expect("a size is at most `MOST_WORKERS`");
     What::Resize(size(core), size(max))
 }
 

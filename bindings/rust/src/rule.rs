@@ -17,6 +17,12 @@ pub use event::{Event, JobId, Origin, Picked, PoolNumbers, Reply};
 /// this.
 pub(crate) const MOST_WORKERS: usize = 1_024;
 
+/// The largest core size that a resize may set in a pool that was made for at most this many workers.
+pub(crate) const FEW_WORKERS: usize = 64;
+
+/// The largest capacity of a queue, in jobs.
+pub(crate) const MOST_WAITING: usize = 65_536;
+
 /// The default capacity of a queue, in jobs.
 pub(crate) const QUEUE: u32 = 100;
 

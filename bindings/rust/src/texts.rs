@@ -1,13 +1,13 @@
 //! The messages of errors.
 
-/// Makes an enum an error with these messages, one for each case.
+/// Makes an enum an error with these messages, one for each case. A constant's name in braces is its number.
 macro_rules! error_texts {
     ($error:ident { $($case:ident => $text:literal,)* }) => {
         impl std::fmt::Display for $error {
             fn fmt(&self, f: &mut std::fmt::Formatter<'_>) -> std::fmt::Result {
-                f.write_str(match self {
-                    $($error::$case => $text,)*
-                })
+                match self {
+                    $($error::$case => write!(f, $text),)*
+                }
             }
         }
 

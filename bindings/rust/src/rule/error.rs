@@ -1,4 +1,5 @@
 //! Why a pool's calls are refused.
+use super::{FEW_WORKERS, MOST_WAITING, MOST_WORKERS};
 use crate::texts::error_texts;
 
 /// Why a pool couldn't be made, or a call of it was refused. If several reasons hold, it is the first of them. Nothing was changed.
@@ -30,9 +31,9 @@ pub enum PoolError {
 error_texts! { PoolError {
     NulInName => "the name contains a zero byte",
     RecordOutOfRange => "the record is not for 1 to 100000 events",
-    CoreOutOfRange => "the core size is not from 1 to 1024, or at a resize of a pool for at most 64 threads from 1 to 64",
-    MaxOutOfRange => "the maximum size is not from the core size to 1024, or at a resize to that of the opening",
-    QueueOutOfRange => "the queue capacity is not from 1 to 65536",
+    CoreOutOfRange => "the core size is not from 1 to {MOST_WORKERS}, or at a resize of a pool for at most {FEW_WORKERS} threads from 1 to {FEW_WORKERS}",
+    MaxOutOfRange => "the maximum size is not from the core size to {MOST_WORKERS}, or at a resize to that of the opening",
+    QueueOutOfRange => "the queue capacity is not from 1 to {MOST_WAITING}",
     CallersOutOfRange => "the number of callers is not from 1 to 65535",
     Memory => "out of memory",
     NoCaller => "not one of the callers",
