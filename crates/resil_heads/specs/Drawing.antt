@@ -1,4 +1,4 @@
--- What a head says of the picture of its history: from when to when it is drawn, and how high the scales of its bands go.
+-- What a head says of the chart of its history: from when to when it is drawn, and how high the scales of its bands go.
 use Rattle.std.specs.Prelude.{ℕ, Bool, true, Option, Some, None, Result, Ok, Err, List, codes, if◌then◌else◌, nat_lt}
 use Rattle.toml.specs.Data.{Members}
 use Rattle.resil_heads.specs.Checks.{and_then}
@@ -20,7 +20,7 @@ is_later _ _ = true
 abbrev pub parse_end : Option ℕ → Members → Result (Option ℕ) HeadError
 parse_end from head = and_then (parse_known parse_wait (codes "to") head) (λ to. if is_later from to then Ok to else Err error.BadValue)
 
--- what a table says of the picture
+-- what a table says of the chart
 abbrev pub parse_drawing : Members → Result Drawing HeadError
 parse_drawing head =
     and_then (parse_known parse_wait (codes "from") head) (λ from.

@@ -1,4 +1,4 @@
-//! What a head says of the picture of its history: from when to when it is drawn, and how high the scales of its bands go.
+//! What a head says of the chart of its history: from when to when it is drawn, and how high the scales of its bands go.
 
 ghost use Rattle.std.specs.Prelude.{◌≡◌};
 ghost use Rattle.toml.specs.View.{table_view};
@@ -72,7 +72,7 @@ fn end_at(from: Option<u64>, table: &Table) -> Result<Option<u64>, HeadFault>
     at_key("to", later)
 }
 
-/// What a table says of the picture if that is used, else the whole history. Errors: `BadValue`.
+/// What a table says of the chart if that is used, else the whole history. Errors: `BadValue`.
 pub(crate) fn drawing_at(is_used: bool, table: &Table) -> Result<Drawing, HeadFault>
     ensures { result ≡ parse_used_drawing is_used (table_view table.now) }
 {

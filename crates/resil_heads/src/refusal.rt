@@ -51,7 +51,7 @@ pub enum RowRefusal {
     NotAllowed,
     /// The core size of a resize isn't from 1 to 64.
     CoreOutOfRange,
-    /// The greatest size of a resize is below its core size, or above that of the limits.
+    /// The maximum size of a resize is below its core size, or above that of the limits.
     MaxOutOfRange,
 }
 

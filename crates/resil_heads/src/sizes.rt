@@ -19,7 +19,7 @@ use toml::Table;
 /// The core size, in workers.
 pub const CORE: Key = Key::Required("core", Form::Count(1, Limits::MAX_WORKERS as i64));
 
-/// The greatest size, in workers.
+/// The maximum size, in workers.
 pub const MAX: Key = Key::Required("max", Form::Count(1, Limits::MAX_WORKERS as i64));
 
 /// The capacity of the queue, in jobs.

@@ -27,7 +27,7 @@ use Rattle.resil_simulate.specs.declared.rows.Row.{Row}
 
 -- ---- The pools.
 
--- A recorder writes the greatest size that there is into a head, and a resize before all else: its pool begins with the sizes of that.
+-- A recorder writes the maximum size that there is into a head, and a resize before all else: its pool begins with the sizes of that.
 abbrev pub resized_sizes : Sizes → JdkEvent → Sizes
 resized_sizes sizes (Resized core max) = let own : Sizes = record { core = core; max = max; queue = sizes.queue } in if is_pool own then own else sizes
 resized_sizes sizes event = sizes

@@ -41,7 +41,7 @@ parse_counts value = and_then (each parse_count (listed value)) (λ counts. if i
 abbrev pub check_each : ℕ → ℕ → AdmitError → List ℕ → Result (Unit {0}) HeadError
 check_each least greatest why sizes = if list_all (is_within least greatest) sizes then Ok tt else Err (error.Limits why)
 
--- all combinations, the queue quickest, then the greatest size
+-- all combinations, the queue quickest, then the maximum size
 abbrev pub with_queues : List ℕ → ℕ → ℕ → List Sizes
 with_queues queues core max = map (λ queue. record { core = core; max = max; queue = queue }) queues
 
@@ -51,7 +51,7 @@ with_maxes maxes queues core = flat_map (with_queues queues core) maxes
 abbrev pub combinations : List ℕ → List ℕ → List ℕ → List Sizes
 combinations cores maxes queues = flat_map (with_maxes maxes queues) cores
 
--- sizes that a pool takes: each is in its range, and the core size at most the greatest size
+-- sizes that a pool takes: each is in its range, and the core size at most the maximum size
 abbrev pub is_pool : Sizes → Bool
 is_pool sizes = is_ok (build_jdk_limits sizes)
 

@@ -182,7 +182,7 @@ fn asked_by(events: &[JdkEvent]) -> Asked
     most
 }
 
-// The limits of these sizes, the greatest size no less than the core size, or `None` where no pool has so large ones.
+// The limits of these sizes, the maximum size no less than the core size, or `None` where no pool has so large ones.
 fn limits_of(least: Asked) -> Option<JdkLimits>
     requires { 1 ≤ least.max }
     ensures sizes { IfSome result (λ limits. limits ≡ record { core = least.core; max = max least.max least.core; queue = least.queue }) }

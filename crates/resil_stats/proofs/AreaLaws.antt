@@ -10,7 +10,7 @@ use Rattle.resil_stats.specs.Bars.{start_at}
 use Rattle.resil_stats.specs.declared.bars.Start.{Start}
 use Rattle.resil_stats.proofs.CountLaws.{after_more, idle_few, made_few}
 
--- how many of some starts and one more are so
+-- how many of some starts and one more were in this way
 pub start_more : (p : Start → Bool) (starts : List Start) (start : Start) → length (filter p (starts ++ start ∷ [])) ≡ length (filter p starts) + length (filter p (start ∷ []))
 start_more p starts start = ap length (filter-append p starts (start ∷ [])) ∙ length-append (filter p starts) (filter p (start ∷ []))
 

@@ -17,7 +17,7 @@ use Rattle.resil_stats.proofs.CountLaws.{filter_few, filter_more}
 abbrev pub three : ℕ → ℕ → ℕ → CallerStats
 three s a r = record { submissions = s; accepted = a; refused = r }
 
--- the numbers of a caller, which are 0 where it didn't submit
+-- the numbers of a caller, which are 0 if it didn't submit
 abbrev pub numbers_of : List JdkEvent → ℕ → CallerStats
 numbers_of h c = three (length (submissions h c)) (length (accepted_of h c)) (length (refused_of h c))
 
@@ -40,7 +40,7 @@ parts : (h : List JdkEvent) (c : ℕ) → length (accepted_of h c) + length (ref
 parts [] c = refl
 parts (e ∷ h) c = grind (arith, common_steps, parts h c)
 
--- what is kept of a caller's numbers, nothing where there are no submissions, and what is read of it
+-- what is kept of a caller's numbers, nothing if there are no submissions, and what is read of it
 abbrev pub kept : CallerStats → Option CallerStats
 kept stats = if stats.submissions == 0 then None else Some stats
 
@@ -50,7 +50,7 @@ read-back s a r sum = grind (arith, common_steps)
 pub numbers-read : (h : List JdkEvent) (c : ℕ) (found : Option CallerStats) (nothing before : CallerStats) → found ≡ caller_stats h c → nothing ≡ three 0 0 0 → before ≡ unwrap_or found nothing → before ≡ numbers_of h c
 numbers-read h c found nothing before is zeros read = read ∙ ap (unwrap_or found) zeros ∙ ap (λ o. unwrap_or o (three 0 0 0)) is ∙ read-back _ _ _ (parts h c)
 
--- the numbers of a caller may be raised by one where the history may have one more event
+-- the numbers of a caller may be raised by one if the history may have one more event
 pub has-room : (h : List JdkEvent) (c : ℕ) → length h + 1 < 2 ^ 64 → HasRoomFor (numbers_of h c)
 has-room h c short =
     let s = filter_few (is_submit_of c) h in

@@ -24,7 +24,7 @@ pub made_few : {A : Type 0} (f : JdkEvent → Option A) (h : List JdkEvent) → 
 made_few f [] = omega arith
 made_few f (e ∷ h) = grind (arith, made_few f h)
 
--- what is left of a list behind its end is left behind any later place
+-- what is left of a list after its end is also left after any later place
 pub drop-min : (k : ℕ) (h : List JdkEvent) → drop (min k (length h)) h ≡ drop k h
 drop-min k h = elim (leb_tells k (length h)) [
   | inl le ↦ let same : min k (length h) ≡ k = omega (arith, le) in ap (λ n. drop n h) same

@@ -98,11 +98,11 @@ may-move_when load e (limits, h, legal, is, short) = may-move limits h e legal l
 
 -- ---- One event after another.
 
--- an event, for what is never read
+-- an event, for places that are never read
 abbrev pub no_event : JdkEvent
 no_event = Submit (record { caller = 0; number = 0 }) Core
 
--- after some events, the next of others, which follow them
+-- after some events, the next of others that follow them
 module _ (limits : Sizes) (b events : List JdkEvent) (legal : IsLegal limits (b ++ events)) (i : ℕ) (d : JdkEvent) (lt : i < length events) where
   longer : b ++ take (i + 1) events ≡ (b ++ take i events) ++ get_or events i d ∷ []
   longer = ap (λ (l : List JdkEvent). b ++ l) (take_more events i d lt) ∙ sym (append_assoc b (take i events) (get_or events i d ∷ []))

@@ -26,7 +26,7 @@ pub placed-push : {X : Type 0} (p : ℕ) (h : List X) (e : X) → enumerate_from
 placed-push p [] e = grind (arith, common_steps)
 placed-push p (x ∷ h) e = grind (arith, common_steps, placed-push (p + 1) h e)
 
--- what is made of the events up to one, of which nothing is made or something is
+-- what is made of the events up to one: nothing is made of it, or something is
 module _ {X A : Type 0} (f : ℕ × X → Option A) (events : List X) (i : ℕ) (d : X) (lt : i < length events) where
   made-more : filter_map f (enumerate_from 1 (take (i + 1) events)) ≡ filter_map f (enumerate_from 1 (take i events)) ++ cons_option (f (i + 1, get_or events i d)) []
   made-more = grind (arith, common_steps, placed-push 1 (take i events) (get_or events i d), filter_map-append f (enumerate_from 1 (take i events)))
@@ -44,7 +44,7 @@ parts-legal : (limits : Sizes) (before h : List JdkEvent) (e : JdkEvent) (t : Li
 parts-legal limits before [] e t legal = (tt, rw append-nil legal.0)
 parts-legal limits before (x ∷ h) e t legal = let rest = parts-legal limits (before ++ x ∷ []) h e t legal.1 in ((legal.0, rest.0), rw append_assoc at rest.1)
 
--- what is finished nowhere is not among those finished
+-- a job that is finished nowhere isn't among those finished
 unfinished : (h : List JdkEvent) (id : Id) → times id (finished h) ≡ 0 → is_among id (finished h) ≡ false
 unfinished h id none = elim (cases_Bool (is_among id (finished h))) [ inl is ↦ let some = somewhere id (finished h) is in absurd (omega (arith, some, none)) | inr not ↦ not ]
 
@@ -74,12 +74,12 @@ fresh limits h e id start legal allowed is = absurd (cc is)
 start-no_finish : (e : JdkEvent) (id other : Id) (start : Start) → start_at e ≡ Some (id, start) → is_finish_of other e ≡ false
 start-no_finish e id other start is = grind arith
 
--- what isn't finished in the first events is so later, if at all
+-- a job that isn't finished in the first events is finished later, if at all
 finish-after : (h t : List JdkEvent) (id : Id) → is_among id (finished h) ≡ false → position_or_len (is_finish_of id) (h ++ t) ≡ length h + position_or_len (is_finish_of id) t
 finish-after [] t id none = omega arith
 finish-after (e ∷ h) t id none = let ih = finish-after h t id in grind (arith, common_steps, ih)
 
--- at the place of a start no job is finished, and the one that starts is so later
+-- at the place of a start no job is finished, and the one that starts is finished later
 module _ (events : List JdkEvent) (i : ℕ) (d : JdkEvent) (id : Id) (start : Start) (lt : i < length events) (is : start_at (get_or events i d) ≡ Some (id, start)) where
   cut : events ≡ take i events ++ get_or events i d ∷ drop (i + 1) events
   cut = sym (take-append-drop i events) ∙ ap (λ (l : List JdkEvent). take i events ++ l) (drop_more events i d lt)

@@ -1,4 +1,4 @@
--- Where the spans of jobs began, and how long they were, with one more event.
+-- The beginnings of the spans of jobs, and how long these were, with one more event.
 use Rattle.std.proofs.Common.{◌≡◌, ◌∷◌, [], ◌++◌, ◌∙◌, ℕ, Bool, cond, List, Option, Some, None, if◌then◌else◌, length, option_and_then, refl, sym, ap, subst}
 use Rattle.std.specs.HashMap.{HashMap, get}
 use Rattle.std.specs.List.{cons_option}

@@ -24,7 +24,7 @@ made-more begins xs i x start old new lt same (text, at, made) (look, is) = (
       (subst (λ y. IsMadeOf begins (take i xs ++ y ∷ []) (text ++ (begins x ++ look))) same (piece-push begins (take i xs) x text look made)),
 )
 
--- the parts of a picture of which each event is drawn
+-- the parts of a chart of which each event is drawn
 pub each-drawn : (picture : Picture) (a b c d e f : List ℕ) → (part : List ℕ) × (b ≡ a ++ part) → IsAddition (IsMadeOf bar_opening picture.drawn.bars.items) b c → (part : List ℕ) × (d ≡ c ++ part)
     → IsAddition (IsMadeOf mark_opening picture.marks.items) d e → (part : List ℕ) × (f ≡ e ++ part) → IsAddition (IsEachDrawn picture) a f
 each-drawn picture a b c d e f (front, at_front) (bars, at_bars, of_bars) (middle, at_middle) (refusals, at_refusals, of_marks) (back, at_back) = (
@@ -33,7 +33,7 @@ each-drawn picture a b c d e f (front, at_front) (bars, at_bars, of_bars) (middl
   record { front = front; bars = bars; middle = middle; refusals = refusals; back = back; whole = refl; of_bars = of_bars; of_marks = of_marks },
 )
 
--- the parts of a gathered picture
+-- the parts of a gathered chart
 pub gathered-drawn : (picture : Picture) (a b c d : List ℕ) → (part : List ℕ) × (b ≡ a ++ part) → IsAddition (IsMadeOf column_opening picture.drawn.columns.items) b c → (part : List ℕ) × (d ≡ c ++ part)
     → IsAddition (IsGatheredDrawn picture) a d
 gathered-drawn picture a b c d (front, at_front) (columns, at_columns, of_columns) (back, at_back) = (

@@ -17,7 +17,7 @@ alone {s} r own = record { is = own.is ∙ ap (λ (l : List ℕ). s ++ l) (sym (
 pub at-end : {s t u : List ℕ} (rs : List (List (List ℕ))) (r : List (List ℕ)) → IsExtended s t (table_text rs) → IsExtended t u (record_text r) → IsExtended s u (table_text (rs ++ r ∷ []))
 at-end {s} rs r first next = record { is = (after first (alone r next)).is ∙ ap (λ (l : List ℕ). s ++ l) (sym (flat_map-append record_text rs (r ∷ []))) }
 
--- a table behind another one
+-- a table after another one
 pub joined : {s t u : List ℕ} (a b : List (List (List ℕ))) → IsExtended s t (table_text a) → IsExtended t u (table_text b) → IsExtended s u (table_text (a ++ b))
 joined {s} a b first next = record { is = (after first next).is ∙ ap (λ (l : List ℕ). s ++ l) (sym (flat_map-append record_text a b)) }
 

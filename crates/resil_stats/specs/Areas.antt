@@ -1,4 +1,5 @@
--- How many jobs run after each event of a history, by how they started: as many as started so, less those of them that are finished.
+-- How many jobs run after each event of a history, by how they started: those that started in this way, less those of them that are
+-- finished.
 use Rattle.std.specs.Prelude.{ℕ, ◌≡◌, ◌<◌, ◌+◌, ◌-◌, ◌^◌, Bool, true, false, List, Option, Some, [], filter, length, option_and_then, slice_get, take}
 use Rattle.std.specs.List.{filter_map}
 use Rattle.std.specs.Option.{option_map}
@@ -19,7 +20,7 @@ is_same_start Queued Queued = true
 is_same_start Handed Handed = true
 is_same_start _ _ = false
 
--- How often jobs started in each way.
+-- How many jobs started in each way.
 pub record IsTally (starts : List Start) (running : Running) : Type 0 where
   pub core : running.core ≡ length (filter (is_same_start Core) starts)
   pub extra : running.extra ≡ length (filter (is_same_start Extra) starts)
@@ -41,7 +42,7 @@ started history = filter_map (λ event. option_map (λ job. job.1) (start_at eve
 abbrev pub finished_job : JdkEvent → Option Id
 finished_job = finished_id
 
--- how the job had started that is finished at an event, by those before it
+-- how the job had started that is finished at an event, by the events before it
 abbrev pub finished_start : List JdkEvent → JdkEvent → Option Start
 finished_start before event = option_and_then (begun_at (begun before)) (finished_job event)
 
@@ -49,7 +50,7 @@ finished_start before event = option_and_then (begun_at (begun before)) (finishe
 abbrev pub finished : List JdkEvent → List Start
 finished history = made_after finished_start [] history
 
--- how many jobs run after a history that started so
+-- how many jobs that started in this way run after a history
 abbrev pub running_by : Start → List JdkEvent → ℕ
 running_by start history = length (filter (is_same_start start) (started history)) - length (filter (is_same_start start) (finished history))
 

@@ -17,8 +17,8 @@ use Rattle.resil_stats.specs.declared.bars.Start.TheVariants.{Core, Extra, Queue
 abbrev pub placed : {E : Type 0} → List E → List (ℕ × E)
 placed history = enumerate_from 1 history
 
--- the job that starts at an event, and how: with a new worker, taken from the queue, or handed to an idle worker; no job starts where it is refused,
--- put into the queue or removed from it
+-- the job that starts at an event, and how: with a new worker, taken from the queue, or handed to an idle worker; no job starts if it is
+-- refused, put into the queue or removed from it
 abbrev pub start_at : JdkEvent → Option (Id × Start)
 start_at (Submit id reply.Core) = Some (id, Core)
 start_at (Submit id reply.Extra) = Some (id, Extra)
@@ -43,7 +43,7 @@ abbrev pub is_finish_of : Id → JdkEvent → Bool
 is_finish_of id (Finish other) = is_same_id id other
 is_finish_of id _ = false
 
--- the place of a job's finish in a history, or the place after the last event where it isn't finished
+-- the place of a job's finish in a history, or the place after the last event if it isn't finished
 abbrev pub finish_place : List JdkEvent → Id → ℕ
 finish_place history id = position_or_len (is_finish_of id) history + 1
 
@@ -53,7 +53,7 @@ finish_place history id = position_or_len (is_finish_of id) history + 1
 abbrev pub started_of : Bar → Started
 started_of bar = record { id = bar.id; start = bar.start; from = bar.from }
 
--- a bar before one of the bars stands in a row, and ends after a place
+-- a bar before one of the bars is in a row, and ends after a place
 abbrev pub IsTaken : List Bar → ℕ → ℕ → ℕ → Type 0
 IsTaken bars index row place = (i : ℕ) × (other : Bar) × (i < index) × (slice_get bars i ≡ Some other) × (other.row ≡ row) × (place < other.to)
 
@@ -75,11 +75,11 @@ AreBarsOf history bars = AreBarsOfFirst history history bars
 
 -- ---- What is kept while a history is drawn.
 
--- the first row whose last bar ends before a place, counted from 0: a new one where each ends later
+-- the first row whose last bar ends before a place, counted from 0: a new one if all end later
 abbrev pub free_row : ℕ → List ℕ → ℕ
 free_row place ends = position_or_len (λ end. nat_lt end place) ends
 
--- One of the rows ends there now, and each other one where it did.
+-- One of the rows ends there now, and each other row where it did.
 pub record IsPut (old new : List ℕ) (row end : ℕ) : Type 0 where
   pub here : slice_get new row ≡ Some end
   pub others : (other : ℕ) → (other ≡ row → ⊥) → slice_get new other ≡ slice_get old other

@@ -15,18 +15,18 @@ pub record IsLevelAfter (limits : Sizes) (history : List JdkEvent) (level : Leve
   pub core : level.core ≡ core_size limits history
   pub max : level.max ≡ max_size limits history
 
--- A level for each event, which is that after the events up to it.
+-- A level for each event: how full the pool is after the events up to it.
 pub record AreLevelsOf (limits : Sizes) (history : List JdkEvent) (levels : List Level) : Type 0 where
   pub each : length levels ≡ length history
   pub after : (i : ℕ) (level : Level) → slice_get levels i ≡ Some level → IsLevelAfter limits (take (i + 1) history) level
 
--- a core size and a greatest size after one more event
+-- a core size and a maximum size after one more event
 abbrev pub sizes_after : ℕ × ℕ → JdkEvent → ℕ × ℕ
 sizes_after sizes (Resized core max) = (core, max)
 sizes_after sizes event = sizes
 
--- the sizes that a pool begins with: a recorder of a pool whose greatest size was raised writes a head with the greatest of all sizes, and before all else
--- a resize
+-- the sizes that a pool begins with. If the maximum size of a pool was raised, its recorder writes a head with the greatest of all sizes,
+-- and a resize before all else
 abbrev pub opening_sizes : Sizes → List JdkEvent → ℕ × ℕ
 opening_sizes limits [] = (limits.core, limits.max)
 opening_sizes limits (event ∷ events) = sizes_after (limits.core, limits.max) event

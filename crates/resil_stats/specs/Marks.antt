@@ -1,4 +1,4 @@
--- What is marked in a picture: one mark for each refusal, each start, cull and removal, and each change of the pool, and no other.
+-- What is marked in a chart: one mark for each refusal, each start, cull and removal, and each change of the pool, and no other.
 use Rattle.std.specs.Prelude.{ℕ, List, Option, Some, None}
 use Rattle.std.specs.List.{filter_map}
 use Rattle.std.specs.Option.{option_map}
@@ -10,7 +10,7 @@ use Rattle.resil_stats.specs.declared.marks.Mark.{Mark}
 use Rattle.resil_stats.specs.declared.marks.Sign.{Sign}
 use Rattle.resil_stats.specs.declared.marks.Sign.TheVariants as shown
 
--- what an event is marked by; an idle end has no mark, and a cull has one
+-- what an event is marked by; an idle end has no mark, but a cull has one
 abbrev pub sign_at : JdkEvent → Option Sign
 sign_at (Submit id reply.Full) = Some (shown.Full id)
 sign_at (Submit id reply.Closed) = Some (shown.Closed id)

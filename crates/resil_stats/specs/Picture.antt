@@ -1,4 +1,4 @@
--- The picture of a history: what is drawn of its events up to the first illegal one.
+-- The chart of a history: what is drawn of its events up to the first illegal one.
 use Rattle.std.specs.Prelude.{ℕ, ◌≡◌, ◌-◌, true, false, [], List, Option, None, filter, length, option_map, slice_get}
 use Rattle.resil_rule.specs.Limits.{Sizes}
 use Rattle.resil_rule.specs.declared.verdict.Verdict.{Verdict}
@@ -27,16 +27,16 @@ first_illegal (FirstIllegal position) history = option_map (λ event. (position,
 abbrev pub AreBarsIn : Window → List JdkEvent → List Bar → Type 0
 AreBarsIn window events bars = (all : List Bar) × AreBarsOf events all × (bars ≡ filter (is_reached window) all)
 
--- What is drawn in a window of the jobs of some events, which may have times: a bar for each that ran; or, where events are gathered, columns, and how
--- many jobs ran after each event.
+-- What is drawn of the jobs of some events in a window; the events may have times. It is a bar for each job that ran or, if events are
+-- gathered, columns, and how many jobs ran after each event.
 pub record AreDrawn (window : Window) (events : List JdkEvent) (levels : List Level) (times : Option (List ℕ)) (drawn : Drawn) : Type 0 where
   pub bars : is_gathered window levels ≡ false → AreBarsIn window events drawn.bars.items
   pub no_columns : is_gathered window levels ≡ false → drawn.columns.items ≡ []
   pub columns : is_gathered window levels ≡ true → AreColumnsOf events levels times window drawn.columns.items
   pub areas : is_gathered window levels ≡ true → AreAreasOf events drawn.areas.items
 
--- The picture of a history with this verdict in a pool of some limits, as far as is asked for; its events may have times. Its numbers and its levels are
--- those of the whole history: in a window they are those at that moment.
+-- The chart of a history with this verdict in a pool of some limits: of the part that an extent gives; its events may have times. Its
+-- numbers and its levels are those of the whole history: in a window they are those at that moment.
 pub record IsPictureOf (extent : Extent) (limits : Sizes) (verdict : Verdict) (history : List JdkEvent) (times : Option (List ℕ)) (picture : Picture) : Type 0 where
   pub limits_are : picture.limits ≡ limits
   pub opening : picture.opening ≡ opening_sizes limits (legal_part verdict history)

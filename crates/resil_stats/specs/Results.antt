@@ -1,4 +1,4 @@
--- The results of a run behind a history: the line that parts them, and their rows.
+-- The results of a run after a history: the line that separates them, and their rows.
 use Rattle.std.specs.Prelude.{ℕ, ◌-◌, ◌^◌, ◌==◌, ◌&&◌, ◌||◌, ◌∷◌, [], Bool, false, List, Option, Some, None, if◌then◌else◌, codes, length, option_and_then, slice_index, take}
 use Rattle.std.specs.List.{concat, list_all, slice_split}
 use Rattle.std.specs.Option.{is_some, option_map_or}
@@ -38,13 +38,13 @@ cut_at_results (line ∷ lines) =
 abbrev pub results_of : List ℕ → Option (List ℕ × List ℕ)
 results_of body = cut_at_results (lines_of body)
 
--- the history of a body: all of it where it has no results
+-- the history of a body: all of it if it has no results
 abbrev pub history_part : List ℕ → List ℕ
 history_part body = option_map_or (λ parts. parts.0) (results_of body) body
 
 -- ---- The rows of results.
 
--- the items of a field, with semicolons (59) between them; an empty field has none
+-- the items of a field, separated by semicolons (59); an empty field has none
 abbrev pub are_items : (List ℕ → Bool) → List ℕ → Bool
 are_items is_item field = (length field == 0) || list_all is_item (slice_split (λ byte. byte == 59) field)
 
@@ -52,7 +52,7 @@ are_items is_item field = (length field == 0) || list_all is_item (slice_split (
 abbrev pub is_wait : List ℕ → Bool
 is_wait item = is_some (parse_from_zero (2 ^ 64) item)
 
--- the id of a bulkhead, and `y` (121) or `n` (110) behind it
+-- the id of a bulkhead, followed by `y` (121) or `n` (110)
 abbrev pub is_answer : List ℕ → Bool
 is_answer item =
     let end = length item - 1 in

@@ -1,5 +1,5 @@
--- How long the jobs of a history of the whole rule waited and ran, and how long idle workers took to come, by the times of its events: at each event
--- that ends a span of a job, the time since the event that began it.
+-- How long the jobs of a history of the whole rule waited and ran, and how long idle workers took to come, by the times of its events: at
+-- each event that ends a span of a job, the time since the event that began it.
 use Rattle.std.specs.Prelude.{ℕ, ◌≡◌, ◌+◌, ◌-◌, ◌*◌, ◌/◌, ◌==◌, ◌&&◌, ◌∷◌, [], ◌++◌, Bool, List, Option, Some, None, if◌then◌else◌, length, nat_lt, option_and_then, slice_get, slice_index}
 use Rattle.std.specs.HashMap.{HashMap, get}
 use Rattle.std.specs.List.Sorted.{IsPermutation, IsSorted}
@@ -53,7 +53,7 @@ beginning measure restated before event = option_map (λ id. (id, length before)
 abbrev pub beginnings : Measure → ℕ → List JdkEvent → List (Id × ℕ)
 beginnings measure restated history = made_after (beginning measure restated) [] history
 
--- what was last noted of a job, another thing if nothing was
+-- what was last noted of a job, something else if nothing was
 abbrev pub last_index : {A : Type 0} → Id → Option A → List (Id × A) → Option A
 last_index id other [] = other
 last_index id other (begun ∷ others) = last_index id (if is_same_id id begun.0 then Some begun.1 else other) others
@@ -66,7 +66,7 @@ begun_at begun id = last_index id None begun
 abbrev pub span : List ℕ → ℕ → ℕ → ℕ
 span times from to = slice_index times to - slice_index times from
 
--- the span that ends at an event, after those before it: since it began; none where none ends, or none began
+-- the span that ends at an event, after those before it: since its beginning; none if no span ends there, or none began
 abbrev pub span_at : Measure → ℕ → List ℕ → List JdkEvent → JdkEvent → Option ℕ
 span_at measure restated times before event =
     option_and_then (λ id. option_map (λ from. span times from (length before)) (begun_at (beginnings measure restated (before ++ event ∷ [])) id)) (ended_id measure event)
@@ -81,8 +81,8 @@ jdk_waits restated times history = spans Wait restated times history
 
 -- ---- Their ranks.
 
--- The median, the 99th percentile and the greatest of some numbers: of n in ascending order those at the places ⌈n/2⌉, ⌈99n/100⌉ and n,
--- from 1; there is none where there is no number.
+-- The median, the 99th percentile and the greatest of some numbers: of n numbers in ascending order those at the places ⌈n/2⌉, ⌈99n/100⌉
+-- and n, from 1; none if there is no number.
 pub record AreRanksOf (numbers : List ℕ) (ranks : Ranks) : Type 0 where
   pub ascending : List ℕ
   pub sorted : IsSorted nat_cmp ascending

@@ -22,12 +22,12 @@ use Rattle.resil_stats.specs.declared.stats.JdkStats.{JdkStats}
 
 -- ---- Events and those before them.
 
--- the events of a history that are counted: all of a legal one, those before the first illegal one of another
+-- the events of a history that are counted: all if it is legal, else those before the first illegal one
 abbrev pub legal_part : {A : Type 0} → Verdict → List A → List A
 legal_part Legal history = history
 legal_part (FirstIllegal position) history = take (position - 1) history
 
--- what is made of each event and all events before it, where something is
+-- what is made of each event and all events before it, if anything is
 abbrev pub made_after : {A : Type 0} → (List JdkEvent → JdkEvent → Option A) → List JdkEvent → List JdkEvent → List A
 made_after f before [] = []
 made_after f before (e ∷ events) = cons_option (f before e) (made_after f (before ++ e ∷ []) events)
@@ -52,7 +52,7 @@ extra_idle before _ = None
 
 -- ---- Kinds of events.
 
--- a submission, whatever its reply
+-- a submission, with any reply
 abbrev pub is_submit : JdkEvent → Bool
 is_submit (Submit id reply) = true
 is_submit _ = false
@@ -181,11 +181,11 @@ caller_stats history caller =
       refused = length (refused_of history caller);
     })
 
--- A table has the numbers of each caller that submitted, and of no other one.
+-- A table has the numbers of each caller that submitted, and of no other caller.
 abbrev pub AreJdkCallersOf : List JdkEvent → BTreeMap ℕ CallerStats → Type 0
 AreJdkCallersOf history callers = (caller : ℕ) → get nat_cmp callers caller ≡ caller_stats history caller
 
--- The numbers of legal events, the first of which restate the state in which a record begins: those count in no submission.
+-- The numbers of legal events. The first of them restate the state in which a record begins, and their submissions aren't counted.
 pub record AreJdkStatsOf (restated : ℕ) (history : List JdkEvent) (stats : JdkStats) : Type 0 where
   pub answers : AreAnswersOf (take restated history) (drop restated history) stats.answers
   pub counts : AreJdkCountsOf history stats.counts
@@ -219,11 +219,11 @@ MayBeAnswered answers = (before : List JdkEvent) × (events : List JdkEvent) × 
 abbrev pub MayBeCounted : JdkCounts → Type 0
 MayBeCounted counts = (history : List JdkEvent) × AreJdkCountsOf history counts × (length history + 1 < 2 ^ 64)
 
--- the load is that after a history which the event may follow
+-- the load is the one after a history that the event may follow
 abbrev pub MayCome : Load → JdkEvent → Type 0
 MayCome load event = (limits : Sizes) × (history : List JdkEvent) × IsLegal limits (history ++ event ∷ []) × IsJdkLoadAfter history load × (length history + 1 < 2 ^ 64)
 
--- What an event changes of a load, in the words of the history that it alone is.
+-- How an event changes a load, in the words of the history of this event alone.
 pub record IsMoved (load : Load) (event : JdkEvent) (after : Load) : Type 0 where
   pub waiting : after.waiting + length (left (event ∷ [])) ≡ load.waiting + length (queued (event ∷ []))
   pub running : after.running + length (finished (event ∷ [])) ≡ load.running + (length (run_at_once (event ∷ [])) + length (taken (event ∷ [])))

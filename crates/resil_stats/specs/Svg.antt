@@ -1,4 +1,4 @@
--- What is known of the text of a picture: how it begins, and how the elements of its bars, refusals and columns do.
+-- What is known of the text of a chart: how it begins, and how the elements of its bars, refusals and columns begin.
 use Rattle.std.specs.Prelude.{ℕ, ◌≡◌, ◌==◌, ◌||◌, ◌++◌, ◌∷◌, [], List, Option, chars, codes, encode_utf8, flat_map, if◌then◌else◌, length, nat_lt}
 use Rattle.std.specs.Fmt.{decimal}
 use Rattle.resil_rule.specs.Limits.{Sizes}
@@ -16,11 +16,11 @@ use Rattle.resil_stats.specs.declared.marks.Sign.TheVariants as shown
 use Rattle.resil_stats.specs.declared.picture.Picture.{Picture}
 use Rattle.resil_stats.specs.declared.window.Extent.{Extent}
 
--- the beginning of a picture of this many events
+-- the beginning of a chart of this many events
 abbrev pub opening : ℕ → List ℕ
 opening events = codes "<svg xmlns=\"http://www.w3.org/2000/svg\" data-events=\"" ++ decimal events ++ codes "\""
 
--- a character as XML has it: white space is a blank, and what is no character there is U+FFFD
+-- a character as XML writes it: white space is a blank, and what isn't a character there is U+FFFD
 abbrev pub xml_letter : ℕ → List ℕ
 xml_letter c =
     if c == 38 then codes "&amp;"
@@ -32,12 +32,12 @@ xml_letter c =
     else if nat_lt c 32 || c == 65534 || c == 65535 then encode_utf8 65533
     else encode_utf8 c
 
--- the line of a name over the title, none where it is empty
+-- the line of a name above the title, none if it is empty
 abbrev pub name_line : List ℕ → List ℕ
 name_line name =
     if length name == 0 then [] else codes "<text x=\"6\" y=\"2\" font-size=\"17\" font-weight=\"bold\">" ++ flat_map xml_letter (chars name) ++ codes "</text>\n"
 
--- The style of each picture: for dark ground a colour in place of each that is drawn with. It refers to nothing outside.
+-- The style of each chart: for a dark background, a colour instead of each that is drawn with. It refers to nothing outside.
 abbrev pub style : List ℕ
 style = codes "<style>@media (prefers-color-scheme: dark) {\n[fill=\"#fff\"]{fill:#0d1117}[fill=\"#222\"]{fill:#e6edf3}\n[fill=\"#666\"]{fill:#9198a1}[fill=\"#f3f3f1\"]{fill:#161b22}[fill=\"#0072b2\"]{fill:#58a6ff}\n[fill=\"#e08a00\"]{fill:#9a5b00}[fill=\"#b4e0fa\"]{fill:#1f4a6b}[fill=\"#bcd7e8\"]{fill:#26394d}\n[fill=\"#7a4f00\"]{fill:#d29922}[fill=\"#7b3294\"]{fill:#d2a8ff}[fill=\"#a3142a\"]{fill:#ff7b72}\n[fill=\"#888\"]{fill:#6e7681}[stroke=\"#fff\"]{stroke:#0d1117}[stroke=\"#222\"]{stroke:#e6edf3}\n[stroke=\"#666\"]{stroke:#9198a1}[stroke=\"#e3e3e3\"]{stroke:#2b313a}[stroke=\"#0072b2\"]{stroke:#58a6ff}\n[stroke=\"#1c5f85\"]{stroke:#79c0ff}[stroke=\"#7a4f00\"]{stroke:#d29922}[stroke=\"#7b3294\"]{stroke:#d2a8ff}\n[stroke=\"#a3142a\"]{stroke:#ff7b72}[stroke=\"#888\"]{stroke:#6e7681}\n}</style>\n"
 
@@ -62,7 +62,7 @@ refusal_opening reason id at =
     codes "<path class=\"refused " ++ reason ++ codes "\" data-job=\"" ++ decimal id.caller ++ codes "." ++ decimal id.number
     ++ codes "\" data-at=\"" ++ decimal at ++ codes "\" "
 
--- how the element of a worker begins that begins or ends without a job: with the class and its place
+-- how the element of a worker that begins or ends without a job begins: with the class and its place
 abbrev pub worker_opening : List ℕ → ℕ → List ℕ
 worker_opening class at = codes "<path class=\"" ++ class ++ codes "\" data-at=\"" ++ decimal at ++ codes "\" "
 
@@ -79,7 +79,7 @@ sign_opening shown.Culled at = worker_opening (codes "culled") at
 sign_opening (shown.Removed id) at = removal_opening id at
 sign_opening _ at = []
 
--- how the element of a mark begins where it stands between the bands: what is done to the pool lies over all of them
+-- how the element of a mark between the bands begins; a mark of what is done to the pool lies over all of them
 abbrev pub mark_opening : Mark → List ℕ
 mark_opening mark = sign_opening mark.sign mark.at
 
@@ -92,12 +92,12 @@ column_opening column =
 
 -- ---- Texts.
 
--- a text that is made of a piece for each of some things, in their order, which begins with what is known of it
+-- a text that is made of a piece for each of some things, in their order; each piece begins with what is known of it
 abbrev pub IsMadeOf : {A : Type 0} → (A → List ℕ) → List A → List ℕ → Type 0
 IsMadeOf begins [] text = text ≡ []
 IsMadeOf begins (x ∷ xs) text = (look : List ℕ) × (rest : List ℕ) × (text ≡ begins x ++ (look ++ rest)) × IsMadeOf begins xs rest
 
--- The text of a picture of which each event is drawn: an element for each bar, and one for each refusal, start, cull and removal.
+-- The text of a chart that draws each event: an element for each bar, and one for each refusal, start, cull and removal.
 pub record IsEachDrawn (picture : Picture) (text : List ℕ) : Type 0 where
   pub front : List ℕ
   pub bars : List ℕ
@@ -108,7 +108,7 @@ pub record IsEachDrawn (picture : Picture) (text : List ℕ) : Type 0 where
   pub of_bars : IsMadeOf bar_opening picture.drawn.bars.items bars
   pub of_marks : IsMadeOf mark_opening picture.marks.items refusals
 
--- The text of a gathered picture: an element for each column.
+-- The text of a gathered chart: an element for each column.
 pub record IsGatheredDrawn (picture : Picture) (text : List ℕ) : Type 0 where
   pub front : List ℕ
   pub columns : List ℕ
@@ -116,18 +116,18 @@ pub record IsGatheredDrawn (picture : Picture) (text : List ℕ) : Type 0 where
   pub whole : text ≡ front ++ (columns ++ back)
   pub of_columns : IsMadeOf column_opening picture.drawn.columns.items columns
 
--- the text of a picture behind its beginning
+-- the text of a chart after its beginning
 abbrev pub IsRestDrawn : Picture → List ℕ → Type 0
 IsRestDrawn picture text = (picture.drawn.columns.items ≡ [] → IsEachDrawn picture text) × ((picture.drawn.columns.items ≡ [] → ⊥) → IsGatheredDrawn picture text)
 
--- a text that was added to another one, of which something is known
+-- a text with an addition about which something is known
 abbrev pub IsAddition : (List ℕ → Type 0) → List ℕ → List ℕ → Type 0
 IsAddition known old new = (part : List ℕ) × (new ≡ old ++ part) × known part
 
--- the text of a picture: it begins with the number of the events that are drawn, and with the style and the name once the page is laid out
+-- the text of a chart: it begins with the number of the events that are drawn, and with the style and the name once the page is laid out
 abbrev pub IsSvgOf : List ℕ → Picture → List ℕ → Type 0
 IsSvgOf name picture text = (page : List ℕ) × (rest : List ℕ) × (text ≡ opening (length picture.levels.items) ++ (page ++ (style ++ (name_line name ++ rest)))) × IsRestDrawn picture rest
 
--- the text of the picture, with a name, of the part of a history with this verdict in a pool of some limits that an extent asks for; its events may have times
+-- the text of the chart, with a name, of the part of a history with this verdict in a pool of some limits that an extent asks for; its events may have times
 abbrev pub IsHistorySvg : Extent → List ℕ → Sizes → Verdict → List JdkEvent → Option (List ℕ) → List ℕ → Type 0
 IsHistorySvg extent name limits verdict history times text = (picture : Picture) × IsPictureOf extent limits verdict history times picture × IsSvgOf name picture text

@@ -17,7 +17,7 @@ stats_header = codes "name" ∷ codes "caller" ∷ codes "value" ∷ []
 abbrev pub total_fields : List ℕ → ℕ → List (List ℕ)
 total_fields name value = name ∷ [] ∷ decimal value ∷ []
 
--- a span of time in a field: empty where there is none
+-- a span of time in a field: empty if there is none
 abbrev pub span_word : Option ℕ → List ℕ
 span_word (Some span) = decimal span
 span_word None = []
@@ -25,7 +25,7 @@ span_word None = []
 abbrev pub span_fields : List ℕ → Option ℕ → List (List ℕ)
 span_fields name span = name ∷ [] ∷ span_word span ∷ []
 
--- the records of how long jobs waited and ran, and how long idle workers took to come, where that is known
+-- the records of how long jobs waited and ran, and how long idle workers took to come, if that is known
 abbrev pub spans_records : Option JdkSpans → List (List (List ℕ))
 spans_records None = []
 spans_records (Some spans) =
@@ -63,8 +63,9 @@ verdict_word (FirstIllegal position) = codes "illegal " ++ decimal position
 abbrev pub verdict_fields : Verdict → List (List ℕ)
 verdict_fields verdict = codes "verdict" ∷ [] ∷ verdict_word verdict ∷ []
 
--- the records of the numbers of the whole history: how often each kind of event happened, the greatest numbers of jobs that waited, of jobs that
--- ran, and of workers, the jobs that never started, and what was refused or got an extra worker while a worker was idle
+-- the records of the numbers of the whole history: how often each kind of event happened; the greatest numbers of jobs that waited, of jobs
+-- that ran, and of workers; the jobs that never started; and how many submissions were refused or got an extra worker while a worker was
+-- idle
 abbrev pub total_records : JdkStats → List (List (List ℕ))
 total_records stats =
     total_fields (codes "submissions") stats.answers.submissions
@@ -85,7 +86,7 @@ total_records stats =
     ∷ total_fields (codes "extra_idle") stats.answers.extra_idle
     ∷ []
 
--- the records of what version 4 alone has words for, where the history is in that version
+-- the records that only version 4 has words for, if the history is in that version
 abbrev pub whole_records : JdkStats → Bool → List (List (List ℕ))
 whole_records stats false = []
 whole_records stats true =
@@ -98,8 +99,8 @@ whole_records stats true =
     ∷ total_fields (codes "time_outs") stats.counts.time_outs
     ∷ []
 
--- the records of the numbers of a history, under the header: those of the whole history, the spans of time where they are known, the callers, and
--- the verdict
+-- the records of the numbers of a history, under the header: those of the whole history, the spans of time if they are known, the callers,
+-- and the verdict
 abbrev pub stats_records : JdkStats → Option JdkSpans → Bool → List (List (List ℕ))
 stats_records stats spans is_whole =
     total_records stats ++ (whole_records stats is_whole ++ (spans_records spans ++ (callers_records stats.callers.entries ++ verdict_fields stats.verdict ∷ [])))
@@ -107,6 +108,6 @@ stats_records stats spans is_whole =
 abbrev pub stats_text : JdkStats → Option JdkSpans → Bool → List ℕ
 stats_text stats spans is_whole = table_text (stats_header ∷ stats_records stats spans is_whole)
 
--- One text is another one with this behind it.
+-- One text is another one followed by this.
 pub record IsExtended (old new part : List ℕ) : Type 0 where
   pub is : new ≡ old ++ part

@@ -1,7 +1,7 @@
 //! How many jobs run after each event, by how they started.
 //!
-//! Where a history is gathered into columns, this is drawn in place of bars. A table has how each job started that did, so an event
-//! costs the same however many jobs run.
+//! This is drawn instead of bars if a history is gathered into columns. A table has how each job that started did so. An event
+//! therefore costs the same, however many jobs run.
 
 ghost use Rattle.std.specs.Prelude.{◌≡◌, ◌-◌, ◌∷◌, [], ◌++◌, List, IfOk, OnOk, option_and_then};
 ghost use Rattle.std.specs.List.{cons_option};
@@ -62,7 +62,7 @@ impl Running {
         }
     }
 
-    // Those without others of them.
+    // These jobs less the others.
     fn less(self, others: Running) -> Running
         ensures core { result.core ≡ self.core - others.core }
         ensures extra { result.extra ≡ self.extra - others.extra }
@@ -88,7 +88,7 @@ fn finished_job(event: JdkEvent) -> Option<Id>
     }
 }
 
-// How a job had started, by the table of those that did.
+// How a job had started, by the table of the jobs that started.
 fn known_start(begun: &HashMap<(u16, u64), Start>, job: Option<Id>) -> Option<Start>
     ensures { (all : List (Id × Start)) → AreBegun all begun.now → result ≡ option_and_then (begun_at all) job }
 {
@@ -98,7 +98,7 @@ fn known_start(begun: &HashMap<(u16, u64), Start>, job: Option<Id>) -> Option<St
     begun.get(&(id.caller, id.number)).copied()
 }
 
-// How the job started that did at an event, if one did.
+// How the job started that starts at an event, if one does.
 fn start_of(job: Option<(Id, Start)>) -> Option<Start>
     ensures { result ≡ option_map (λ job. job.1) job }
 {
@@ -121,8 +121,7 @@ fn note(begun: &mut HashMap<(u16, u64), Start>, job: Option<(Id, Start)>) -> Res
     }
 }
 
-/// How many jobs run after each event, by how they started: as many as started so, less those of them that are finished.
-/// Errors: `AllocError` when out of memory.
+/// How many jobs run after each event, by how they started: those that started in this way, less those of them that are finished.
 pub(crate) fn areas_of(alloc: Global, events: &[JdkEvent]) -> Result<Vec<Running>, AllocError>
     ensures { IfOk result (λ areas. AreAreasOf events.now areas.items) }
 {

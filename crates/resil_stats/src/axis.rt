@@ -1,13 +1,13 @@
-//! The axis of a picture of events that have times: where a moment stands, which moments share a column, and how far ticks are apart.
+//! The axis of a chart of events that have times: where a moment is, which moments share a column, and how far apart ticks are.
 //!
-//! All is reckoned in whole microseconds, and in 128 bits where 64 are too few.
+//! Everything is computed in whole microseconds, and in 128 bits if 64 are too few.
 
 ghost use Rattle.std.specs.Prelude.{ℕ, ◌≡◌, ◌≤◌, ◌<◌, ◌⊎◌, ◌-◌, ◌*◌};
 ghost use Rattle.resil_stats.specs.Axis.{IsSpanEnd, IsSpanLength, IsTickStep, column_end, period_of, span_length, span_of, tick_unit, x_at};
 
 use crate::spans::time_at;
 
-/// From when to when an axis goes: two times in microseconds or, of events without times, two places.
+/// From when to when an axis goes: two times in microseconds or, if events have no times, two places.
 #[derive(Clone, Copy)]
 pub struct Period {
     /// The beginning.
@@ -90,7 +90,7 @@ const TICK_STEPS: [u64; 59] = [
     4_320_000_000_000_000_000,
 ];
 
-/// The period of so many events.
+/// The period of the first `count` events.
 pub(crate) fn period_of(times: &[u64], count: usize) -> Period
     ensures { result ≡ period_of times.now count }
 {
@@ -100,7 +100,7 @@ pub(crate) fn period_of(times: &[u64], count: usize) -> Period
     }
 }
 
-// The wider one of two steps, where four of the other one are no longer than this.
+// The wider of two steps, if four of the other one are no longer than this.
 fn wider(length: u64, widest: u64, step: u64) -> u64
     ensures one { (result ≡ widest) ⊎ ((result ≡ step) × (4 * step ≤ length)) }
     ensures kept { widest ≤ result }
@@ -121,7 +121,7 @@ impl Period {
         self.last.saturating_sub(self.first)
     }
 
-    /// Where a moment stands, in hundredths of a pixel: between the ends of the axis, and no earlier one stands further.
+    /// The position of a moment, in hundredths of a pixel: between the ends of the axis, and no earlier moment is further right.
     pub(crate) fn x_of(self, time: u64) -> u32
         ensures place { result ≡ x_at self time }
         ensures between { (9200 ≤ result) × (result ≤ 78600) × (time ≤ self.last → result ≤ 77200) }
@@ -132,7 +132,7 @@ impl Period {
         x.min(78_600) as u32
     }
 
-    /// How long the span of a column is: the least length of which 350 hold the whole period.
+    /// How long the span of a column is: the least length for which 350 spans hold the whole period.
     pub(crate) fn span_length(self) -> u64
         ensures length { result ≡ span_length self }
         ensures least { IsSpanLength self result }
@@ -155,7 +155,7 @@ impl Period {
         (start, start.saturating_add(long))
     }
 
-    /// Where the column of the span ends in which a moment lies, in hundredths of a pixel: also if no time is as late.
+    /// The end of the column that has the span in which a moment lies, in hundredths of a pixel: also if no time is as late.
     pub(crate) fn column_end(self, time: u64) -> u32
         ensures end { result ≡ column_end self time }
         ensures one_moment { self.last ≡ self.first → time ≡ self.first → result ≡ 77200 }
@@ -167,7 +167,7 @@ impl Period {
         end.min(78_600) as u32
     }
 
-    /// How far ticks are apart, in microseconds.
+    /// How far apart ticks are, in microseconds.
     pub(crate) fn tick_step(self) -> u64
         ensures { IsTickStep (self.last - self.first) result }
     {
@@ -178,8 +178,8 @@ impl Period {
         widest
     }
 
-    /// The unit of ticks that are this far apart, in microseconds: of ticks closer than a second one in which the whole period
-    /// isn't a fraction.
+    /// The unit of ticks that are this far apart, in microseconds. For ticks closer than a second, it is one in which the whole
+    /// period isn't a fraction.
     pub(crate) fn tick_unit(self, step: u64) -> u64
         ensures { result ≡ tick_unit (self.last - self.first) step }
     {
@@ -199,7 +199,7 @@ impl Period {
     }
 }
 
-/// Where the events end that follow in the span of the one behind the first so many, of all up to a place.
+/// The end of the events that follow the first `done` in the span of the next one, out of the first `count`.
 pub(crate) fn span_end(times: &[u64], period: Period, count: usize, done: usize) -> usize
     requires { done < count }
     ensures later { done < result }

@@ -1,8 +1,8 @@
 //! The bars of a history: one for each job that a worker began to run.
 //!
-//! The events are gone over once. Each row knows where its last bar ends; a job that starts takes the first
-//! row that is free by then, and its finish is looked for in what follows. Bars are drawn where there are
-//! 64 workers at most, so there are no more rows than that to be looked at, and no more jobs that look over one event.
+//! The events are gone over once. Each row knows where its last bar ends. A job that starts takes the first row that is
+//! free by then, and its finish is looked for in the events that follow. Bars are drawn only for at most 64 workers. So
+//! at most 64 rows are searched, and at most 64 jobs look over one event.
 
 ghost use Rattle.std.specs.Prelude.{◌≡◌, ◌≤◌, ◌+◌, ◌++◌, ◌∷◌, [], length, IfOk, OnOk};
 ghost use Rattle.std.specs.List.{position_or_len};
@@ -36,7 +36,7 @@ pub struct Bar {
     pub start: Start,
     /// The place of its start in the history, from 1.
     pub from: usize,
-    /// The place of its finish, or the place after the last event where it isn't finished.
+    /// The place of its finish, or the place after the last event if it isn't finished.
     pub to: usize,
     /// The row, from 1.
     pub row: usize,
@@ -75,7 +75,7 @@ fn is_finish_of(event: &JdkEvent, id: Id) -> bool
     }
 }
 
-// Where a job is finished among events, from 0: at their number where it isn't.
+// The index at which a job is finished among events, from 0: the number of events if it isn't.
 fn finish_in(events: &[JdkEvent], id: Id) -> usize
     ensures finish { result ≡ position_or_len (is_finish_of id) events.now }
     ensures within { result ≤ length events.now }
@@ -84,7 +84,7 @@ fn finish_in(events: &[JdkEvent], id: Id) -> usize
     before.count()
 }
 
-// The first row whose last bar ends before a place, from 0: a new one where each ends later.
+// The first row whose last bar ends before a place, from 0: a new one if all end later.
 fn free_row(ends: &[usize], place: usize) -> usize
     ensures row { result ≡ free_row place ends.now }
     ensures within { result ≤ length ends.now }

@@ -22,11 +22,11 @@ pub struct Level {
     pub workers: usize,
     /// The core size, in workers.
     pub core: u32,
-    /// The greatest size, in workers.
+    /// The maximum size, in workers.
     pub max: u32,
 }
 
-// The core size and the greatest size after one more event.
+// The core size and the maximum size after one more event.
 fn sizes_after(sizes: (u32, u32), event: JdkEvent) -> (u32, u32)
     ensures { result ≡ sizes_after sizes event }
 {
@@ -36,7 +36,7 @@ fn sizes_after(sizes: (u32, u32), event: JdkEvent) -> (u32, u32)
     }
 }
 
-/// The core size and the greatest size that a pool begins with: those of a resize before all else, or those of its opening.
+/// The core size and the maximum size that a pool begins with: those of a resize before all else, or those of its opening.
 pub(crate) fn opening_sizes(limits: &JdkLimits, events: &[JdkEvent]) -> (u32, u32)
     ensures { result ≡ opening_sizes limits.now events.now }
 {

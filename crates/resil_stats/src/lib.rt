@@ -1,15 +1,15 @@
-//! What a history of any pool of the JDK comes to: its numbers, and its picture, as data and as text.
+//! What a history of any pool of the JDK comes to: its numbers, and its chart, as data and as text.
 //!
-//! `stats` counts the events of a history, up to its first illegal one: how often each kind happened, how full the
-//! pool got, and what each caller submitted. `specs/Stats.antt` says what each number means: a filter over the
-//! events, or the greatest of a number over their prefixes. `spans` tells how long jobs waited and ran, and how long idle
-//! workers took to come, where events have times: `specs/Spans.antt`. `text` writes them as a table, and `results` reads what a
-//! run came to.
+//! `stats` counts the events of a history, up to its first illegal one: how often each kind happened, how full the pool got, and what each
+//! caller submitted. `specs/Stats.antt` says what each number means: a filter over the events, or the greatest of a number over their
+//! prefixes. If events have times, `spans` measures how long jobs waited and ran, and how long idle workers took to come:
+//! `specs/Spans.antt`. `text` writes them as a table, and `results` reads the results of a run.
 //!
-//! `picture` draws the same events: a bar for each job that ran, marks, and how full the pool was after each event,
-//! or, where there are many events or workers, columns and how many jobs ran. `specs/Bars.antt`, `specs/Marks.antt`, `specs/Depth.antt`,
-//! `specs/Columns.antt` and `specs/Areas.antt` say what is drawn, `specs/Window.antt` of which events, and `specs/Axis.antt` where, if events have times. `svg` writes it, with what came of the jobs: `specs/Svg.antt` says which elements stand in the
-//! text, and its templates how it looks.
+//! `picture` draws the same events: a bar for each job that ran, marks, and how full the pool was after each event. If there are many
+//! events or workers, it draws columns and how many jobs ran instead of bars. `specs/Bars.antt`, `specs/Marks.antt`, `specs/Depth.antt`,
+//! `specs/Columns.antt` and `specs/Areas.antt` say what is drawn, `specs/Window.antt` of which events, and `specs/Axis.antt` where, if
+//! events have times. `svg` writes it, with the results of the jobs: `specs/Svg.antt` says which elements the text has, and its templates
+//! how it looks.
 #![tactic(auto)]
 
 mod areas;

@@ -1,4 +1,4 @@
-//! What is marked in a picture: each refusal, each worker that begins without a job or ends though jobs may wait, each removal, and
+//! What is marked in a chart: each refusal, each worker that begins without a job or ends though jobs may wait, each removal, and
 //! what is done to the pool.
 
 ghost use Rattle.std.specs.Prelude.{◌≡◌, IfOk};
@@ -27,11 +27,11 @@ pub enum Sign {
     Stopping,
     /// The sizes of the pool were changed to these.
     Resized { core: u32, max: u32 },
-    /// From here on core workers time out, or not any more.
+    /// From here on core workers time out, or no longer do.
     TimeOut(bool),
 }
 
-/// A mark, and where it stands.
+/// A mark, and its place.
 #[derive(Clone, Copy)]
 pub struct Mark {
     /// The place of its event in the history, from 1.
@@ -61,7 +61,7 @@ fn sign_at(event: JdkEvent) -> Option<Sign>
     }
 }
 
-// The mark of an event at a place, where it has one.
+// The mark of an event at a place, if it has one.
 fn mark_at(at: usize, event: JdkEvent) -> Option<Mark>
     ensures { result ≡ mark_at (at, event) }
 {

@@ -1,4 +1,4 @@
-//! The picture of a history: what is drawn of it, up to its first illegal event.
+//! The chart of a history: what is drawn of it, up to its first illegal event.
 
 ghost use Rattle.std.specs.Prelude.{◌≡◌, ◌≤◌, IfOk, filter, length, option_map};
 ghost use Rattle.resil_jdk.specs.Admission.{IsLegal};
@@ -35,7 +35,7 @@ pub struct Illegal {
 pub struct Picture {
     /// The sizes that the pool was opened with.
     pub limits: JdkLimits,
-    /// The core size and the greatest size that it begins with: those of a resize before all else, or those of its opening.
+    /// The core size and the maximum size that it begins with: those of a resize before all else, or those of its opening.
     pub opening: (u32, u32),
     /// How many events the history has, illegal ones too.
     pub events: usize,
@@ -43,7 +43,7 @@ pub struct Picture {
     pub stats: JdkStats,
     /// Which of its events are drawn, and from where to where the axis goes.
     pub window: Window,
-    /// How high the scales go, where that was asked for.
+    /// How high the scales go, if the extent says so.
     pub heights: Heights,
     /// The refusals, starts, culls and removals in the window, and what was done to the pool there, in their order.
     pub marks: Vec<Mark>,
@@ -51,18 +51,18 @@ pub struct Picture {
     pub levels: Vec<Level>,
     /// What is drawn of the jobs that ran.
     pub drawn: Drawn,
-    /// The first illegal event, where there is one.
+    /// The first illegal event, if there is one.
     pub illegal: Option<Illegal>,
 }
 
-/// What is drawn of the jobs that ran: each of them, or columns where there are too many events or workers.
+/// What is drawn of the jobs that ran: each of them, or columns if there are too many events or workers.
 #[derive(Drop)]
 pub struct Drawn {
-    /// The bars that reach into the window, in the order of the starts of their jobs: none where events are gathered.
+    /// The bars that reach into the window, in the order of the starts of their jobs: none if events are gathered.
     pub bars: Vec<Bar>,
     /// The columns of the window.
     pub columns: Vec<Column>,
-    /// How many jobs run after each event of the history, by how they started: none where events aren't gathered.
+    /// How many jobs run after each event of the history, by how they started: none if events aren't gathered.
     pub areas: Vec<Running>,
 }
 
@@ -154,8 +154,8 @@ pub fn legal_part(history: &[JdkEvent], verdict: Verdict) -> &[JdkEvent]
     }
 }
 
-/// The picture of a history with this verdict in a pool of these limits, in columns by the times of its events where they have some: of the
-/// part of it that an extent asks for. Its levels and its numbers are those of the whole history.
+/// The chart of a history with this verdict in a pool of these limits: of the part of it that an extent asks for, in columns by the times
+/// of its events if they have times. Its levels and its numbers are those of the whole history.
 ///
 /// # Errors
 ///

@@ -1,8 +1,7 @@
-//! The results of a run, which may stand behind a history as `run` writes them.
+//! The results of a run, which may follow a history as `run` writes them.
 //!
-//! An empty line and the header of the results part the two. Each result has a row: the id of a job,
-//! its outcome and its calls, its waits, and the bulkheads that it asked for a permit, with their
-//! answers.
+//! An empty line and the header of the results separate the two. Each result has a row: the id of a job, its outcome
+//! and its calls, its waits, and the bulkheads that it asked for a permit, with their answers.
 
 ghost use Rattle.std.specs.Prelude.{◌≡◌, ◌&&◌, ℕ, [], get_or, MatchResult, option_map};
 ghost use Rattle.csv.specs.Records.{fields_of};
@@ -19,7 +18,7 @@ use resil_rule::Id;
 use std::alloc::{AllocError, Global};
 use std::collections::BTreeMap;
 
-/// What a job of a run came to.
+/// How a job of a run ended.
 #[derive(Clone, Copy)]
 pub struct JobResult {
     /// The job.
@@ -67,8 +66,8 @@ fn parts_results(line: &[u8], rest: &[u8]) -> bool
     is_empty_line(line) && begins_results(rest)
 }
 
-/// The history and the results of a body, before and after the first empty line that the header of
-/// the results follows, or `None` where it has no results.
+/// The history and the results of a body, before and after the first empty line that the header of the results follows,
+/// or `None` if it has no results.
 ///
 /// The history keeps its last newline, and the results begin with their header.
 pub fn split_results(body: &[u8]) -> Option<(&[u8], &[u8])>
@@ -92,7 +91,7 @@ fn is_wait(item: &[u8]) -> bool
     parse_from_zero(item).is_some()
 }
 
-// Whether an item is the id of a bulkhead, with `y` or `n` behind it.
+// Whether an item is the id of a bulkhead, followed by `y` or `n`.
 fn is_answer(item: &[u8]) -> bool
     ensures { result ≡ is_answer item.now }
 {
@@ -103,14 +102,14 @@ fn is_answer(item: &[u8]) -> bool
     parse_from_zero(&item[..end]).is_some() && (letter == b'y' || letter == b'n')
 }
 
-// Whether a field is waits, with semicolons between them, or empty.
+// Whether a field is waits, separated by semicolons, or empty.
 fn are_waits(field: &[u8]) -> bool
     ensures { result ≡ are_items is_wait field.now }
 {
     field.is_empty() || field.split(|byte| *byte == b';').all(|item| is_wait(item))
 }
 
-// Whether a field is answers, with semicolons between them, or empty.
+// Whether a field is answers, separated by semicolons, or empty.
 fn are_answers(field: &[u8]) -> bool
     ensures { result ≡ are_items is_answer field.now }
 {
@@ -120,7 +119,7 @@ fn are_answers(field: &[u8]) -> bool
             .all(|item| is_answer(item))
 }
 
-// Reads the result of a record of six fields, of which the first two name its job.
+// Reads the result of a record of six fields. The first two name its job.
 fn parse_result(fields: &ByteRecord) -> Option<JobResult>
     ensures { let at = λ (i : ℕ). get_or (fields_of fields.now) i [] in result ≡ parse_result_fields (at 0) (at 1) (at 2) (at 3) (at 4) (at 5) }
 {
@@ -140,15 +139,15 @@ fn parse_result(fields: &ByteRecord) -> Option<JobResult>
 ///
 /// # Errors
 ///
-/// The first that is met: `Memory` when out of memory; `BadHeader` where the first record is
-/// missing or isn't the header; `BadRow` with the position of the first record that is no result.
+/// The first that is met: `Memory` when out of memory; `BadHeader` if the first record is missing or isn't the header;
+/// `BadRow` with the position of the first record that is no result.
 pub fn read_results(alloc: Global, text: &[u8]) -> Result<Vec<JobResult>, BodyError>
     ensures { MatchResult result (λ rows. AreResults text.now rows.items) (IsResultsError text.now) }
 {
     csv_rows::read_rows(alloc, HEADER, |fields| Ok(parse_result(fields)), text)
 }
 
-/// How jobs ended, by their ids. Of two results for one job the first counts.
+/// How jobs ended, by their ids. If a job has two results, the first counts.
 #[derive(Drop)]
 pub struct Outcomes {
     by_id: BTreeMap<(u16, u64), Outcome>,
@@ -168,7 +167,7 @@ impl Outcomes {
         Ok(Outcomes { by_id })
     }
 
-    /// How a job ended, where that is known.
+    /// How a job ended, if that is known.
     pub(crate) fn get(&self, id: Id) -> Option<Outcome> {
         self.by_id.get(&(id.caller, id.number)).copied()
     }

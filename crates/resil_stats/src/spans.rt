@@ -1,7 +1,7 @@
 //! How long the jobs of a history of any version waited and ran, and how long idle workers took to come, by the times of its events.
 //!
-//! A span of a job begins at one event and ends at another one: a wait with its submission and its start, a run with its start and its
-//! finish, a wake with a submission that was queued while more workers were idle than jobs waited, and its take. So a table of where
+//! A span of a job begins at one event and ends at another. A wait goes from its submission to its start, a run from its start to its
+//! finish, and a wake from a submission that was queued while more workers were idle than jobs waited to its take. So a table of where
 //! each job's span began gives the span at the event that ends it. Jobs may leave the queue from anywhere in it.
 
 ghost use Rattle.std.specs.Prelude.{◌≡◌, ◌-◌, ◌++◌, ◌∷◌, [], ℕ, List, IfOk, OnOk, length, nat_lt, option_and_then, slice_get, slice_index};
@@ -21,12 +21,12 @@ use resil_rule::Id;
 use std::alloc::{AllocError, Global};
 use std::collections::HashMap;
 
-/// Three of some spans of time, in microseconds, by the nearest rank; none where there is no span.
+/// The ranks of some spans of time, in microseconds, by the nearest rank; none if there is no span.
 #[derive(Clone, Copy, PartialEq, Eq, Debug)]
 pub struct Ranks {
-    /// Of n in ascending order the one at place ⌈n/2⌉.
+    /// The median: of n spans in ascending order, the one at place ⌈n/2⌉.
     pub median: Option<u64>,
-    /// The one at place ⌈99n/100⌉.
+    /// The 99th percentile: the one at place ⌈99n/100⌉.
     pub p99: Option<u64>,
     /// The greatest.
     pub most: Option<u64>,
@@ -43,7 +43,7 @@ pub struct JdkSpans {
     pub wakes: Ranks,
 }
 
-/// What the spans are of which some are measured.
+/// Which spans are measured.
 #[derive(Clone, Copy)]
 pub(crate) enum Measure {
     /// From a job's submission to its start.
@@ -98,7 +98,7 @@ fn woken_id(load: Load, event: JdkEvent) -> Option<Id>
     }
 }
 
-// The job whose span begins at the event of an index, by the load before it. The first events restate a state.
+// The job whose span begins at the event of an index, by the load before it. The first events restate a state, and begin no wait and no wake.
 fn begun_id(
     measure: Measure,
     restated: usize,
@@ -161,7 +161,7 @@ fn note(
     }
 }
 
-/// The time at an index, 0 where there is none.
+/// The time at an index, 0 if there is none.
 pub(crate) fn time_at(times: &[u64], index: usize) -> u64
     ensures { result ≡ slice_index times.now index }
 {
@@ -221,7 +221,7 @@ fn measured(
     Ok(lengths)
 }
 
-// The number at a place, from 1, of some in ascending order.
+// The number at a place, from 1, of some numbers in ascending order.
 fn at_place(ascending: &[u64], place: usize) -> Option<u64>
     ensures { result ≡ slice_get ascending.now (place - 1) }
 {
@@ -242,8 +242,8 @@ pub(crate) fn ranks_of(spans: Vec<u64>) -> Ranks
     }
 }
 
-/// How long the jobs of legal events waited, by the times of the events. The first events, as many as `restated`, restate the state in
-/// which the record begins: what they submit has no wait.
+/// How long the jobs of legal events waited, by the times of the events. The first `restated` events restate the state in which the
+/// record begins: the jobs that they submit have no wait.
 ///
 /// # Errors
 ///
@@ -262,7 +262,7 @@ pub fn waits_of_jdk(
 }
 
 /// How long the jobs of legal events waited and ran, and how long idle workers took to come, by the times of the events. The first
-/// events, as many as `restated`, restate the state in which the record begins: what they submit has no wait and no wake.
+/// `restated` events restate the state in which the record begins: the jobs that they submit have no wait and no wake.
 ///
 /// # Errors
 ///

@@ -1,7 +1,7 @@
-//! What a history of any version comes to in numbers, by the whole rule of the JDK's `ThreadPoolExecutor`.
+//! The numbers of a history of any version, by the whole rule of the JDK's `ThreadPoolExecutor`.
 //!
-//! The events are legal. They are gone over once for each kind of number, with the load of the pool where a number depends on it. The
-//! first events may restate the state in which a record begins: what they submit counts in no submission.
+//! The events are legal. They are gone over once for each kind of number, with the load of the pool if a number depends on it. The
+//! first events may restate the state in which a record begins: their submissions aren't counted.
 
 ghost use Rattle.std.specs.Prelude.{◌≡◌, ◌<◌, ◌+◌, ◌-◌, ◌++◌, ◌∷◌, [], ◌^◌, ℕ, List, length, max, nat_lt, take, drop, IfOk, OnOk};
 ghost use Rattle.std.specs.Ordering.{nat_cmp};
@@ -33,7 +33,7 @@ pub struct JdkAnswers {
     pub closed: usize,
     /// The submissions that were put into the queue with a new worker, since there was none.
     pub first: usize,
-    /// The submissions that were handed to an idle worker.
+    /// The submissions that went directly to an idle worker.
     pub handed: usize,
     /// Those of `full` before which a worker was idle.
     pub refused_idle: usize,
@@ -140,7 +140,7 @@ impl Load {
         }
     }
 
-    // What an event makes of a load.
+    // How an event changes a load.
     fn moved(self, event: JdkEvent) -> Load
         requires { MayMove self event }
         ensures { IsMoved self event result }
@@ -240,13 +240,13 @@ pub struct JdkStats {
     pub most: Load,
     /// The jobs that were accepted, and that no worker ran.
     pub never_started: usize,
-    /// What each caller submitted, for those that did, by their number.
+    /// What each caller submitted, for the callers that did, by their number.
     pub callers: BTreeMap<u16, CallerStats>,
-    /// Whether the history is legal, and where it first isn't.
+    /// Whether the history is legal and, if not, where its first illegal event is.
     pub verdict: Verdict,
 }
 
-// How often each event happened that is no submission.
+// How often each event happened that isn't a submission.
 fn counts_of(events: &[JdkEvent]) -> JdkCounts
     ensures { AreJdkCountsOf events.now result }
 {
@@ -301,7 +301,7 @@ fn is_accepting(reply: JdkReply) -> bool
     !matches!(reply, JdkReply::Full | JdkReply::Closed)
 }
 
-// Counts one more event for its caller, where it is a submission. Errors, with nothing counted: `AllocError` when out of memory.
+// Counts one more event for its caller, if it is a submission. Errors, with nothing counted: `AllocError` when out of memory.
 fn record_caller(
     callers: &mut BTreeMap<u16, CallerStats>,
     event: JdkEvent,
@@ -332,8 +332,8 @@ fn callers_of(alloc: Global, events: &[JdkEvent]) -> Result<BTreeMap<u16, Caller
     Ok(callers)
 }
 
-/// The numbers of events that are legal by the whole rule, as those before the first illegal one of a history with this verdict. The
-/// first events, as many as `restated`, restate the state in which the record begins.
+/// The numbers of events that are legal by the whole rule: those before the first illegal one of a history with this verdict. The
+/// first `restated` events restate the state in which the record begins.
 ///
 /// # Errors
 ///

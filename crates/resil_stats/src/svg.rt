@@ -1,8 +1,8 @@
-//! The text of a picture: one SVG, with no script and no reference outside of it. Its one style gives colours for dark ground.
+//! The text of a chart: one SVG, with no script and no reference to anything outside it. Its one style gives colours for a dark background.
 //!
-//! Each number that is written comes from the picture; where it stands is computed from it in whole hundredths of a
-//! pixel. `elements` has the elements of bars, refusals and columns, of which clauses say how they begin. What stands
-//! around them is written by templates into a `Draft`: `frame`, `jobs`, `bands` and `over`, by the places of `page`.
+//! Each number that is written comes from the chart, and its position is computed from it in whole hundredths of a pixel. `elements` has
+//! the elements of bars, refusals and columns; clauses say how they begin. Templates write everything around them into a `Draft`: `frame`,
+//! `jobs`, `bands` and `over`, by the places of `page`.
 
 ghost use Rattle.std.specs.Prelude.{ℕ, ◌≡◌, ◌++◌, IfOk, List, OnOk, string_bytes};
 ghost use Rattle.resil_stats.specs.Svg.{IsAddition, IsEachDrawn, IsGatheredDrawn, IsRestDrawn, IsSvgOf};
@@ -37,7 +37,8 @@ use sheet::{Sheet, points_of};
 use std::alloc::{AllocError, Global};
 use std::fmt::Display;
 
-/// A text that `put!` and `line!` add to. Where memory runs out the rest is left out, and its end tells so, so that nobody asks in between.
+/// A text that `put!` and `line!` add to. Once it is out of memory, the rest is left out and its end reports that, so that nobody asks in
+/// between.
 #[derive(Drop)]
 pub(crate) struct Draft {
     text: Result<String, AllocError>,
@@ -60,7 +61,7 @@ impl Draft {
         }
     }
 
-    /// Adds a time as data of an element, where there is one.
+    /// Adds a time as data of an element, if there is one.
     pub(crate) fn put_time(&mut self, name: &str, time: Option<u64>) {
         if let Some(time) = time {
             put!(self; r#"{name}="{time}" "#);
@@ -74,7 +75,7 @@ impl Draft {
         }
     }
 
-    /// What was made to be written, or that memory ran out for it.
+    /// The text, if it was made. If not, the draft is out of memory.
     pub(crate) fn made(&mut self, made: Result<String, AllocError>) -> Option<String> {
         if made.is_err() {
             self.text = Err(AllocError);
@@ -82,21 +83,20 @@ impl Draft {
         made.ok()
     }
 
-    /// The whole text.
-    /// Errors: `AllocError` where memory ran out.
+    /// The whole text. Errors: `AllocError` when out of memory.
     pub(crate) fn finish(self) -> Result<String, AllocError> {
         self.text
     }
 }
 
-// Adds a part to a text, where it could be made. Errors: `AllocError` when out of memory, or ran out for the part.
+// Adds a part to a text, if the part could be made. Errors: `AllocError` when out of memory, also for the part.
 fn push_part(text: &mut String, part: Result<String, AllocError>) -> Result<(), AllocError>
     ensures { OnOk result ((part : List ℕ) × (string_bytes text.new ≡ string_bytes text.old ++ part)) }
 {
     text.push_str(part?.as_str())
 }
 
-// What is written before the bars, or the columns, and so lies below them. Errors: `AllocError` when out of memory.
+// What is written before the bars, or the columns, and so is beneath them. Errors: `AllocError` when out of memory.
 fn front_text(sheet: &Sheet, picture: &Picture) -> Result<String, AllocError> {
     let mut draft = Draft::new(sheet.alloc);
     write_frame(&mut draft, sheet, picture);
@@ -143,7 +143,7 @@ fn push_gathered(text: &mut String, sheet: &Sheet, picture: &Picture) -> Result<
     Ok(())
 }
 
-// Adds all of a picture but its beginning. Errors: `AllocError` when out of memory.
+// Adds all of a chart but its beginning. Errors: `AllocError` when out of memory.
 fn push_rest(text: &mut String, sheet: &Sheet, picture: &Picture) -> Result<(), AllocError>
     ensures { OnOk result (IsAddition (IsRestDrawn picture.now) (string_bytes text.old) (string_bytes text.new)) }
 {
@@ -154,10 +154,10 @@ fn push_rest(text: &mut String, sheet: &Sheet, picture: &Picture) -> Result<(), 
     }
 }
 
-/// What a picture says that isn't in its history.
+/// What a chart says that isn't in its history.
 #[derive(Clone, Copy)]
 pub struct Caption<'a> {
-    /// A name, empty where there is none.
+    /// A name, empty if there is none.
     pub name: &'a str,
     /// When the first event was, if that is known: in microseconds since midnight, UTC.
     pub began: Option<u64>,
@@ -165,9 +165,9 @@ pub struct Caption<'a> {
     pub illegal: &'a str,
 }
 
-/// The text of a picture, laid out by the times of its events where they have some, with the results of its jobs. It begins with
-/// the number of the events that are drawn, then the style, and a name where that isn't empty; each bar and each refusal has an element, in
-/// their order, or each column where there are columns.
+/// The text of a chart, laid out by the times of its events if they have times, with the results of its jobs. It begins with the number of
+/// the events that are drawn, then the style, and a name unless that is empty. Each bar and each refusal has an element, in their order, or
+/// each column if there are columns.
 ///
 /// # Errors
 ///

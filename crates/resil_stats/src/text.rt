@@ -22,7 +22,7 @@ fn push_total(alloc: Global, text: &mut String, name: &str, value: usize) -> Res
     text.push_str(record.as_str())
 }
 
-// Writes a span of time, or nothing as its value where there is none. Errors: `AllocError` when out of memory.
+// Writes a span of time, or an empty value if there is none. Errors: `AllocError` when out of memory.
 fn push_span(
     alloc: Global,
     text: &mut String,
@@ -43,8 +43,8 @@ fn push_span(
     }
 }
 
-// Writes how long jobs waited and ran, and how long idle workers took to come, where that is known. Errors: `AllocError` when out
-// of memory.
+// Writes how long jobs waited and ran, and how long idle workers took to come, if that is known. Errors: `AllocError` when out of
+// memory.
 fn push_spans(alloc: Global, text: &mut String, spans: Option<JdkSpans>) -> Result<(), AllocError>
     ensures { OnOk result (IsExtended (string_bytes text.old) (string_bytes text.new) (table_text (spans_records spans))) }
 {
@@ -129,7 +129,7 @@ fn push_totals(alloc: Global, text: &mut String, stats: &JdkStats) -> Result<(),
     Ok(())
 }
 
-// Writes what version 4 alone has words for. Errors: `AllocError` when out of memory.
+// Writes the numbers that only version 4 has words for. Errors: `AllocError` when out of memory.
 fn push_own_totals(alloc: Global, text: &mut String, stats: &JdkStats) -> Result<(), AllocError>
     ensures { OnOk result (IsExtended (string_bytes text.old) (string_bytes text.new) (table_text (whole_records stats.now true))) }
 {
@@ -144,7 +144,7 @@ fn push_own_totals(alloc: Global, text: &mut String, stats: &JdkStats) -> Result
     Ok(())
 }
 
-// Writes what version 4 alone has words for, where the history is in that version. Errors: `AllocError` when out of memory.
+// Writes the numbers that only version 4 has words for, if the history is in that version. Errors: `AllocError` when out of memory.
 fn push_whole(
     alloc: Global,
     text: &mut String,
@@ -178,10 +178,10 @@ fn push_numbers(
     Ok(())
 }
 
-/// The text of the numbers of a history: the header `name,caller,value`, then a record for each
-/// number of the whole history, with an empty caller, for seven more if it is in version 4, and for eight spans of time, in
-/// microseconds, where they are known; then three for each caller that submitted, by its number ascending; and at the end the
-/// record `verdict,,` with `legal`, or `illegal` and the position of the first illegal event, from 1.
+/// The text of the numbers of a history: first the header `name,caller,value`. Then comes a record for each number of the whole
+/// history, with an empty caller; seven more if it is in version 4; and eight spans of time, in microseconds, if they are known.
+/// Three for each caller that submitted follow, by its number ascending. The last record is `verdict,,` with `legal`, or
+/// `illegal` and the position of the first illegal event, from 1.
 ///
 /// # Errors
 ///

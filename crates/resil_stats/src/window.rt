@@ -1,6 +1,6 @@
-//! The window of a picture: which events of a history are drawn, and how high its scales go.
+//! The window of a chart: which events of a history are drawn, and how high its scales go.
 //!
-//! What holds in a window is what the whole history comes to there: nothing is counted anew from its beginning.
+//! A window shows the state of the whole history there: nothing is counted anew from its beginning.
 
 ghost use Rattle.std.specs.Prelude.{◌≡◌, ◌≤◌, ◌<◌, count_by, filter, length, max, nat_le, nat_lt, option_map, take};
 ghost use Rattle.resil_stats.specs.Window.{before_of, height_of, is_marked, is_reached, through_of, whole_of, window_of};
@@ -9,12 +9,12 @@ use crate::axis::{Period, period_of};
 use crate::bars::Bar;
 use crate::marks::Mark;
 
-/// From when to when a history is to be drawn, and how high its scales are to go at least.
+/// From when to when to draw a history, and how high its scales go at least.
 #[derive(Clone, Copy)]
 pub struct Extent {
-    /// The beginning: a time in microseconds or, of a history without times, a place from 1. That of the first event if absent.
+    /// The beginning: a time in microseconds or, if the history has no times, a place from 1. By default, that of the first event.
     pub from: Option<u64>,
-    /// The end. That of the last event that can be drawn if absent.
+    /// The end. By default, that of the last event that can be drawn.
     pub to: Option<u64>,
     /// The jobs that wait.
     pub waiting: Option<u32>,
@@ -41,11 +41,11 @@ pub struct Window {
     pub end: usize,
     /// The beginning and the end of its axis, in microseconds or as places.
     pub period: Period,
-    /// Whether neither a beginning nor an end was asked for.
+    /// Whether neither a beginning nor an end is given.
     pub is_whole: bool,
 }
 
-/// How high the scales go, where that was asked for: to what there is, where that is more.
+/// How high the scales go, if that is given: as high as the numbers, if these are higher.
 #[derive(Clone, Copy)]
 pub struct Heights {
     /// The jobs that wait.
@@ -68,14 +68,14 @@ fn count_up_to(times: &[u64], time: u64) -> usize
     times.iter().filter(|other| **other <= time).count()
 }
 
-// The times of the first so many events.
+// The times of the first `count` events.
 fn first_times(times: &[u64], count: usize) -> &[u64]
     ensures { result.now ≡ take count times.now }
 {
     &times[..count.min(times.len())]
 }
 
-// How many of the first so many events are before a beginning.
+// How many of the first `count` events are before a beginning.
 fn before_of(times: Option<&[u64]>, count: usize, from: u64) -> usize
     ensures { result ≡ before_of (option_map (λ times. times.now) times.entry) count from }
 {
@@ -85,7 +85,7 @@ fn before_of(times: Option<&[u64]>, count: usize, from: u64) -> usize
     }
 }
 
-// How many of the first so many events are no later than an end.
+// How many of the first `count` events are no later than an end.
 fn through_of(times: Option<&[u64]>, count: usize, to: u64) -> usize
     ensures { result ≡ through_of (option_map (λ times. times.now) times.entry) count to }
 {
@@ -95,7 +95,7 @@ fn through_of(times: Option<&[u64]>, count: usize, to: u64) -> usize
     }
 }
 
-// From the first of so many events to the last one.
+// From the first of `count` events to the last one.
 fn whole_of(times: Option<&[u64]>, count: usize) -> Period
     ensures { result ≡ whole_of (option_map (λ times. times.now) times.entry) count }
 {
@@ -108,7 +108,7 @@ fn whole_of(times: Option<&[u64]>, count: usize) -> Period
     }
 }
 
-/// The window of so many events, which may have times.
+/// The window of `count` events, which may have times.
 pub(crate) fn window_of(extent: Extent, times: Option<&[u64]>, count: usize) -> Window
     ensures window { result ≡ window_of extent (option_map (λ times. times.now) times.entry) count }
     ensures order { result.before ≤ result.end }
@@ -134,7 +134,7 @@ pub(crate) fn window_of(extent: Extent, times: Option<&[u64]>, count: usize) -> 
     }
 }
 
-// How high a scale goes, if that was asked for: as high as there is, where that is more.
+// How high a scale goes, if that is given: as high as the numbers, if these are higher.
 fn height_of(asked: Option<u32>, most: usize) -> Option<usize>
     ensures { result ≡ height_of asked most }
 {
@@ -145,7 +145,7 @@ fn height_of(asked: Option<u32>, most: usize) -> Option<usize>
 }
 
 impl Heights {
-    /// How high the scales go of a picture with so many jobs that wait and so many workers.
+    /// How high the scales go of a chart with this many jobs that wait and this many workers.
     pub(crate) fn of(extent: Extent, waiting: usize, workers: usize) -> Heights
         ensures waiting { result.waiting ≡ height_of extent.waiting waiting }
         ensures workers { result.workers ≡ height_of extent.workers workers }

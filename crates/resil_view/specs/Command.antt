@@ -18,20 +18,20 @@ use Rattle.resil_view.specs.declared.command.View.TheVariants as view
 abbrev pub drawn_uses : Uses
 drawn_uses = record { idle_for = false; made = false; owner = false; began = true; drawing = true }
 
--- how far a picture reaches, by what a head says of it
+-- how far a chart reaches, by what a head says of it
 abbrev pub extent_of : Drawing → Extent
 extent_of drawing = record { from = drawing.from; to = drawing.to; waiting = drawing.most_waiting; workers = drawing.most_workers }
 
--- the text of the picture, with a name, of a history in a pool of these sizes as far as an extent asks for, by the verdict of `judge`
+-- the text of the chart, with a name, of a history in a pool of these sizes as far as an extent asks for, by the verdict of `judge`
 abbrev pub IsPictureText : Extent → List ℕ → Sizes → AnyEvents → Option (List ℕ) → List ℕ → Type 0
 IsPictureText extent name limits events times text = (verdict : Verdict) × IsJudgment limits events verdict × IsHistorySvg extent name limits verdict (jdk_events events) times text
 
--- the text is that of the picture of the history of the input: the results behind it can be read, and the times ascend
+-- the text is that of the chart of the history of the input: the results behind it can be read, and the times ascend
 abbrev pub IsTimelineText : List ℕ → List ℕ → Type 0
 IsTimelineText input text = (said : PoolHeadView) × (events : AnyEvents) × (times : Option (List ℕ)) × (results : Option (List ℕ))
     × IsReadFrom (pool_head_of drawn_uses) IsAnyBody input said events times results × AreRead results × AreInOrder times × IsPictureText (extent_of said.drawing) said.name said.limits events times text
 
--- the text of a view of the history that is read of the input: its verdict, its numbers, or its picture with its name
+-- the text of a view of the history that is read of the input: its verdict, its numbers, or its chart with its name
 abbrev pub IsViewText : View → List ℕ → List ℕ → Type 0
 IsViewText view.Judge = IsJudgeText
 IsViewText view.Stats = IsStatsText

@@ -1,4 +1,4 @@
-//! `timeline`: the picture of a history of any version, in a pool of any sizes.
+//! `timeline`: the chart of a history of any version, in a pool of any sizes.
 //!
 //! What is drawn are the events before the first illegal one, by the verdict of `judge`, in the words of the whole rule. A head may say
 //! when the first event was, from when to when the history is drawn, and how high the scales go.
@@ -36,7 +36,7 @@ pub const DRAWN_USES: Uses = Uses {
     drawing: true,
 };
 
-// An event as a picture has it.
+// An event as a chart has it.
 #[derive(Clone, Copy)]
 struct Told(JdkEvent);
 
@@ -119,7 +119,7 @@ fn times_of(history: &AnyHistory) -> Option<&[u64]>
     }
 }
 
-// How far a picture reaches, by what a head says of it.
+// How far a chart reaches, by what a head says of it.
 fn extent_of(drawing: Drawing) -> Extent
     ensures { result ≡ extent_of drawing }
 {
@@ -131,7 +131,7 @@ fn extent_of(drawing: Drawing) -> Extent
     }
 }
 
-// The text of the picture of a history with this verdict, whose events are in the words of the whole rule, with the results of its jobs.
+// The text of the chart of a history with this verdict, whose events are in the words of the whole rule, with the results of its jobs.
 // Errors: `AllocError` when out of memory.
 fn shown(
     alloc: Global,
@@ -157,7 +157,7 @@ fn shown(
     svg_text(alloc, caption, &picture, times, &outcomes)
 }
 
-// The text of the picture of a history, with the results of its jobs. Errors: `AllocError` when out of memory.
+// The text of the chart of a history, with the results of its jobs. Errors: `AllocError` when out of memory.
 fn drawn(
     alloc: Global,
     head: &PoolHead,
@@ -176,7 +176,7 @@ fn drawn(
     }
 }
 
-/// The text of the picture of the history that an input has. Errors: as those of `view_text`.
+/// The text of the chart of the history that an input has. Errors: as those of `view_text`.
 pub(crate) fn drawn_text(alloc: Global, input: &[u8]) -> Result<Vec<u8>, CommandError>
     ensures { MatchResult result (λ text. IsTimelineText input.now text.items) (IsError (IsShownRefusal input.now)) }
 {

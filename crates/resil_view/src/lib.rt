@@ -1,6 +1,6 @@
 //! `judge`, `stats` and `timeline` over bytes: what is written for an input.
 //!
-//! `command` makes the text of a view: `judge` has the verdict on a history of any version, `numbers` its numbers, `drawn` its picture, and
+//! `command` makes the text of a view: `judge` has the verdict on a history of any version, `numbers` its numbers, `drawn` its chart, and
 //! `read` is what all views read. `subject` is what is said of a refusal. The caller has read the input, and writes the output.
 #![tactic(auto)]
 

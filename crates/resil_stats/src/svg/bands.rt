@@ -1,6 +1,5 @@
-//! The bands below the rows: the refusals, the depth of the queue under its capacity, and the workers between
-//! the core size and the greatest size. Their outlines are lines of level and upright pieces, which go from the left end
-//! of the axis to the right one.
+//! The bands below the rows: the refusals, the depth of the queue under its capacity, and the workers between the core size and the maximum
+//! size. Their outlines are lines of level and upright pieces, which go from the left end of the axis to the right one.
 
 ghost use Rattle.std.specs.Prelude.{◌≡◌, ◌≤◌, ◌+◌};
 
@@ -71,14 +70,14 @@ pub(crate) fn write_area(
     line!(draft; r#"V{bottom}H{LEFT}Z" fill="{fill}"/>"#);
 }
 
-// How many digits a number has: eight of those that have more.
+// How many digits a number has: eight if it has more.
 fn digits(number: usize) -> usize {
     let bounds = [10, 100, 1000, 10_000, 100_000, 1_000_000, 10_000_000];
     let passed = bounds.iter().filter(|bound| number >= **bound);
     passed.count().saturating_add(1)
 }
 
-/// Writes a number of a scale in the gutter, behind a word. The gutter has room for eight letters; more of them are drawn closer.
+/// Writes a number of a scale in the gutter, after a word. The gutter has room for eight letters; more of them are drawn closer together.
 pub(crate) fn write_number(draft: &mut Draft, word: &str, number: usize, y: Pixels, fill: &str) {
     put!(draft; r#"<text x="86" y="{y}" fill="{fill}" text-anchor="end""#);
     if word.len().saturating_add(digits(number)) > 8 {
@@ -93,7 +92,7 @@ pub(crate) fn write_ends(draft: &mut Draft, scale: &Scale, word: &str, most: usi
     write_number(draft, "", 0, scale.bottom, GREY);
 }
 
-// Writes the refusals of columns, in grey, and over them those of a full pool, under a line at the most of one column.
+// Writes the refusals of columns, in grey, and over them those of a full pool, under a line at the most refusals of one column.
 fn write_refused(draft: &mut Draft, sheet: &Sheet) {
     let refused = sheet.points.iter().map(|point| Measure::Refused.of(point));
     let most = refused.max().unwrap_or(0);
@@ -107,8 +106,8 @@ fn write_refused(draft: &mut Draft, sheet: &Sheet) {
     }
 }
 
-/// How many jobs the scale of those that wait goes up to, and whether the capacity is in sight. A capacity above four times the most that
-/// waits is out of sight, and the scale then goes up to twice that; where a height is asked for, a capacity above it is out of sight.
+/// The top of the scale of the jobs that wait, and whether the capacity is in sight. A capacity above four times the most jobs that wait is
+/// out of sight, and the scale then goes up to twice that number. If a height is asked for, a capacity above it is out of sight.
 pub(crate) fn waiting_scale(picture: &Picture) -> (usize, bool) {
     let (capacity, most) = (picture.limits.queue() as usize, picture.stats.most.waiting);
     match picture.heights.waiting {
@@ -118,8 +117,8 @@ pub(crate) fn waiting_scale(picture: &Picture) -> (usize, bool) {
     }
 }
 
-/// How many workers their scale goes up to, and whether the greatest size is in sight. One above 64 and above four times the most workers is
-/// out of sight, and the scale then goes up to twice that; where a height is asked for, one above it is out of sight.
+/// The top of the scale of the workers, and whether the maximum size is in sight. One above 64 and above four times the most workers is out
+/// of sight, and the scale then goes up to twice that number. If a height is asked for, one above it is out of sight.
 pub(crate) fn workers_scale(picture: &Picture) -> (usize, bool) {
     let (_, greatest) = greatest_sizes(picture);
     let most = picture.stats.most.workers;
@@ -130,8 +129,8 @@ pub(crate) fn workers_scale(picture: &Picture) -> (usize, bool) {
     }
 }
 
-// Writes the depth of the queue, which is 0 where there is none. Where the queue is full, an edge lies on the capacity. The band of the refusals shows
-// nothing of it.
+// Writes the depth of the queue, which is 0 if there is none. While the queue is full, an edge lies on the capacity. The band of the
+// refusals shows nothing of it.
 fn write_queue(draft: &mut Draft, sheet: &Sheet, picture: &Picture) {
     let capacity = picture.limits.queue() as usize;
     let most = picture.stats.most.waiting;
@@ -161,8 +160,8 @@ fn write_queue(draft: &mut Draft, sheet: &Sheet, picture: &Picture) {
     }
 }
 
-// Where the label of the core size is, in hundredths of a pixel: at its line, but below the label of the greatest size and in
-// the band of the workers.
+// The place of the label of the core size, in hundredths of a pixel: at its line, but below the label of the maximum size and in the band
+// of the workers.
 fn core_label(line: u32) -> u32
     ensures below { 16500 ≤ result }
     ensures within { result ≤ 19800 }
@@ -171,7 +170,7 @@ fn core_label(line: u32) -> u32
     line.saturating_add(600).max(16_500).min(19_800)
 }
 
-// The greatest core size and the greatest size that the pool ever has.
+// The greatest core size and the greatest maximum size that the pool ever has.
 fn greatest_sizes(picture: &Picture) -> (usize, usize) {
     let (core, max) = picture.opening;
     let cores = picture.levels.iter().map(|level| level.core).max();
@@ -180,8 +179,8 @@ fn greatest_sizes(picture: &Picture) -> (usize, usize) {
     (cores as usize, greatest.unwrap_or(max).max(max) as usize)
 }
 
-// Writes the number of workers, orange above the core size, and the lines of their sizes, which step at a resize. In the gutter
-// are those that the pool begins with. The 0 has its label where that of the core size leaves room for it.
+// Writes the number of workers, orange above the core size, and the lines of their sizes, which step at a resize. The gutter shows the
+// sizes that the pool begins with. The 0 has its label if that of the core size leaves room for it.
 fn write_workers(draft: &mut Draft, sheet: &Sheet, picture: &Picture) {
     let (core, max) = (picture.opening.0 as usize, picture.opening.1 as usize);
     let (cores, greatest) = greatest_sizes(picture);
@@ -234,7 +233,7 @@ fn kind_of(sign: Sign) -> Option<Between> {
     }
 }
 
-// Writes for each column the last one of the marks between the bands that stand for this.
+// Writes for each column the last of its marks between the bands that stand for this.
 fn write_last_marks(draft: &mut Draft, sheet: &Sheet, picture: &Picture, kind: Between) {
     let mut last = usize::MAX;
     for mark in picture.marks.iter().rev() {
@@ -245,10 +244,10 @@ fn write_last_marks(draft: &mut Draft, sheet: &Sheet, picture: &Picture, kind: B
     }
 }
 
-/// Writes the bands, but for the refusals that are drawn each.
+/// Writes the bands, without the refusals that are drawn one by one.
 pub(crate) fn write_bands(draft: &mut Draft, sheet: &Sheet, picture: &Picture) {
     let below = sheet.page.rows_end();
-    // In columns the number of the scale stands below the name.
+    // In columns the number of the scale is below the name.
     let named = if picture.drawn.is_gathered() { 14 } else { 24 };
     line!(draft; r#"<g transform="translate(0 {below})"><g font-weight="bold"><text x="6" y="{named}">refused</text>"#);
     line!(draft; r#"<text x="6" y="70">waiting</text><text x="6" y="124">workers</text></g>"#);

@@ -1,4 +1,4 @@
-//! The elements of bars, of marks between the bands and of columns, of which the clauses say how they begin.
+//! The elements of bars, of marks between the bands and of columns. Clauses say how they begin.
 
 ghost use Rattle.std.specs.Prelude.{ℕ, ◌≡◌, ◌++◌, IfOk, List, OnOk, string_bytes};
 ghost use Rattle.resil_stats.specs.Svg.{IsAddition, IsMadeOf, refusal_opening, removal_opening, worker_opening};
@@ -41,8 +41,8 @@ impl Element for Bar {
         )
     }
 
-    // Where it stands, and its job, how that started, from where to where it runs, and what came of it. A job that isn't
-    // finished in the window has a tip behind its bar, past the end of the axis.
+    // Its position, its job, how that started, from where to where it runs, and its result. A job that isn't finished in the window has
+    // a tip after its bar, past the end of the axis.
     fn write_rest(self, draft: &mut Draft, sheet: &Sheet) {
         let Bar { from, to, .. } = self;
         let (job, page) = (JobName(self.id), &sheet.page);
@@ -70,7 +70,7 @@ impl Element for Bar {
     }
 }
 
-// The element of a mark that stands between the bands: what is done to the pool lies over all of them, and has none here.
+// The element of a mark between the bands. A mark of what is done to the pool lies over all bands, and has none here.
 impl Element for Mark {
     ghost use Rattle.resil_stats.specs.Svg.{mark_opening};
 
@@ -89,8 +89,8 @@ impl Element for Mark {
         }
     }
 
-    // Of a full pool a cross, or a tick where events are close; of a closed one a diamond, or a short tick. A removal is an arrow out of
-    // the queue; a worker that begins or ends without a job is an arrow over their number.
+    // The sign of a refusal by a full pool is a cross, or a tick if events are close; by a closed pool, a diamond or a short tick. A
+    // removal is an arrow out of the queue; a worker that begins or ends without a job is an arrow over the number of workers.
     fn write_rest(self, draft: &mut Draft, sheet: &Sheet) {
         let Some(
             Look {
@@ -121,7 +121,7 @@ impl Element for Mark {
     }
 }
 
-// How a mark between the bands looks where events are far apart and where they are close, and what is told of it.
+// How a mark between the bands looks if events are far apart and if they are close, and what its title says.
 #[derive(Clone, Copy)]
 struct Look {
     way: &'static str,
@@ -130,7 +130,7 @@ struct Look {
     told: &'static str,
 }
 
-// How a mark looks, if it stands between the bands.
+// How a mark looks, if it is between the bands.
 fn look_of(sign: Sign) -> Option<Look> {
     let (up, down) = ("131v-9m-3 3l3 -3l3 3", "122v9m-3 -3l3 3l3 -3");
     let (way, tick, stroke, told) = match sign {
@@ -194,7 +194,7 @@ fn refusal_opening(alloc: Global, reason: &str, id: Id, at: usize) -> Result<Str
     )
 }
 
-// How the element of a worker begins that begins or ends without a job. Errors: `AllocError` when out of memory.
+// How the element of a worker that begins or ends without a job begins. Errors: `AllocError` when out of memory.
 fn worker_opening(alloc: Global, class: &str, at: usize) -> Result<String, AllocError>
     ensures { IfOk result (λ text. string_bytes text ≡ worker_opening class.now at) }
 {

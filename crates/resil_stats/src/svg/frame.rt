@@ -1,4 +1,4 @@
-//! What stands around the bands: the title, the first illegal event, the legend, the grid with its axis, the last lines.
+//! What is around the bands: the title, the first illegal event, the legend, the grid with its axis, the last lines.
 
 ghost use Rattle.std.specs.Prelude.{◌≡◌, ◌++◌, IfOk, OnOk, string_bytes};
 ghost use Rattle.resil_stats.specs.Svg.{name_line, opening, style, xml_letter};
@@ -13,7 +13,7 @@ use crate::{Illegal, Period, Picture, Start, column_width};
 use resil_rule::Verdict;
 use std::alloc::{AllocError, Global};
 
-// From so many days on labels of ticks are wide.
+// From this many days on, labels of ticks are wide.
 const MANY_DAYS: u64 = 10_000 * DAY;
 
 // Whether workers began or ended without a job, or jobs were removed.
@@ -22,7 +22,7 @@ fn has_more_signs(picture: &Picture) -> bool {
     counts.started > 0 || counts.culled > 0 || counts.removed > 0
 }
 
-// How much lower the legend ends than in the shortest picture, in pixels: a line each for the first illegal event and for more signs.
+// How much lower the legend ends than in the shortest chart, in pixels: one line for the first illegal event and one for more signs.
 fn lower_by(picture: &Picture) -> u32 {
     match (picture.illegal.is_some(), has_more_signs(picture)) {
         (true, true) => 48,
@@ -31,12 +31,12 @@ fn lower_by(picture: &Picture) -> u32 {
     }
 }
 
-// The ending of the noun behind a number.
+// The ending of the noun after a number.
 fn plural(number: usize) -> &'static str {
     if number == 1 { "" } else { "s" }
 }
 
-/// The beginning of a picture of this many events.
+/// The beginning of a chart of this many events.
 /// Errors: `AllocError` when out of memory.
 pub(crate) fn opening_text(alloc: Global, events: usize) -> Result<String, AllocError>
     ensures { IfOk result (λ text. string_bytes text ≡ opening events) }
@@ -44,8 +44,8 @@ pub(crate) fn opening_text(alloc: Global, events: usize) -> Result<String, Alloc
     format!(in alloc; "<svg xmlns=\"http://www.w3.org/2000/svg\" data-events=\"{events}\"")
 }
 
-/// The rest of the first element, and the ground, which begins a line higher where there is a name.
-/// Errors: `AllocError` when out of memory.
+/// The rest of the first element, and the background, which begins a line higher if there is a name. Errors: `AllocError` when out of
+/// memory.
 pub(crate) fn ground_text(sheet: &Sheet, picture: &Picture) -> Result<String, AllocError> {
     let mut draft = Draft::new(sheet.alloc);
     let (line, top, y) = if sheet.caption.name.is_empty() {
@@ -64,8 +64,7 @@ pub(crate) fn ground_text(sheet: &Sheet, picture: &Picture) -> Result<String, Al
     draft.finish()
 }
 
-/// Adds the style: a dark colour for each of `page`, where whoever looks at the picture prefers dark ground.
-/// Errors: `AllocError` when out of memory.
+/// Adds the style: a dark colour for each of `page`, for readers who prefer a dark background. Errors: `AllocError` when out of memory.
 pub(crate) fn push_style(text: &mut String) -> Result<(), AllocError>
     ensures { OnOk result (string_bytes text.new ≡ string_bytes text.old ++ style) }
 {
@@ -85,7 +84,7 @@ pub(crate) fn push_style(text: &mut String) -> Result<(), AllocError>
     Ok(())
 }
 
-// Adds a character as XML has it. Errors: `AllocError` when out of memory.
+// Adds a character as XML writes it. Errors: `AllocError` when out of memory.
 fn push_letter(text: &mut String, letter: char) -> Result<(), AllocError>
     ensures { OnOk result (string_bytes text.new ≡ string_bytes text.old ++ xml_letter letter) }
 {
@@ -101,8 +100,7 @@ fn push_letter(text: &mut String, letter: char) -> Result<(), AllocError>
     }
 }
 
-/// Adds the line of a name, over the sizes, where that isn't empty: 64 letters of it have room.
-/// Errors: `AllocError` when out of memory.
+/// Adds the line of a name, above the sizes, unless it is empty. There is room for 64 letters. Errors: `AllocError` when out of memory.
 pub(crate) fn push_name(text: &mut String, name: &str) -> Result<(), AllocError>
     ensures { OnOk result (string_bytes text.new ≡ string_bytes text.old ++ name_line name.now) }
 {
@@ -155,13 +153,13 @@ fn write_facts(draft: &mut Draft, picture: &Picture, began: Option<u64>) {
     line!(draft; "</text>");
 }
 
-/// Whether core workers time out, as a history has it.
+/// Whether core workers time out, by a history.
 pub(crate) fn on_or_off(is_on: bool) -> &'static str {
     if is_on { "on" } else { "off" }
 }
 
-// Writes the legend: one meaning a colour, in all bands, with how many jobs started so, then how many were refused, then the sign
-// of a full queue. The signs of refusals are crosses and diamonds, ticks, or areas.
+// Writes the legend: each colour has one meaning, in all bands. It says how many jobs started in each way, then how many were refused,
+// then shows the sign of a full queue. The signs of refusals are crosses and diamonds, ticks, or areas.
 fn write_legend(draft: &mut Draft, page: &Page, picture: &Picture) {
     let answers = picture.stats.answers;
     let (core, extra, full, closed) = (answers.core, answers.extra, answers.full, answers.closed);
@@ -184,7 +182,7 @@ fn write_legend(draft: &mut Draft, page: &Page, picture: &Picture) {
     line!(draft; r#"<tspan dx="10" fill="{REFUSED}">&#9644;</tspan> queue full</text>"#);
 }
 
-// Writes what the signs between the bands mean and how many there are of each, if there are some.
+// Writes what the signs between the bands mean and how many there are of each, if there are any.
 fn write_more_signs(draft: &mut Draft, picture: &Picture) {
     if !has_more_signs(picture) {
         return;
@@ -195,7 +193,7 @@ fn write_more_signs(draft: &mut Draft, picture: &Picture) {
     line!(draft; r#"<tspan dx="10">&#183;</tspan><tspan dx="10">out of the queue: </tspan><tspan fill="{GREY}">&#8595;</tspan> removed {removed}</text>"#);
 }
 
-// The distance of the lines of the grid, in events: one of 1, 2, 5, 10 and so on, with ten lines at most.
+// The distance of the lines of the grid, in events: one of 1, 2, 5, 10 and so on, for at most ten lines.
 fn grid_step(events: usize) -> usize {
     let mut step = 1usize;
     for factor in [
@@ -216,7 +214,7 @@ fn write_grid_line(draft: &mut Draft, page: &Page, place: usize) {
     line!(draft; r#"<path d="M{x} 104V{end}" stroke="{GRID}"/><text x="{x}" y="{base}" fill="{GREY}" text-anchor="{anchor}">{place}</text>"#);
 }
 
-// Writes the grid of an axis of places: the first one of the history, if it is there, and all multiples of a step.
+// Writes the grid of an axis of places: the first place of the history, if it is in the window, and all multiples of a step.
 fn write_places(draft: &mut Draft, page: &Page) {
     let step = grid_step(page.places());
     let Period { first, last } = page.period;
@@ -233,7 +231,7 @@ fn write_places(draft: &mut Draft, page: &Page) {
     }
 }
 
-// The name of a unit of ticks, which is so many microseconds.
+// The name of a unit of ticks, given in microseconds.
 fn unit_name(unit: u64) -> &'static str {
     match unit {
         DAY => "d",
@@ -245,7 +243,7 @@ fn unit_name(unit: u64) -> &'static str {
     }
 }
 
-// Writes the label of a tick that is so long after the first event, in a unit: with a tenth where it is no whole number.
+// Writes the label of a tick, by its time after the first event, in a unit: with a tenth if it isn't a whole number.
 fn write_tick_label(draft: &mut Draft, place: (Pixels, Pixels), after: u64, unit: u64) {
     let ((center, base), name) = (place, unit_name(unit));
     let number = after.checked_div(unit).unwrap_or(0);
@@ -258,14 +256,14 @@ fn write_tick_label(draft: &mut Draft, place: (Pixels, Pixels), after: u64, unit
     line!(draft; " {name}</text>");
 }
 
-// Writes the ticks of an axis of times, ten at most, with how long after the first event they are; what has no room has no label. There
-// is none where all times are one.
+// Writes the ticks of an axis of times, at most ten, with their times after the first event. A label without room is left out. There is
+// no tick if all times are equal.
 fn write_ticks(draft: &mut Draft, page: &Page) {
     let (period, end) = (page.period, page.bands_end());
     let step = period.tick_step();
     let unit = period.tick_unit(step);
     let base = end.and(20);
-    // A label at the right end stays on the page; one of very many days is wide.
+    // A label at the right end stays on the page; the label of a great many days is wide.
     let (wide, last) = if step < MANY_DAYS {
         (68, 76_500)
     } else {
@@ -302,7 +300,7 @@ fn write_grid(draft: &mut Draft, page: &Page) {
     line!(draft; r#"<g font-weight="bold"><text x="6" y="100">jobs run</text><text x="6" y="{base}">{counted}</text></g>"#);
 }
 
-/// Writes what stands around the bands, and begins the group in which they are: one line lower where an event is illegal.
+/// Writes what is around the bands, and begins the group that they are in: one line lower if an event is illegal.
 pub(crate) fn write_frame(draft: &mut Draft, sheet: &Sheet, picture: &Picture) {
     let (page, caption, lower) = (&sheet.page, sheet.caption, lower_by(picture));
     write_opening_sizes(draft, picture);
@@ -317,7 +315,7 @@ pub(crate) fn write_frame(draft: &mut Draft, sheet: &Sheet, picture: &Picture) {
     write_grid(draft, page);
 }
 
-// Writes what the axis counts, and from where on.
+// Writes what the axis counts, and from where.
 fn write_counted(draft: &mut Draft, page: &Page) {
     let Some(first) = page.time(1) else {
         put!(draft; "The axis counts events, it is no clock.");
@@ -337,8 +335,8 @@ fn write_counted(draft: &mut Draft, page: &Page) {
     put!(draft; "the first event.");
 }
 
-/// What is written behind the refusals, or the columns: what the picture leaves open, and the end.
-/// Errors: `AllocError` when out of memory.
+/// What is written after the refusals, or the columns: what the chart leaves open, and the end. Errors: `AllocError` when out of
+/// memory.
 pub(crate) fn ending_text(sheet: &Sheet, picture: &Picture) -> Result<String, AllocError> {
     let mut draft = Draft::new(sheet.alloc);
     let below = sheet.page.rows_end();

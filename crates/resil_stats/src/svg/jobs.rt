@@ -1,4 +1,4 @@
-//! The jobs that run: a bar for each that started, in its row, or areas where events are gathered into columns.
+//! The jobs that run: a bar in its row for each job that started, or areas if events are gathered into columns.
 
 ghost use Rattle.std.specs.Prelude.{◌≡◌};
 ghost use Rattle.resil_stats.specs.Svg.{start_class};
@@ -23,7 +23,7 @@ impl fmt::Display for JobName {
     }
 }
 
-/// How jobs are drawn that started so, and told of.
+/// How jobs that started in this way are drawn, and what their titles say.
 #[derive(Clone, Copy)]
 pub(crate) struct Style {
     pub class: &'static str,
@@ -31,7 +31,7 @@ pub(crate) struct Style {
     pub fill: &'static str,
 }
 
-/// How the jobs are drawn that started so.
+/// How the jobs that started in this way are drawn.
 pub(crate) fn style_of(start: Start) -> Style
     ensures { result.class.now ≡ start_class start }
 {
@@ -57,7 +57,7 @@ pub(crate) fn write_rows(draft: &mut Draft, page: &Page) {
     }
 }
 
-/// How jobs start that get a worker which was there: a pool without a queue hands them over.
+/// The start of jobs that get a worker which already exists: a pool without a queue hands them over.
 pub(crate) fn taken_start(picture: &Picture) -> Start {
     if picture.limits.queue() == 0 {
         Start::Handed
@@ -66,7 +66,7 @@ pub(crate) fn taken_start(picture: &Picture) -> Start {
     }
 }
 
-/// Writes areas in place of the rows, one over the other, by how the jobs started.
+/// Writes areas instead of the rows, one above the other, by how the jobs started.
 pub(crate) fn write_running(draft: &mut Draft, sheet: &Sheet, picture: &Picture) {
     let most = picture
         .heights
@@ -87,7 +87,7 @@ pub(crate) fn write_running(draft: &mut Draft, sheet: &Sheet, picture: &Picture)
     write_ends(draft, &scale, word, most, GREY);
 }
 
-/// Writes what came of a job, behind these words, where it is known and there is room for this many letters.
+/// Writes the result of a job, after these words, if it is known and there is room for this many letters.
 pub(crate) fn write_result(draft: &mut Draft, sheet: &Sheet, id: Id, before: &str, letters: usize) {
     let Some(outcome) = sheet.outcomes.get(id) else {
         return;
@@ -99,8 +99,8 @@ pub(crate) fn write_result(draft: &mut Draft, sheet: &Sheet, id: Id, before: &st
     }
 }
 
-// Writes the label of a bar where it has room for this many letters: the number of its job, with the caller before it where there
-// are several, and with what came of the job where that has room too.
+// Writes the label of a bar that has room for this many letters: the number of its job, with the caller before it if there are
+// several, and with the result of the job if there is room for that too.
 fn write_label(draft: &mut Draft, sheet: &Sheet, bar: Bar, has_one_caller: bool, letters: usize) {
     let Id { caller, number } = bar.id;
     let label = if has_one_caller {
@@ -121,7 +121,7 @@ fn write_label(draft: &mut Draft, sheet: &Sheet, bar: Bar, has_one_caller: bool,
     }
 }
 
-/// Writes what lies over the bars: their labels, where rows are high enough for any.
+/// Writes what lies over the bars: their labels, if rows are high enough for any.
 pub(crate) fn write_labels(draft: &mut Draft, sheet: &Sheet, picture: &Picture) {
     let has_one_caller = picture.stats.callers.len() == 1;
     line!(draft; r#"<g pointer-events="none">"#);

@@ -5,7 +5,7 @@ use super::frame::on_or_off;
 use super::page::{INK, LEFT, LETTER, Page, Pixels, REFUSED, RESIZE, RIGHT};
 use crate::{Illegal, Picture, Sign};
 
-// More settings than this are marked by a tick each.
+// If there are more settings than this, each is marked by a tick.
 const MANY: usize = 24;
 
 // The room that this many letters take.
@@ -13,8 +13,8 @@ fn room_for(letters: u32) -> u32 {
     LETTER.0.saturating_mul(letters)
 }
 
-// Writes a closing or a stop, by its name and its label, which is at the right, or at the left where there is no room for it, and says up to
-// where there is room for the next label at the left.
+// Writes a closing or a stop, by its name and its label. The label is at the right, or at the left if the right has no room. Returns up to
+// where the next label at the left has room.
 fn write_closing(
     draft: &mut Draft,
     page: &Page,
@@ -41,7 +41,7 @@ fn write_closing(
     x
 }
 
-// Writes a resize over all bands, with its label where there is room for it up to a limit, or by a tick at the top.
+// Writes a resize over all bands, with its label if there is room for it up to a limit, else by a tick at the top.
 fn write_resize(
     draft: &mut Draft,
     page: &Page,
@@ -71,8 +71,8 @@ fn write_resize(
     }
 }
 
-// Writes over all bands that core workers time out from a place on, or not any more, with its label where there is room for it up to a
-// limit, or by a tick at the top.
+// Writes over all bands that core workers time out from a place on, or no longer do, with its label if there is room for it up to a limit,
+// else by a tick at the top.
 fn write_time_out(draft: &mut Draft, page: &Page, at: usize, is_on: bool, limit: Option<Pixels>) {
     let (x, told) = (page.x(at), on_or_off(is_on));
     let end = match limit {
@@ -91,7 +91,7 @@ fn write_time_out(draft: &mut Draft, page: &Page, at: usize, is_on: bool, limit:
     }
 }
 
-/// A number for the column in which the event at a place is: of its own where each event is drawn.
+/// A number for the column of the event at a place. If each event is drawn, it has one of its own.
 pub(crate) fn column_of(picture: &Picture, place: usize) -> usize {
     let columns = &picture.drawn.columns;
     if columns.is_empty() {
@@ -103,7 +103,7 @@ pub(crate) fn column_of(picture: &Picture, place: usize) -> usize {
         .count()
 }
 
-// Whether a mark is that of a resize, or of a setting of the time-out.
+// Whether a mark is of a resize, or of a setting of the time-out.
 fn is_setting(sign: Sign) -> bool {
     matches!(sign, Sign::Resized { .. } | Sign::TimeOut(_))
 }
@@ -122,9 +122,9 @@ fn write_illegal(draft: &mut Draft, page: &Page, illegal: Illegal) {
     line!(draft; "</title></path>");
 }
 
-/// Writes the closing, the stop, each resize and each setting of the time-out, or the last ones of each column where there are columns: from
-/// the last one to the first, since a label has the room up to the next mark. The first illegal event is the one after those drawn, at the
-/// right end.
+/// Writes the closing, the stop, each resize and each setting of the time-out, or only the last ones of each column if there are columns.
+/// It goes from the last one to the first, since a label has the room up to the next mark. The first illegal event is the one after those
+/// drawn, at the right end.
 pub(crate) fn write_over(draft: &mut Draft, page: &Page, picture: &Picture) {
     let settings = picture.marks.iter().filter(|mark| is_setting(mark.sign));
     let is_short = settings.count() > MANY;

@@ -1,17 +1,17 @@
-//! Where things stand on the page, and in which colours.
+//! Positions on the page, and colours.
 //!
-//! A page is 800 pixels wide. A gutter at its left has the names of the bands and their numbers. The rows of
-//! jobs stand over three bands of a fixed height: the refusals, the queue, the workers. These are written in a
-//! group that begins below the rows. All share one axis, of places or of times. Letters are 16 pixels high, so that they can
-//! be read where the picture is half as wide; what has no room for them has no label.
+//! A page is 800 pixels wide. A gutter at its left has the names of the bands and their numbers. The rows of jobs are above three bands
+//! of a fixed height: the refusals, the queue, the workers. These are written in a group that begins below the rows. All share one axis,
+//! of places or of times. Letters are 16 pixels high, so that they can be read if the chart is shown at half its width. A label without
+//! room is left out.
 
 use crate::axis::{DAY, HOUR, MINUTE, Period, SECOND};
 use crate::spans::time_at;
 use crate::{Column, Illegal, Picture, Window};
 use std::fmt;
 
-// The colours on light ground; the style of `frame` has a dark one for each. Each has one meaning in all bands; those of bars
-// differ in grey, and for the colour-blind, too.
+// The colours on a light background; the style of `frame` has a dark one for each. Each has one meaning in all bands. Those of bars
+// differ in grey, and for colour-blind readers, too.
 pub(crate) const CORE: &str = "#0072b2";
 
 pub(crate) const EXTRA: &str = "#e08a00";
@@ -45,17 +45,17 @@ pub(crate) const PAPER: &str = "#fff";
 pub(crate) struct Pixels(pub u32);
 
 impl Pixels {
-    /// So many whole pixels further.
+    /// This many whole pixels further.
     pub(crate) fn and(self, pixels: u32) -> Pixels {
         Pixels(self.0.saturating_add(pixels.saturating_mul(100)))
     }
 
-    /// So many whole pixels nearer.
+    /// This many whole pixels nearer.
     pub(crate) fn less(self, pixels: u32) -> Pixels {
         Pixels(self.0.saturating_sub(pixels.saturating_mul(100)))
     }
 
-    /// How far it is behind another one.
+    /// How far it is from another one, which is no further.
     pub(crate) fn behind(self, other: Pixels) -> Pixels {
         Pixels(self.0.saturating_sub(other.0))
     }
@@ -94,7 +94,7 @@ pub(crate) const LEFT: Pixels = Pixels(9200);
 
 pub(crate) const RIGHT: Pixels = Pixels(78_600);
 
-/// How wide a letter is, at most on the whole.
+/// How wide a letter is, at most on average.
 pub(crate) const LETTER: Pixels = Pixels(1020);
 
 // The length of an axis of places.
@@ -115,17 +115,17 @@ const ROWS_HEIGHT: u32 = 50_000;
 // The area of the jobs that run in columns is as high as this many rows.
 const AREA_ROWS: u32 = 5;
 
-// Rows have labels, and refusals have signs, where they are no closer than this.
+// Rows have labels, and refusals have signs, if they are no closer than this.
 const LABELLED: u32 = 2000;
 
 const SIGNED: u32 = 900;
 
-// So far below the rows the last band and the page end, in pixels.
+// How far below the rows the last band and the page end, in pixels.
 const BANDS_END: u32 = 198;
 
 const PAGE_END: u32 = 276;
 
-// So many of the equal parts of a length, and no more than all of them.
+// This many of the equal parts of a length, and no more than all of them.
 fn share(length: u32, parts: usize, all: usize) -> u32 {
     let parts = parts.min(all) as u64;
     let share = parts
@@ -137,13 +137,13 @@ fn share(length: u32, parts: usize, all: usize) -> u32 {
 /// The page of a picture.
 #[derive(Clone, Copy)]
 pub(crate) struct Page<'a> {
-    /// How many events the history has that can be drawn, 1 at least.
+    /// How many events the history has that can be drawn, at least 1.
     pub events: usize,
     /// Which of them are drawn.
     pub window: Window,
-    /// Their times, where they have some: the axis is one of times then.
+    /// Their times, if they have times: then the axis is one of times.
     times: Option<&'a [u64]>,
-    /// When the first event was, where that is known: in microseconds since midnight, UTC.
+    /// When the first event was, if that is known: in microseconds since midnight, UTC.
     began: Option<u64>,
     /// From where to where the axis goes.
     pub period: Period,
@@ -154,7 +154,7 @@ pub(crate) struct Page<'a> {
 }
 
 impl<'a> Page<'a> {
-    /// The page of a picture, for these times of its events, the first of which was at a time of day.
+    /// The page of a chart, for these times of its events and the time of day of the first one.
     pub(crate) fn of(picture: &Picture, times: Option<&'a [u64]>, began: Option<u64>) -> Page<'a> {
         let rows = if picture.drawn.is_gathered() {
             AREA_ROWS
@@ -173,34 +173,34 @@ impl<'a> Page<'a> {
         }
     }
 
-    /// The time of the event at a place, where that is known.
+    /// The time of the event at a place, if that is known.
     pub(crate) fn time(&self, place: usize) -> Option<u64> {
         self.times
             .map(|times| time_at(times, place.saturating_sub(1)))
     }
 
-    /// The time of day at the event at a place, where that is known.
+    /// The time of day at the event at a place, if that is known.
     pub(crate) fn clock(&self, place: usize) -> Option<Clock> {
         let (began, first, time) = (self.began?, self.time(1)?, self.time(place)?);
         let after = time.saturating_sub(first) % DAY;
         Some(Clock(began.saturating_add(after)))
     }
 
-    /// How many places the axis has, of events without times.
+    /// How many places the axis has, if events have no times.
     pub(crate) fn places(&self) -> usize {
         let Period { first, last } = self.period;
         let places = last.saturating_add(1).saturating_sub(first).max(1);
         usize::try_from(places).unwrap_or(usize::MAX)
     }
 
-    // Where a place stands on an axis of places: place p of those from f to l at left + (p - f) (right - left) / (l + 1 - f).
+    // The position of a place on an axis of places: place p of those from f to l is at left + (p - f) (right - left) / (l + 1 - f).
     fn x_of_place(&self, place: usize) -> Pixels {
         let first = usize::try_from(self.period.first).unwrap_or(usize::MAX);
         let along = share(SPAN, place.saturating_sub(first), self.places());
         Pixels(LEFT.0.saturating_add(along))
     }
 
-    /// Where a place stands on the axis: by its time, or by itself. What is after the window is at the right end.
+    /// The position of a place on the axis: by its time, or by itself. What is after the window is at the right end.
     pub(crate) fn x(&self, place: usize) -> Pixels {
         match self.time(place) {
             Some(_) if place > self.window.end.max(1) => RIGHT,
@@ -209,7 +209,7 @@ impl<'a> Page<'a> {
         }
     }
 
-    /// Where the first illegal event is: at the right end or, where an end or a beginning was asked for, at its moment, if that is drawn.
+    /// The position of the first illegal event: at the right end or, if an end or a beginning is given, at its moment, if that is drawn.
     pub(crate) fn illegal_x(&self, illegal: Illegal) -> Option<Pixels> {
         let Period { first, last } = self.period;
         if self.window.is_whole {
@@ -234,13 +234,13 @@ impl<'a> Page<'a> {
         }
     }
 
-    /// The beginning and the end of the span of a column, where it is one of time.
+    /// The beginning and the end of the span of a column, if it is one of time.
     pub(crate) fn span(&self, column: &Column) -> Option<(u64, u64)> {
         let time = self.time(column.from)?;
         Some(self.period.ends_of(time))
     }
 
-    /// Where a column begins and ends on the axis.
+    /// The two ends of a column on the axis.
     pub(crate) fn ends(&self, column: &Column) -> (Pixels, Pixels) {
         match (self.time(column.from), self.span(column)) {
             (Some(time), Some((start, _))) => (
@@ -266,7 +266,7 @@ impl<'a> Page<'a> {
         share(SPAN, 1, events)
     }
 
-    /// Whether refusals have room for signs: else they are ticks.
+    /// Whether refusals have room for signs: if not, they are ticks.
     pub(crate) fn has_room_for_signs(&self) -> bool {
         self.event_width() >= SIGNED
     }
@@ -281,13 +281,13 @@ impl<'a> Page<'a> {
         Pixels(self.pitch - self.pitch / 6)
     }
 
-    /// The top of a row, which count from 1.
+    /// The top of a row; rows count from 1.
     pub(crate) fn row_top(&self, row: usize) -> Pixels {
         let above = row.saturating_sub(1).min(64) as u32;
         Pixels(self.pitch.saturating_mul(above).saturating_add(ROWS_TOP))
     }
 
-    /// The end of the last row, from which what stands below is measured.
+    /// The end of the last row, from which everything below is measured.
     pub(crate) fn rows_end(&self) -> Pixels {
         self.row_top((self.rows as usize).saturating_add(1))
     }

@@ -1,5 +1,4 @@
-//! What all parts of a picture are written with: its page, the points that its outlines go through, and what
-//! came of its jobs.
+//! What all parts of a chart share: its page, the points that its outlines go through, and the results of its jobs.
 
 use super::Caption;
 use super::page::{LEFT, Page, Pixels};
@@ -7,7 +6,7 @@ use crate::results::Outcomes;
 use crate::{Column, Level, Picture, Running, Start, Window};
 use std::alloc::{AllocError, Global};
 
-/// What a picture is drawn on, and drawn of.
+/// The page of a chart, and what is drawn on it.
 #[derive(Clone, Copy)]
 pub(crate) struct Sheet<'a> {
     pub alloc: Global,
@@ -29,14 +28,14 @@ pub(crate) struct Point {
 #[derive(Clone, Copy)]
 pub(crate) enum Measure {
     Waiting,
-    /// 1 where as many jobs wait as this capacity, else 0.
+    /// 1 if as many jobs wait as this capacity, else 0.
     IsFull(usize),
     Workers,
     /// The workers up to the core size.
     CoreWorkers,
     CoreSize,
     GreatestSize,
-    /// The jobs that run and started so, over those that lie below them.
+    /// The jobs that run and started in this way, above those drawn below them.
     Running(Start),
     /// The refusals of a full pool.
     Full,
@@ -79,7 +78,7 @@ fn column_of(level: Level) -> Column {
     }
 }
 
-// Adds a point, which stands for the one before it where that is at the same place. Errors: `AllocError` when out of memory.
+// Adds a point, which replaces the one before it if that is at the same place. Errors: `AllocError` when out of memory.
 fn push_point(points: &mut Vec<Point>, point: Point) -> Result<(), AllocError> {
     if let Some(last) = points.last_mut() {
         if last.x.0 == point.x.0 {
@@ -100,7 +99,7 @@ fn running_at(picture: &Picture, place: usize) -> Running {
         .unwrap_or(Running::default())
 }
 
-// Adds the points of a column, behind whose span of time holds what holds after its last event. Errors: `AllocError` when out of memory.
+// Adds the points of a column. After its span of time, its last event's numbers hold. Errors: `AllocError` when out of memory.
 fn push_column(
     points: &mut Vec<Point>,
     page: &Page,
@@ -123,7 +122,7 @@ fn push_column(
     }
 }
 
-// What holds at the beginning of a window, after the event before it. It is drawn from the left end on.
+// The numbers at the beginning of a window, after the event before it. They are drawn from the left end on.
 fn push_first(points: &mut Vec<Point>, picture: &Picture) -> Result<(), AllocError> {
     let before = picture.window.before;
     match before
@@ -142,8 +141,8 @@ fn push_first(points: &mut Vec<Point>, picture: &Picture) -> Result<(), AllocErr
     }
 }
 
-/// The points of the window of a picture: that of its beginning, and then of each event, or of each column where events are gathered; of
-/// those at one place the last one. Errors: `AllocError` when out of memory.
+/// The points of the window of a chart: its beginning, and then each event, or each column if events are gathered. If several are at one
+/// place, the last one counts. Errors: `AllocError` when out of memory.
 pub(crate) fn points_of(
     alloc: Global,
     page: &Page,
