@@ -242,7 +242,7 @@ plan-at jobs id index found =
     let first : position_or_len (λ job. is_same_id id job.id) jobs ≡ index = grind (arith, common_steps, here) in
     ap (option_map (λ job. job.plan)) (find_at (λ job. is_same_id id job.id) jobs ∙ ap (slice_get jobs) first)
 
--- an id is among others where it has an index there
+-- an id is among others if it has an index there
 among-at : (id : Id) (ids : List Id) → is_among id ids ≡ nat_lt (position_or_len (is_same_id id) ids) (length ids)
 among-at id [] = refl
 among-at id (x ∷ ids) = grind (arith, among-at id ids)

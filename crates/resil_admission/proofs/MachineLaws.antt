@@ -152,7 +152,7 @@ module _ (v : RuleView (Unit {0})) (h : List Event) (state : IsStateOf h v) (job
   pub none-taken : v.unpicked ≡ [] → ((id : Id) → ¬ IsAllowed v.limits h (Take id)) → HasNoneToPick (seen v h jobs)
   none-taken none bars = (next-none v h state none, bars)
 
--- what is said of nothing, where there is nothing
+-- what is said of nothing, if there is nothing
 pub nothing : {A : Type 0} {P : Type 0} (o : Option A) → ((x : A) → o ≡ Some x → ⊥) → IfNone o P → P
 nothing None never said = said
 nothing (Some x) never said = absurd (never x refl)

@@ -93,7 +93,7 @@ module _ {T C P : Type 0} (CanCall : C → Type 0) (IsAnswer : C → T → C →
             left = retried.left;
           }
 
-      -- the two references stay the same, and where there is always room there is after
+      -- the two references stay the same, and if there is always room there is after
       abbrev Keeps : CallAndPause C P → Type 0
       Keeps = λ x. (old.call.ghost_name ≡ x.call.ghost_name) × (old.pause.ghost_name ≡ x.pause.ghost_name) × (((n : ℕ) → HasRoom old.pause.now n) → (n : ℕ) → HasRoom x.pause.now n)
 

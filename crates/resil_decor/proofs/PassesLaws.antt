@@ -1,4 +1,4 @@
--- What becomes of passes where one of them acquires or releases a permit.
+-- What becomes of passes if one of them acquires or releases a permit.
 use Rattle.std.proofs.Common.{◌≡◌, ◌≢◌, ◌<◌, ◌+◌, ◌++◌, ◌∷◌, [], ◌∙◌, ℕ, Bool, true, false, List, length, map, Some, slice_get, take, inl, ⊎_elim, refl, add-one, sym, ap, arith, append-nil}
 use Rattle.std.specs.List.{filter_map, slice_set, slice_index_or}
 use Rattle.std.proofs.lemmas.Bool.{cases_eq}

@@ -22,7 +22,7 @@ instance-named lists id name permits kept found =
     let own = get_or-map (λ (entry : List ℕ × ℕ). entry.0) lists.instances id instance [] within ∙ ap (λ (entry : List ℕ × ℕ). entry.0) (get_or_from_slice_get lists.instances id instance instance at) in
     subst IsName (own ∙ ap (λ (p : List ℕ × ℕ). p.0) same) good)))
 
--- no instance is left at a position where none is found
+-- no instance is left at a position if none is found
 pub none-left : {X : Type 0} (found : Option X) (position count : ℕ) → found ≡ None → IsSome found ↔ (position < count) → count ≤ position
 none-left None position count none here = elim (cases_lt position count) [ inl below ↦ cc (here.1 below) | inr past ↦ past ]
 none-left (Some x) position count none here = cc none
@@ -45,7 +45,7 @@ module _ (lists : RegistryView ℕ) (bulkheads : List BulkheadView) where
             rw (slice_get-get_or (bulkheads ++ next ∷ []) id next within, get_or_push bulkheads next next id last) (rw (named, sized, ← last) found)
       ]
 
-  -- where no instance is left, there is one for each
+  -- if no instance is left, there is one for each
   pub AreMadeFrom-all : SoFar → length lists.instances ≤ length bulkheads → AreMadeFrom lists bulkheads
   AreMadeFrom-all so_far all id =
       elim (cases_lt id (length bulkheads)) [

@@ -61,7 +61,7 @@ impl fmt::Display for RowFault {
     }
 }
 
-/// A hint at what in a line is often not read as it was meant.
+/// A hint at something in a line that is often not read as it was meant.
 pub(crate) fn remark(line: &[u8]) -> &'static str {
     if line.starts_with(b"#") {
         "; a body can't have comment lines"

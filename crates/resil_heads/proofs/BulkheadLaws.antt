@@ -35,7 +35,7 @@ name-from name is =
     let size = and_parts (nat_le 1 (length name)) (nat_le (length name) 64) parts.0 in
     record { some = leb-true _ _ size.0; few = leb-true _ _ size.1; plain = AllPass-from_list_all is_name_byte name parts.1 }
 
--- and another text has not
+-- and another text isn't one
 pub bad-name : (name : List ℕ) → ¬ IsName name → is_good_name name ≡ false
 bad-name name bad = false_from_ne_true (is_good_name name) (λ good. bad (name-from name good))
 

@@ -25,7 +25,7 @@ pub has_only-keys : (keys : List (List ℕ)) (entries : List Entry) → list_all
 has_only-keys keys [] = refl
 has_only-keys keys (entry ∷ entries) = ap (λ b. is_known keys (string_bytes entry.0) && b) (has_only-keys keys entries)
 
--- the required keys are there where each key is there that is needed
+-- the required keys are there if each key is there that is needed
 pub has_all-needed : (table : Members) (keys : List Key) → has_all (required_of keys) table ≡ list_all (has_needed table) keys
 has_all-needed table [] = refl
 has_all-needed table (Required name form ∷ keys) = ap (λ b. is_some (get_member name.now table) && b) (has_all-needed table keys)

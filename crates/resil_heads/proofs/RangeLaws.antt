@@ -1,4 +1,4 @@
--- Laws of ranges: what is built of a head is in its ranges, whatever the head says.
+-- Laws of ranges: what is built of a head is in its ranges, for any head.
 use Rattle.std.proofs.Common.{◌≡◌, ◌≤◌, ◌<◌, ◌+◌, ◌^◌, ◌∙◌, ◌∷◌, ℕ, ℤ, pos, negsuc, Bool, true, false, cond, List, [], Option, Some, None, IfOk, Result, Ok, Err, length, length-append, All, refl, sym, ap, subst, arith}
 use Rattle.std.proofs.lemmas.Bool.Decides.{nat_tests}
 use Rattle.std.proofs.lemmas.List.Elements.{All-cons, All-head, All-nil, All-push, All-tail}
@@ -54,7 +54,7 @@ each-ok P read h (x ∷ xs) =
     then-ok P (All P) (read x) (λ y. and_then (each read xs) (λ ys. Ok (y ∷ ys))) (h x) (λ y p.
     then-ok (All P) (All P) (each read xs) (λ ys. Ok (y ∷ ys)) (each-ok P read h xs) (λ ys ps. All-cons P y ys p ps))
 
--- what a call gives, by what is said of it
+-- the result of a call, by what is said of it
 pub gives-ok : {A : Type 0} (P : A → Type 0) (r said : Result A HeadError) → Gives r said → IfOk said P → IfOk r P
 gives-ok P (Ok x) said given h = subst (λ s. IfOk s P) given h
 gives-ok P (Err why) said given h = tt

@@ -10,7 +10,7 @@ use Rattle.resil_heads.specs.Keys.{each, parse_at, parse_required_at, parse_tabl
 use Rattle.resil_heads.specs.declared.bulkheads.BulkheadSpec.{BulkheadSpec}
 use Rattle.resil_heads.specs.declared.error.HeadError.{HeadError}
 
--- the keys of a text, of which none is required
+-- the keys of a text; none is required
 abbrev pub text_keys : Keys
 text_keys = record { known = codes "permits" ∷ codes "bulkhead" ∷ []; required = [] }
 
@@ -29,8 +29,8 @@ bulkhead_tables text = parse_at parse_tables [] (codes "bulkhead") text
 abbrev pub bulkhead_keys : Keys
 bulkhead_keys = record { known = codes "name" ∷ codes "config" ∷ codes "wait" ∷ []; required = codes "name" ∷ [] }
 
--- what the table of a bulkhead says: its name, its configuration, `default` where it names none, and the longest wait for a permit
--- in milliseconds, 0 where it says none
+-- what the table of a bulkhead says: its name, its configuration, `default` if it names none, and the longest wait for a permit in
+-- milliseconds, 0 if it says none
 unfoldable pub parse_bulkhead_table : Members → Result BulkheadSpec HeadError
 parse_bulkhead_table keys =
     and_then (check_keys bulkhead_keys keys) (λ _.

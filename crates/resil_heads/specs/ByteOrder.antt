@@ -1,4 +1,4 @@
--- The members of a table, which has them in byte order of their keys, however a text lists them.
+-- The members of a table, which has them in byte order of their keys, whatever their order in the text.
 use Rattle.std.specs.Prelude.{ℕ, ◌≡◌, true, List, [], ◌∷◌}
 use Rattle.toml.specs.Data.{Data, Members, no_members, member, is_before}
 

@@ -8,11 +8,11 @@ abbrev pub and_then : {A B E : Type 0} → Result A E → (A → Result B E) →
 and_then (Ok x) check = check x
 and_then (Err why) check = Err why
 
--- The result of a call, which contracts see through `seen`, is what the definition says, unless memory ran out.
+-- The result of a call, which contracts see through `seen`, is what the definition says, unless it is out of memory.
 abbrev pub GivesBy : {T A : Type 0} → (T → A) → Result T HeadError → Result A HeadError → Type 0
 GivesBy seen (Ok x) said = said ≡ Ok (seen x)
 GivesBy seen (Err why) said = why ≢ error.Memory → said ≡ Err why
 
--- the result of a call, as it is, is what the definition says, unless memory ran out
+-- the result of a call, as it is, is what the definition says, unless it is out of memory
 abbrev pub Gives : {A : Type 0} → Result A HeadError → Result A HeadError → Type 0
 Gives result said = GivesBy (λ x. x) result said

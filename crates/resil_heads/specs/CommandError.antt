@@ -1,5 +1,5 @@
--- Why a command has no text: memory ran out, which may come at any step, a thread couldn't be
--- started, or a refusal; and what is written then.
+-- Why a command has no text, and what is written then: it is out of memory, at any step; a thread couldn't be started; or the input is
+-- refused.
 use Rattle.std.specs.Prelude.{◌≡◌, ◌⊎◌}
 use Rattle.resil_heads.specs.declared.error.HeadError.{HeadError}
 use Rattle.resil_heads.specs.declared.error.HeadError.TheVariants as head_error
@@ -18,13 +18,13 @@ use Rattle.resil_heads.specs.declared.refusal.Refusal.{Refusal}
 use Rattle.resil_heads.specs.declared.refusal.Refusal.TheVariants as refusal
 use Rattle.resil_heads.specs.declared.refusal.StepRefusal.TheVariants as step
 
--- an error of a command of one thread: memory, or a refusal that is one of the given
+-- an error of a command of one thread: memory, or a refusal that is one of those given
 abbrev pub IsError : (Refusal → Type 0) → CommandError → Type 0
 IsError IsWhy error.Memory = Unit {0}
 IsError IsWhy error.NoThread = ⊥
 IsError IsWhy (error.Refused why) = IsWhy why
 
--- an error of `run`: memory, a thread that can't be started where this is given, or a refusal that is one of the given
+-- an error of `run`: memory, a thread that can't be started if this is given, or a refusal that is one of those given
 abbrev pub IsRunError : Type 0 → (Refusal → Type 0) → CommandError → Type 0
 IsRunError LacksThread IsWhy error.Memory = Unit {0}
 IsRunError LacksThread IsWhy error.NoThread = LacksThread
@@ -50,8 +50,7 @@ from_weave_error (weave_error.NotHolding position) = error.Refused (refusal.Step
 from_weave_error (weave_error.StillLoaded position) = error.Refused (refusal.Step position step.StillLoaded)
 from_weave_error (weave_error.NotRetired position) = error.Refused (refusal.Step position step.NotRetired)
 
--- The output where a command has no text: the line of the refusal, of memory or of threads. Memory
--- may run out for the line of a refusal too.
+-- The output if a command has no text: the line of the refusal, of memory or of threads. The line of a refusal may be out of memory too.
 abbrev pub IsErrorOutput : CommandError → Output → Type 0
 IsErrorOutput error.Memory out = out ≡ output.NoMemory
 IsErrorOutput error.NoThread out = out ≡ output.NoThread

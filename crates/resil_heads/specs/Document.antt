@@ -11,7 +11,7 @@ use Rattle.resil_heads.specs.declared.error.HeadError.{HeadError}
 use Rattle.resil_heads.specs.declared.error.HeadError.TheVariants as error
 use Rattle.resil_input.specs.TextEquality.{is_same}
 
--- the table that the bytes write; bytes that are no UTF-8, or no TOML, are the error `BadToml`
+-- the table that the bytes write; bytes that aren't UTF-8, or aren't TOML, are the error `BadToml`
 abbrev pub document_of : List ℕ → Result Members HeadError
 document_of bytes = if is_utf8 bytes then ok_or (parse_document bytes) error.BadToml else Err error.BadToml
 
@@ -48,7 +48,7 @@ has_only keys (member key value others) = is_known keys key && has_only keys oth
 abbrev pub has_all : List (List ℕ) → Members → Bool
 has_all keys head = list_all (λ key. is_some (get_member key head)) keys
 
--- the table has a key where it needs it
+-- the table has a key, if it needs it
 abbrev pub has_needed : Members → Key → Bool
 has_needed head (Required name form) = is_some (get_member name.now head)
 has_needed head (Optional name form) = true

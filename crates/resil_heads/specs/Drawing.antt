@@ -11,7 +11,7 @@ use Rattle.resil_heads.specs.declared.error.HeadError.TheVariants as error
 abbrev pub parse_most : List ℕ → Members → Result (Option ℕ) HeadError
 parse_most key head = parse_known parse_count key head
 
--- an end is above a beginning, where both are there
+-- an end is above a beginning, if both are there
 abbrev pub is_later : Option ℕ → Option ℕ → Bool
 is_later (Some from) (Some to) = nat_lt from to
 is_later _ _ = true
@@ -33,6 +33,6 @@ parse_drawing head =
 abbrev pub no_drawing : Drawing
 no_drawing = record { from = None; to = None; most_waiting = None; most_workers = None }
 
--- that where it is used; else the whole history, whatever is there
+-- what the table says if that is used; else the whole history, whatever is there
 abbrev pub parse_used_drawing : Bool → Members → Result Drawing HeadError
 parse_used_drawing is_used head = if is_used then parse_drawing head else Ok no_drawing

@@ -16,7 +16,7 @@ abbrev pub each : {A B : Type 0} → (A → Result B HeadError) → List A → R
 each read [] = Ok []
 each read (x ∷ xs) = and_then (read x) (λ y. and_then (each read xs) (λ ys. Ok (y ∷ ys)))
 
--- the value at a key, as it is read; the default where the key is absent
+-- the value at a key, as it is read; the default if the key is absent
 abbrev pub parse_at : {A : Type 0} → (Data → Result A HeadError) → A → List ℕ → Members → Result A HeadError
 parse_at read default key layer = option_map_or read (get_member key layer) (Ok default)
 
@@ -28,15 +28,15 @@ parse_known read key head = parse_at (λ value. and_then (read value) (λ x. Ok 
 abbrev pub parse_required_at : {A : Type 0} → (Data → Result A HeadError) → List ℕ → Members → Result A HeadError
 parse_required_at read key layer = and_then (ok_or (get_member key layer) error.MissingKey) read
 
--- a text that names something
+-- a string that names something
 abbrev pub parse_named : {A : Type 0} → (List ℕ → Option A) → Data → Result A HeadError
 parse_named named value = ok_or (option_and_then named (as_str value)) error.BadValue
 
--- any text
+-- any string
 abbrev pub parse_text : Data → Result (List ℕ) HeadError
 parse_text value = ok_or (as_str value) error.BadValue
 
--- the text at a key, of at most 64 characters, empty where there is none
+-- the string at a key, of at most 64 characters, empty if there is none
 abbrev pub parse_short_text : List ℕ → Members → Result (List ℕ) HeadError
 parse_short_text key head =
     and_then (parse_at parse_text [] key head) (λ text. if nat_lt 64 (length (chars text)) then Err error.BadValue else Ok text)
@@ -54,7 +54,7 @@ number_below limit (negsuc _) = Err error.BadValue
 abbrev pub parse_count : Data → Result ℕ HeadError
 parse_count value = and_then (parse_integer value) (number_below (2 ^ 32))
 
--- a value that is an integer from 0 on, of 64 bits as all are
+-- a value that is an integer from 0 on, of 64 bits like all integers of a head
 abbrev pub parse_wait : Data → Result ℕ HeadError
 parse_wait value = and_then (parse_integer value) (number_below (2 ^ 64))
 

@@ -1,4 +1,4 @@
--- What is built of the layers that a head requests: each part, or the error of the first that breaks its rule.
+-- What is built of the layers that a head asks for: each part, or the error of the first that breaks its rule.
 use Rattle.std.specs.Prelude.{ℕ, not, ◌==◌, ◌&&◌, List, [], ◌∷◌, Result, Ok, Err, if◌then◌else◌, length, nat_lt, nat_le}
 use Rattle.resil_decor.specs.ChainLimits.{call_limit, layer_limit, max_calls}
 use Rattle.resil_decor.specs.declared.error.DecorError.TheVariants as chain
@@ -20,8 +20,8 @@ use Rattle.resil_heads.specs.declared.layers.values.LayerSpec.TheVariants.{Retry
 use Rattle.resil_heads.specs.declared.error.HeadError.{HeadError}
 use Rattle.resil_heads.specs.declared.error.HeadError.TheVariants as error
 
--- the interval, where a retry takes it: no wait is too long, the multiplier is at least 1 with
--- terms up to 1,000, and the longest wait is no shorter than the first
+-- the interval, if a retry takes it: no wait is too long, the multiplier is at least 1 with terms up to 1,000, and the longest wait is no
+-- shorter than the first
 abbrev pub build_interval : IntervalSpec → Result Backoff HeadError
 build_interval (Fixed ms) = if nat_le ms interval_limit then Ok (interval.Fixed ms) else Err (error.Retry retry.IntervalTooLong)
 build_interval (Exponential initial numerator denominator cap) =
@@ -30,7 +30,7 @@ build_interval (Exponential initial numerator denominator cap) =
     else if nat_lt cap initial then Err (error.Retry retry.CapBelowInitial)
     else Ok (interval.Exponential initial numerator denominator cap)
 
--- the settings of a retry with this interval, where its number of attempts is from 1 to 1,000
+-- the settings of a retry with this interval, if its number of attempts is from 1 to 1,000
 abbrev pub build_settings : RetrySpec → Backoff → Result RetryConfigView HeadError
 build_settings said waits =
     if said.attempts == 0 then Err (error.Retry retry.NoAttempts)
@@ -52,7 +52,7 @@ pub record BuiltLayer : Type 0 where
   pub layer : Layer
   pub lists : RegistryView ℕ
 
--- the layer that is requested; a bulkhead has the id that the registry gives it
+-- the layer that a head asks for; a bulkhead has the id that the registry gives it
 abbrev pub build_layer : RegistryView ℕ → LayerSpec → Result BuiltLayer HeadError
 build_layer lists (Retry said) = and_then (build_retry said) (λ settings. Ok (record { layer = layer.Retry settings; lists = lists }))
 build_layer lists (Bulkhead name config) =
@@ -64,14 +64,14 @@ pub record BuiltLayers : Type 0 where
   pub layers : List Layer
   pub lists : RegistryView ℕ
 
--- the layers that are requested, each in turn; the registry goes from one to the next
+-- the layers that a head asks for, each in turn; the registry goes from one to the next
 abbrev pub build_layers : RegistryView ℕ → List LayerSpec → Result BuiltLayers HeadError
 build_layers lists [] = Ok (record { layers = []; lists = lists })
 build_layers lists (said ∷ more) =
     and_then (build_layer lists said) (λ allowed.
     and_then (build_layers allowed.lists more) (λ rest. Ok (record { layers = allowed.layer ∷ rest.layers; lists = rest.lists })))
 
--- the layers, where they make a chain: first their number is checked, then the number of calls that they may make
+-- the layers, if they make a chain: first their number is checked, then the number of calls that they may make
 abbrev pub chain_from_layers : List Layer → Result (List Layer) HeadError
 chain_from_layers layers =
     if nat_lt layer_limit (length layers) then Err (error.Chain chain.TooManyLayers)

@@ -13,7 +13,7 @@ use Rattle.resil_heads.specs.declared.layers.bulkheads.ConfigSpec.{ConfigSpec}
 use Rattle.resil_heads.specs.declared.error.HeadError.{HeadError}
 use Rattle.resil_heads.specs.declared.error.HeadError.TheVariants as error
 
--- the table of configurations, empty where there is none
+-- the table of configurations, empty if there is none
 abbrev pub permits_in : Members → Result Members HeadError
 permits_in head = parse_at parse_table no_members (codes "permits") head
 
@@ -25,7 +25,7 @@ parse_permits value = and_then (parse_integer value) (number_below (2 ^ 16))
 abbrev pub parse_config : List ℕ × Data → Result ConfigSpec HeadError
 parse_config entry = and_then (parse_permits entry.1) (λ permits. Ok (record { name = entry.0; permits = permits }))
 
--- the error of a head of which a registry refuses a part
+-- the error of a head if a registry refuses a part of it
 abbrev pub registry_error : RegistryError → HeadError
 registry_error registry.ReservedName = error.Registry registry.ReservedName
 registry_error registry.NoSuchConfig = error.Registry registry.NoSuchConfig
@@ -33,15 +33,15 @@ registry_error registry.NameTaken = error.Registry registry.NameTaken
 registry_error registry.BadName = error.Registry registry.BadName
 registry_error registry.Memory = error.Memory
 
--- a text that may be a name: 1 to 64 bytes, each of them one that names may have
+-- a string that may be a name: 1 to 64 bytes, each of them one that names may have
 abbrev pub is_good_name : List ℕ → Bool
 is_good_name name = nat_le 1 (length name) && nat_le (length name) 64 && list_all is_name_byte name
 
--- the registry that has the default configuration alone, of 25 permits
+-- the registry with only the default configuration, of 25 permits
 abbrev pub unconfigured : RegistryView ℕ
 unconfigured = record { configurations = (default_name, 25) ∷ []; instances = [] }
 
--- the registry with one configuration more; the name is checked as a text, then against `default`, then against the names that are there
+-- the registry with one more configuration; the name is checked as a string, then against `default`, then against the names that are there
 abbrev pub with_configuration : RegistryView ℕ → ConfigSpec → Result (RegistryView ℕ) HeadError
 with_configuration lists said =
     if not (is_good_name said.name) then Err (error.Registry registry.BadName)
@@ -59,17 +59,17 @@ pub record Obtained : Type 0 where
   pub id : ℕ
   pub lists : RegistryView ℕ
 
--- a bulkhead that isn't there yet: its id is the number of those before, and it has the configuration at this index
+-- a bulkhead that isn't there yet: its id is the number of those before it, and it has the configuration at this index
 abbrev pub obtained_new : RegistryView ℕ → List ℕ → Option ℕ → Result Obtained HeadError
 obtained_new lists name None = Err (error.Registry registry.NoSuchConfig)
 obtained_new lists name (Some place) = Ok (record { id = length lists.instances; lists = with_instance lists name place })
 
--- the bulkhead of that name; where there is one already, no configuration is looked up
+-- the bulkhead of that name; if there is one already, no configuration is looked up
 abbrev pub obtained_with : RegistryView ℕ → List ℕ → List ℕ → Option ℕ → Result Obtained HeadError
 obtained_with lists name config None = obtained_new lists name (config_index lists config)
 obtained_with lists name config (Some id) = Ok (record { id = id; lists = lists })
 
--- the bulkhead of that name, where the text may be a name
+-- the bulkhead of that name, if the string may be a name
 abbrev pub obtained : RegistryView ℕ → List ℕ → List ℕ → Result Obtained HeadError
 obtained lists name config =
     if not (is_good_name name) then Err (error.Registry registry.BadName)

@@ -23,7 +23,7 @@ use Rattle.resil_heads.specs.declared.layers.values.LayerSpec.{LayerSpec}
 use Rattle.resil_heads.specs.declared.layers.values.LayerSpec.TheVariants.{Retry, Bulkhead, Fallback}
 use Rattle.resil_heads.specs.declared.error.HeadError.{HeadError}
 
--- the kind that a text names
+-- the kind that a string names
 abbrev pub layer_kind_from_name : List ℕ → Option LayerKind
 layer_kind_from_name text =
     if is_same text (codes "retry") then Some kind.Retry
@@ -31,7 +31,7 @@ layer_kind_from_name text =
     else if is_same text (codes "fallback") then Some kind.Fallback
     else None
 
--- the backoff that a text names
+-- the backoff that a string names
 abbrev pub backoff_from_name : List ℕ → Option BackoffKind
 backoff_from_name text =
     if is_same text (codes "fixed") then Some backoff.Fixed
@@ -42,11 +42,11 @@ backoff_from_name text =
 abbrev pub kind_in : Members → Result LayerKind HeadError
 kind_in layer = parse_required_at (parse_named layer_kind_from_name) (codes "kind") layer
 
--- the backoff of a retry, which is fixed where the layer names none
+-- the backoff of a retry, which is fixed if the layer names none
 abbrev pub backoff_in : Members → Result BackoffKind HeadError
 backoff_in layer = parse_at (parse_named backoff_from_name) backoff.Fixed (codes "backoff") layer
 
--- the keys of a retry; those of the multiplier and the cap only where its waits grow by them
+-- the keys of a retry; those of the multiplier and the cap only if its waits grow by them
 abbrev pub retry_keys : BackoffKind → List (List ℕ)
 retry_keys backoff.Fixed = codes "kind" ∷ codes "attempts" ∷ codes "interval" ∷ codes "backoff" ∷ codes "retry_on" ∷ codes "ignore"
     ∷ codes "retry_result" ∷ codes "fail_after_max" ∷ []
@@ -78,7 +78,7 @@ abbrev pub check_layers : Stage → List Members → Result (Unit {0}) HeadError
 check_layers stage [] = Ok tt
 check_layers stage (layer ∷ more) = and_then (check_layer stage layer) (λ _. check_layers stage more)
 
--- the waits from this first one on: equal, or growing by 3/2 and up to the longest wait where the head doesn't say
+-- the waits from this first one on: equal, or growing by 3/2 and up to the longest wait if the head doesn't say
 unfoldable pub waits_from : BackoffKind → Members → ℕ → Result IntervalSpec HeadError
 waits_from backoff.Fixed layer initial = Ok (Fixed initial)
 waits_from backoff.Exponential layer initial =
@@ -86,7 +86,7 @@ waits_from backoff.Exponential layer initial =
     and_then (parse_at parse_wait interval_limit (codes "cap") layer) (λ cap.
     Ok (Exponential initial multiplier.0 multiplier.1 cap)))
 
--- the waits of a retry, of 500 ms where the head doesn't say
+-- the waits of a retry, of 500 ms if the head doesn't say
 abbrev pub parse_interval : BackoffKind → Members → Result IntervalSpec HeadError
 parse_interval growth layer = and_then (parse_at parse_wait 500 (codes "interval") layer) (waits_from growth layer)
 
@@ -97,7 +97,7 @@ parse_error_test listed layer =
     and_then (parse_at parse_kinds [] (codes "ignore") layer) (λ ignored.
     Ok (record { named = named; ignored = ignored })))
 
--- a retry of this backoff: 3 attempts, every error and no value retried, where the head doesn't say
+-- a retry of this backoff: 3 attempts, every error and no value retried, if the head doesn't say
 unfoldable pub parse_retry : BackoffKind → Members → Result RetrySpec HeadError
 parse_retry growth layer =
     and_then (parse_at parse_count 3 (codes "attempts") layer) (λ attempts.
@@ -113,7 +113,7 @@ parse_retry growth layer =
       fail_after_max = fail_after_max;
     }))))))
 
--- a bulkhead: the name is required, and the configuration is `default` where the head doesn't say
+-- a bulkhead: the name is required, and the configuration is `default` if the head doesn't say
 unfoldable pub parse_bulkhead : Members → Result LayerSpec HeadError
 parse_bulkhead layer =
     and_then (parse_required_at parse_text (codes "name") layer) (λ name.
@@ -139,8 +139,8 @@ parse_of_kind layer kind.Fallback = parse_fallback layer
 abbrev pub parse_layer : Members → Result LayerSpec HeadError
 parse_layer layer = and_then (kind_in layer) (parse_of_kind layer)
 
--- The layers that a head requests, innermost first: `layer` is an array of tables, and then each stage goes over all layers. The
--- keys of the head, which are given, are checked where those of the layers are.
+-- The layers that a head asks for, innermost first: `layer` is an array of tables, and then each stage goes over all layers. The keys of
+-- the head, which are given, are checked together with those of the layers.
 abbrev pub requested_layers : Keys → Members → Result (List LayerSpec) HeadError
 requested_layers keys head =
     and_then (parse_at parse_tables [] (codes "layer") head) (λ layers.

@@ -12,7 +12,7 @@ use Rattle.resil_heads.specs.declared.layers.values.LayerSpec.{LayerSpec}
 use Rattle.resil_heads.specs.declared.error.HeadError.{HeadError}
 use Rattle.resil_heads.specs.LayerBuild.{BuiltLayers, build_layers, chain_from_layers}
 
--- what a head requests: configurations, and layers
+-- what a head asks for: configurations, and layers
 pub record ChainSpecView : Type 0 where
   pub configurations : List ConfigSpec
   pub layers : List LayerSpec
@@ -26,7 +26,7 @@ parse_chain keys head =
     and_then (each parse_config (in_byte_order permits)) (λ configurations.
     Ok (record { configurations = configurations; layers = layers }))))
 
--- what is built of a request: the configurations in byte order of their names, then the layers, and then the chain
+-- what is built of it: the configurations in byte order of their names, then the layers, and then the chain
 unfoldable pub build_chain : ChainSpecView → Result BuiltLayers HeadError
 build_chain asked =
     and_then (configured unconfigured asked.configurations) (λ lists.

@@ -8,7 +8,7 @@ abbrev pub is_head_long : List ℕ → Option (List ℕ × List ℕ) → Bool
 is_head_long input None = true
 is_head_long input (Some parts) = nat_lt input_limit (length input - length parts.1)
 
--- the input is longer than a head may be, and its head is
+-- the input is longer than a head may be, and its head is too
 abbrev pub has_long_head : List ℕ → Bool
 has_long_head input = nat_lt input_limit (length input) && is_head_long input (parts_of input)
 

@@ -11,7 +11,8 @@ use Rattle.resil_input.specs.declared.output.Output.TheVariants as output
 abbrev pub IsLineFor : ℕ → (List ℕ → List ℕ → Type 0) → List ℕ → List ℕ → Type 0
 IsLineFor limit IsLine input line = ((is_too_long limit input ≡ true) × (line ≡ refusal_line refusal.TooLong)) ⊎ ((is_too_long limit input ≡ false) × IsLine input line)
 
--- an output for an input, by the limit and by the texts and the lines that one has: a text, the line that refuses it, or the line that memory ran out
+-- an output for an input, by the limit and by the texts and the lines that one has: a text, the line that refuses it, or the line that says
+-- it is out of memory
 abbrev pub IsOutputFor : ℕ → (List ℕ → List ℕ → Type 0) → (List ℕ → List ℕ → Type 0) → List ℕ → Output → Type 0
 IsOutputFor limit IsText IsLine input (output.Text text) = (is_too_long limit input ≡ false) × IsText input text.items
 IsOutputFor limit IsText IsLine input (output.Line line) = IsLineFor limit IsLine input (string_bytes line)

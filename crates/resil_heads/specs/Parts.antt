@@ -16,7 +16,7 @@ FitsLimit input = length input ≤ input_limit
 abbrev pub SplitsInto : {Head : Type 0} → (List ℕ → Result Head HeadError) → List ℕ → Head → List ℕ → Type 0
 SplitsInto head_of input said body = (head : List ℕ) × (parts_of input ≡ Some (head, body)) × (head_of head ≡ Ok said)
 
--- The refusal of the first step that refuses an input: its parts, its head, its body. Each step stands on what the steps before it gave.
+-- The refusal of the first step that refuses an input: its parts, its head, its body. Each step uses what the steps before it gave.
 abbrev pub IsPartRefusal : {Head : Type 0} → (List ℕ → Result Head HeadError) → (List ℕ → BodyError → Type 0) → List ℕ → Refusal → Type 0
 IsPartRefusal head_of IsBad input refusal.NoBody = parts_of input ≡ None
 IsPartRefusal head_of IsBad input (refusal.Head why) = (head : List ℕ) × (body : List ℕ) × (parts_of input ≡ Some (head, body)) × (head_of head ≡ Err why)

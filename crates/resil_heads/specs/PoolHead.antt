@@ -20,7 +20,7 @@ use Rattle.resil_heads.specs.declared.pool_head.PoolHead.{PoolHead}
 use Rattle.resil_heads.specs.declared.pool_head.Recorded.{Recorded}
 use Rattle.resil_heads.specs.declared.pool_head.Uses.{Uses}
 
--- the keys of the head of a `run`, of which the last three are read past
+-- the keys of the head of a `run`; the last three are read past
 abbrev pub run_keys : List (List ℕ)
 run_keys = codes "core" ∷ codes "max" ∷ codes "queue" ∷ codes "keep_alive" ∷ codes "permits" ∷ codes "layer" ∷ []
 
@@ -79,11 +79,11 @@ parse_made head = parse_at parse_wait 0 (codes "made") head
 abbrev pub parse_began : Members → Result (Option Moment) HeadError
 parse_began head = parse_known parse_moment (codes "began") head
 
--- whose record it is, empty where it isn't there
+-- whose record it is, empty if it isn't there
 abbrev pub parse_owner : Members → Result (List ℕ) HeadError
 parse_owner head = parse_short_text (codes "record") head
 
--- what is read where it is used; else the default, whatever is there
+-- what is read if it is used; else the default, whatever is there
 abbrev pub parse_used : {A : Type 0} → Bool → A → (Members → Result A HeadError) → Members → Result A HeadError
 parse_used is_used default read head = if is_used then read head else Ok default
 
@@ -97,7 +97,7 @@ pub record RecordedView : Type 0 where
 abbrev pub recorded_view : Recorded → RecordedView
 recorded_view r = record { idle_for = r.idle_for; made = r.made; owner = string_bytes r.owner; began = r.began }
 
--- what a recorder wrote in a table, as far as it is used
+-- what a recorder wrote in a table, if it is used
 abbrev pub parse_recorded : Uses → Members → Result RecordedView HeadError
 parse_recorded uses head =
     and_then (parse_used uses.idle_for None parse_idle_for head) (λ idle_for.

@@ -106,7 +106,7 @@ part_line part name = codes "refused " ++ (part ++ (codes " " ++ (name ++ codes 
 abbrev pub row_line : ℕ → List ℕ → List ℕ
 row_line position name = codes "refused " ++ (decimal position ++ (codes " " ++ (name ++ codes "\n")))
 
--- the line of a refusal: where, and its name
+-- the line of a refusal: the place, and its name
 abbrev pub refusal_line : Refusal → List ℕ
 refusal_line refusal.TooLong = part_line (codes "input") (codes "TooLong")
 refusal_line refusal.NoBody = part_line (codes "input") (codes "NoBody")

@@ -1,8 +1,8 @@
-//! The bulkheads of a service, as a text in TOML names them: the table `permits` has configurations by name, as in a head, and each
+//! The bulkheads of a service, as a TOML text names them. The table `permits` has configurations by name, as in a head, and each
 //! `[[bulkhead]]` has a name, a configuration and the longest wait for a permit.
 //!
-//! A text is read in steps, in this order: `read_text`, `read_configurations`, `read_tables`, and
-//! `parse_bulkhead_table` for each table. Who takes them makes the bulkheads.
+//! A text is read in steps, in this order: `read_text`, `read_configurations`, `read_tables`, and `parse_bulkhead_table` for each
+//! table. The caller of these makes the bulkheads.
 
 ghost use Rattle.std.specs.Prelude.{◌≡◌, Ok, Some, map, IfOk};
 ghost use Rattle.toml.specs.Parse.{parse_document};
@@ -51,7 +51,7 @@ pub struct BulkheadSpec<'a> {
 pub enum Place {
     /// The line with this number, from 1.
     Line(usize),
-    /// The keys of the whole text, or memory ran out.
+    /// The keys of the whole text, or the reader is out of memory.
     Text,
     /// The table of configurations.
     Permits,
@@ -91,7 +91,7 @@ fn line_at(text: &str, index: usize) -> usize {
     ends.count().saturating_add(1)
 }
 
-/// The table that a text writes, whose keys are known.
+/// The table that a text writes, with known keys only.
 ///
 /// # Errors
 ///
@@ -126,8 +126,8 @@ fn parse_configurations(alloc: Global, text: &Table) -> Result<Registry<u16>, He
 ///
 /// # Errors
 ///
-/// Of `permits`: `BadValue`; then of the first that can't be added, in byte order of their names,
-/// `BadName`, `ReservedName`. `Memory` may come at any step.
+/// For `permits`: `BadValue`; then, for the first configuration that can't be added, in byte order of their names, `BadName`,
+/// `ReservedName`. `Memory` may come at any step.
 pub fn read_configurations(alloc: Global, text: &Table) -> Result<Registry<u16>, TextError>
     ensures { IfOk result (λ names. parse_configurations (table_view text.now) ≡ Ok names) }
 {
@@ -141,18 +141,19 @@ pub fn read_configurations(alloc: Global, text: &Table) -> Result<Registry<u16>,
 ///
 /// # Errors
 ///
-/// `BadValue` of the whole text where `bulkhead` isn't an array of tables; `Memory`.
+/// `BadValue` for the whole text if `bulkhead` isn't an array of tables; `Memory`.
 pub fn read_tables<'a>(alloc: Global, text: &'a Table) -> Result<Vec<&'a Table>, TextError>
     ensures { IfOk result (λ tables. bulkhead_tables (table_view text.now) ≡ Ok (map (λ table. table_view table.now) tables.items)) }
 {
     tables_at(alloc, "bulkhead", text).map_err(|fault| at(Place::Text, fault.why()))
 }
 
-/// What the table of a bulkhead says. One without `config` has the configuration `default`, and one without `wait` waits for no permit.
+/// What the table of a bulkhead says. Without `config` the configuration is `default`, and without `wait` the bulkhead waits for no
+/// permit.
 ///
 /// # Errors
 ///
-/// In this order: `UnknownKey`; `MissingKey` where it has no `name`; `BadValue`.
+/// In this order: `UnknownKey`; `MissingKey` if it has no `name`; `BadValue`.
 #[tactic(auto, unfolding(crate::specs::Bulkheads::parse_bulkhead_table))]
 pub fn parse_bulkhead_table<'a>(keys: &'a Table) -> Result<BulkheadSpec<'a>, HeadError>
     ensures { result ≡ parse_bulkhead_table (table_view keys.now) }

@@ -1,7 +1,7 @@
-//! Why a command has no text.
+//! Why a command has no text to write.
 //!
-//! The error of each step becomes a `CommandError` by `?`, with the row that the step named, so each command reads as its steps. All are
-//! said here, but for that of carrying out the rows of `replay` and that of a run, which their commands say.
+//! The error of each step becomes a `CommandError` by `?`, with the row that the step named, so each command reads as its steps. All
+//! conversions are here, except those for carrying out the rows of `replay` and for a run, which are with their commands.
 
 ghost use Rattle.std.specs.Prelude.{◌≡◌, MatchResult};
 ghost use Rattle.resil_heads.specs.CommandError.{IsErrorOutput, from_body_error, from_head_error, from_weave_error};
@@ -20,7 +20,7 @@ use thiserror::Error;
 /// Why there is no text.
 #[derive(Clone, Copy, Debug, Error)]
 pub enum CommandError {
-    /// Memory ran out.
+    /// Out of memory.
     #[error("out of memory")]
     Memory,
     /// A thread couldn't be started.
@@ -88,15 +88,14 @@ impl From<WeaveError> for CommandError {
     }
 }
 
-/// The output for an input that is too long, which is refused before a command sees it. Where memory runs out for its line, it is
-/// `NoMemory`.
+/// The output for an input that is too long, which is refused before a command sees it. It is `NoMemory` if its line is out of memory.
 pub fn too_long_output(alloc: Global) -> Output
     ensures { IsErrorOutput (Refused TooLong) result }
 {
     error_output(alloc, CommandError::Refused(Refusal::TooLong))
 }
 
-/// The output of what a command gave: its text, or as of `error_output`.
+/// The output of a command's result: its text, or that of `error_output`.
 pub fn made_output(alloc: Global, made: Result<Vec<u8>, CommandError>) -> Output
     ensures { MatchResult made (λ text. result ≡ Output.Text text) (λ error. IsErrorOutput error result) }
 {
@@ -106,7 +105,7 @@ pub fn made_output(alloc: Global, made: Result<Vec<u8>, CommandError>) -> Output
     }
 }
 
-/// The output where a command has no text. Where memory runs out for a line, it is `NoMemory`.
+/// The output of a command without a text. It is `NoMemory` if its line is out of memory.
 pub fn error_output(alloc: Global, error: CommandError) -> Output
     ensures { IsErrorOutput error result }
 {

@@ -1,8 +1,8 @@
 //! A head as a TOML table, and its keys.
 //!
 //! A head is checked in stages, each over the whole table before the next one begins: it is TOML, each key is known, the required keys
-//! are there, each value is of its kind and in its range, and last come the checks of the command. The first stage that fails gives the
-//! error, so the order of the keys in the text never decides.
+//! are present, each value is of its kind and in its range, and last come the checks of the command. The first stage that fails gives
+//! the error, so the order of the keys in the text never decides.
 
 ghost use Rattle.std.specs.Prelude.{◌≡◌, map};
 ghost use Rattle.toml.specs.View.{table_view};
@@ -21,8 +21,8 @@ use toml::Table;
 ///
 /// # Errors
 ///
-/// `BadToml` where the bytes aren't UTF-8 or aren't a TOML document (a key that is there twice is
-/// one reason); `Memory` when out of memory.
+/// `BadToml` if the bytes aren't UTF-8 or aren't a TOML document (a key that is there twice is one reason); `Memory` when out of
+/// memory.
 #[tactic(auto, using(crate::proofs::DocumentLaws::document_of_bytes, crate::proofs::DocumentLaws::document_of_text))]
 pub fn read_document(alloc: Global, bytes: &[u8]) -> Result<Table, HeadError>
     ensures answer { GivesBy table_view result (document_of bytes.now) }
@@ -45,7 +45,7 @@ fn is_known(keys: &[Key], name: &str) -> bool
     keys.iter().any(|key| key.name() == name)
 }
 
-// Whether a table has a key where it needs it.
+// Whether a table has a key, if it needs it.
 fn has_needed(key: Key, table: &Table) -> bool
     ensures { result ≡ has_needed (table_view table.now) key }
 {
@@ -55,7 +55,7 @@ fn has_needed(key: Key, table: &Table) -> bool
     }
 }
 
-// The fault of a table that has a key which is none of these: the first of them.
+// The fault of a table that has unknown keys: the first of them.
 fn unknown(keys: &[Key], table: &Table) -> HeadFault
     ensures { result ≡ HeadError.UnknownKey }
 {
@@ -64,7 +64,7 @@ fn unknown(keys: &[Key], table: &Table) -> HeadFault
     HeadFault::at(key, HeadError::UnknownKey)
 }
 
-// The fault of a table that lacks one of these keys: the first of them.
+// The fault of a table that lacks some of these keys: the first of them.
 fn missing(keys: &[Key], table: &Table) -> HeadFault
     ensures { result ≡ HeadError.MissingKey }
 {
@@ -85,7 +85,7 @@ pub(crate) fn check_known(keys: &[Key], table: &Table) -> Result<(), HeadFault>
     }
 }
 
-/// Checks that a table has those of the keys that are required. Errors: `MissingKey`.
+/// Checks that a table has each of the keys that is required. Errors: `MissingKey`.
 pub(crate) fn check_required(keys: &[Key], table: &Table) -> Result<(), HeadFault>
     ensures { result ≡ check_required (keys_of keys.now) (table_view table.now) }
 {
@@ -97,7 +97,7 @@ pub(crate) fn check_required(keys: &[Key], table: &Table) -> Result<(), HeadFaul
     }
 }
 
-/// Checks that a table has no other keys than these, and those of them that are required.
+/// Checks that a table has no keys but these, and each of them that is required.
 ///
 /// # Errors
 ///

@@ -12,14 +12,14 @@ use toml::Table;
 /// From when to when a history is drawn, and how high its scales go.
 #[derive(Clone, Copy, Debug)]
 pub struct Drawing {
-    /// The beginning: a time in microseconds on the clock of the history or, of a history without times, the place of an event,
-    /// from 1. That of the first event where it is absent.
+    /// The beginning: a time in microseconds on the clock of the history or, if the history has no times, the place of an
+    /// event, from 1. By default, that of the first event.
     pub from: Option<u64>,
-    /// The end, above the beginning. That of the last event where it is absent.
+    /// The end, above the beginning. By default, that of the last event.
     pub to: Option<u64>,
-    /// How many jobs the scale of those that wait goes up to, at least.
+    /// How high the scale of the jobs that wait goes, at least.
     pub most_waiting: Option<u32>,
-    /// How many workers their scale goes up to, at least.
+    /// How high the scale of the workers goes, at least.
     pub most_workers: Option<u32>,
 }
 
@@ -53,7 +53,7 @@ fn most_at(key: &'static str, table: &Table) -> Result<Option<u32>, HeadFault>
     }
 }
 
-// Whether an end is above a beginning, where both are there.
+// Whether an end is above a beginning, if both are there.
 fn is_later(from: Option<u64>, to: Option<u64>) -> bool
     ensures { result ≡ is_later from to }
 {
@@ -63,7 +63,7 @@ fn is_later(from: Option<u64>, to: Option<u64>) -> bool
     }
 }
 
-// The end of what is drawn, if it is there. Errors: `BadValue`, also where it isn't above the beginning.
+// The end of what is drawn, if it is there. Errors: `BadValue`, also if it isn't above the beginning.
 fn end_at(from: Option<u64>, table: &Table) -> Result<Option<u64>, HeadFault>
     ensures { result ≡ parse_end from (table_view table.now) }
 {

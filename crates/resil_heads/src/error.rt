@@ -14,7 +14,7 @@ use thiserror::Error;
 /// Why a head is refused. `Memory` may come at any stage; the other errors are in the order of the stages.
 #[derive(Clone, Copy, Debug, Error)]
 pub enum HeadError {
-    /// Memory ran out.
+    /// Out of memory.
     #[error("out of memory")]
     Memory,
     /// The head isn't UTF-8, or it isn't a TOML document.
@@ -35,7 +35,7 @@ pub enum HeadError {
     /// There are more permits than a word can count.
     #[error("there are more than 65535 permits")]
     TooManyPermits,
-    /// A bulkhead of a text has the name of one before it, by the number of that one, from 1.
+    /// A bulkhead of a text has the name of an earlier one. This is the number of that one, from 1.
     #[error("bulkhead {0} already has that name")]
     SameName(usize),
     /// The registry refuses a configuration or a bulkhead.
@@ -70,7 +70,7 @@ impl<T: Drop> From<AllocFailed<T>> for HeadError {
 pub enum Part {
     /// The head itself, by its own keys, or the chain of its layers.
     Head,
-    /// The configuration at this place of those in byte order of their names, from 0.
+    /// The configuration at this place in byte order of their names, from 0.
     Configuration(usize),
     /// The layer at this place, from 0.
     Layer(usize),
@@ -79,17 +79,17 @@ pub enum Part {
 /// Which key of a part is at fault.
 #[derive(Clone, Copy, Debug)]
 pub enum FaultyKey {
-    /// None of them, or the part is one key itself.
+    /// No key, or the part is itself one key.
     Whole,
-    /// This one: it is missing, or its value is refused.
+    /// This key: it is missing, or its value is refused.
     Known(&'static str),
-    /// This one, for the item at this place of its array, from 0.
+    /// This key, for the item at this place of its array, from 0.
     Item(&'static str, usize),
-    /// The one at this place of all that the part has, in byte order, from 0: no such part has it.
+    /// The key at this place of all that the part has, in byte order, from 0: no such part may have it.
     Other(usize),
 }
 
-/// Why a head is refused, with the part that is and its key. Contracts see why alone.
+/// Why a head is refused, with the part that is refused and its key. Contracts see only the reason.
 #[derive(Debug, Drop)]
 pub struct HeadFault {
     why: HeadError,
@@ -105,7 +105,7 @@ impl Model for HeadFault {
     ghost view = { λ fault. fault.why };
 }
 
-// The key that an error is about wherever it comes from, if there is one.
+// The key that an error is about, wherever the error occurs, if there is one.
 fn key_of(why: HeadError) -> FaultyKey {
     FaultyKey::Known(match why {
         HeadError::Limits(AdmitError::CoreOutOfRange) => "core",
@@ -157,7 +157,7 @@ impl HeadFault {
     }
 }
 
-/// What was read of the value at a key, with the key where the value is refused.
+/// What was read of the value at a key, with the key if the value is refused.
 pub fn at_key<T>(key: &'static str, read: Result<T, HeadError>) -> Result<T, HeadFault>
     ensures { result ≡ read }
 {

@@ -1,6 +1,6 @@
 //! What heads and bodies may have: the keys of a table, the fields and the rows of a body, and the form of each value and field.
 //!
-//! Each command has its tables beside what reads by them. Who says what is wrong with an input reads the same.
+//! Each command has its tables beside the code that reads by them. The code that explains what is wrong with an input reads the same tables.
 
 ghost use Rattle.std.specs.Prelude.{◌≡◌};
 ghost use Rattle.resil_heads.specs.Document.{name_of};
@@ -12,23 +12,23 @@ use std::fmt;
 /// The permits of a configuration.
 pub const PERMIT_COUNT: Form = Form::Integer(0, 65_535);
 
-/// What a value of a head or a field of a row may be. It is written as what is wanted there.
+/// What a value of a head or a field of a row may be. Its text says what is wanted there.
 #[derive(Clone, Copy)]
 pub enum Form {
     /// An integer of a head, from the least to the greatest.
     Integer(i64, i64),
-    /// An integer of a head that is read where it is from 0 to 4,294,967,295, and then taken from the least to the greatest.
+    /// An integer of a head that is read if it is from 0 to 4,294,967,295, and then taken from the least to the greatest.
     Count(i64, i64),
-    /// An integer of a head from 0 on, above that of another key where this is there.
+    /// An integer of a head from 0 on, above that of another key if this is there.
     Above(&'static str),
     /// One such integer, or an array of 1 to 8 of them.
     Sizes(u32, u32),
     AnyInteger,
-    /// Milliseconds of a head, of which a retry waits so many at most.
+    /// Milliseconds of a head, at most the longest wait of a retry.
     Wait,
     Flag,
     Text,
-    /// A text of so many characters at most.
+    /// A string of at most this many characters.
     ShortText(usize),
     /// How many of the first events recreate the state in which a record begins.
     Made,
@@ -47,11 +47,11 @@ pub enum Form {
     Configurations,
     /// An array of tables, under this name.
     Tables(&'static str),
-    /// The first field of a row, by which its other fields are known.
+    /// The first field of a row, which decides what its other fields are.
     Word,
     /// A number of a row, from the least to the greatest.
     Number(u64, u64),
-    /// A caller of `run`, of which it has this many as its words say.
+    /// A caller of `run`; the arguments of the command say how many there are.
     Caller,
     Reply,
     /// A reply by the whole rule.
@@ -60,7 +60,7 @@ pub enum Form {
     Switch,
     Script,
     Grants,
-    /// Nothing, where a row doesn't use the field.
+    /// Nothing, if a row doesn't use the field.
     Empty,
 }
 
@@ -123,7 +123,7 @@ impl fmt::Display for Form {
 }
 
 impl Form {
-    /// Whether a field of a row, of which there are this many callers, is of this form.
+    /// Whether a field of a row is of this form, with this many callers.
     pub fn has_field(self, field: &[u8], callers: u16) -> bool {
         match self {
             Form::Word => true,
@@ -157,7 +157,7 @@ fn is_number(field: &[u8], least: u64, greatest: u64) -> bool {
 /// A key that a table may have, with what its value may be.
 #[derive(Clone, Copy)]
 pub enum Key {
-    /// It has to be there.
+    /// It is required.
     Required(&'static str, Form),
     /// It may be absent.
     Optional(&'static str, Form),
@@ -191,14 +191,14 @@ pub struct Body {
     pub header: &'static [&'static str],
     /// What each field may be in a row that uses it.
     pub forms: &'static [Form],
-    /// The rows, or none where there is one kind of row, which uses the first two fields. A field behind the header counts for nothing.
+    /// The rows, or none if there is one kind of row, which uses the first two fields. Fields beyond the header are ignored.
     pub rows: &'static [Row],
     /// Whether there is a shorter header too, without the last row and the last two fields, which are those of a resize.
     pub has_resizes: bool,
 }
 
 impl Body {
-    /// The bodies without the last field, which is a time: under these there is a shorter header too.
+    /// The bodies without the last field, which is a time: these have a shorter header too.
     pub fn without_times(self) -> Body {
         let fields = self.header.len().saturating_sub(1);
         Body {
@@ -209,7 +209,7 @@ impl Body {
         }
     }
 
-    /// The bodies under the shorter header, where there are two.
+    /// The bodies under the shorter header, if there are two headers.
     pub fn without_resizes(self) -> Body {
         if !self.has_resizes {
             return self;

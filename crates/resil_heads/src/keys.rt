@@ -1,8 +1,8 @@
 //! The values at the keys of a table, each read as its kind.
 //!
-//! A value that isn't of its kind, or isn't in its range, is the error `BadValue`, and a key that
-//! is absent gives its default. So each reader of this module has the error `BadValue` and no
-//! other, but for `Memory` where it takes an allocator, and `MissingKey` of `required`.
+//! A value that isn't of its kind, or isn't in its range, is the error `BadValue`, and a key that is absent gives its
+//! default. So each reader of this module has the error `BadValue` and no other, except `Memory` if it takes an
+//! allocator, and `MissingKey` of `required`.
 
 ghost use Rattle.std.specs.Prelude.{◌≡◌, Some, None, [], chars, length, map, nat_lt, option_map, string_bytes, MatchResult};
 ghost use Rattle.toml.specs.Data.{get_member};
@@ -19,7 +19,7 @@ use std::alloc::Global;
 use std::marker::Model;
 use toml::{Table, Value};
 
-/// A text of the head, seen by contracts as its bytes.
+/// A string of the head. Contracts see it as its bytes.
 #[derive(Drop)]
 pub struct HeadText<'a> {
     text: &'a str,
@@ -34,14 +34,14 @@ impl<'a> Model for HeadText<'a> {
 }
 
 impl<'a> HeadText<'a> {
-    /// This text.
+    /// This string.
     pub(crate) fn new(text: &'a str) -> HeadText<'a>
         ensures { result ≡ text.now }
     {
         HeadText { text }
     }
 
-    /// The text itself.
+    /// The string itself.
     pub fn as_str(&self) -> &'a str
         ensures { result.now ≡ self.now }
     {
@@ -65,14 +65,14 @@ pub fn required<'a>(key: &'static str, table: &'a Table) -> Result<&'a Value, He
     value_at(key, table).ok_or(missing)
 }
 
-/// Any text.
+/// Any string.
 pub(crate) fn parse_text<'a>(value: &'a Value) -> Result<HeadText<'a>, HeadError>
     ensures { result ≡ parse_text (view value.now) }
 {
     value.as_str().map(HeadText::new).ok_or(HeadError::BadValue)
 }
 
-/// The text at a key.
+/// The string at a key.
 pub(crate) fn text_at<'a>(
     key: &'static str,
     default: &'a str,
@@ -84,7 +84,7 @@ pub(crate) fn text_at<'a>(
     at_key(key, read)
 }
 
-/// The text of at most 64 characters at a key, empty where it is absent.
+/// The string of at most 64 characters at a key, empty if it is absent.
 ///
 /// # Errors
 ///
@@ -114,7 +114,7 @@ pub fn parse_count(value: &Value) -> Result<u32, HeadError>
     u32::try_from(parse_integer(value)?).map_err(|_| HeadError::BadValue)
 }
 
-/// The number at a key, from 0 to 4,294,967,295, or the default where it is absent.
+/// The number at a key, from 0 to 4,294,967,295, or the default if it is absent.
 ///
 /// # Errors
 ///
@@ -163,7 +163,7 @@ pub(crate) fn parse_fraction(value: &Value) -> Result<(u32, u32), HeadError>
     }
 }
 
-// A kind of error, by its text.
+// A kind of error, by its string.
 fn parse_kind_value(value: &Value) -> Result<Kind, HeadError>
     ensures { result ≡ parse_named parse_kind (view value.now) }
 {
@@ -171,7 +171,7 @@ fn parse_kind_value(value: &Value) -> Result<Kind, HeadError>
     kind.ok_or(HeadError::BadValue)
 }
 
-// The kinds of error in a value, where it is an array of them.
+// The kinds of error in a value, if it is an array of them.
 #[tactic(auto, using(crate::proofs::LayerLaws::each_next))]
 fn parse_kinds(alloc: Global, key: &'static str, value: &Value) -> Result<Vec<Kind>, HeadFault>
     ensures { GivesBy (λ kinds. kinds.items) result (parse_kinds (view value.now)) }
@@ -189,7 +189,7 @@ fn parse_kinds(alloc: Global, key: &'static str, value: &Value) -> Result<Vec<Ki
     Ok(kinds)
 }
 
-/// The kinds of error at a key, none where it is absent.
+/// The kinds of error at a key, none if it is absent.
 pub(crate) fn kinds_at(
     alloc: Global,
     key: &'static str,
@@ -203,7 +203,7 @@ pub(crate) fn kinds_at(
     }
 }
 
-// The test of values that a text names: `never`, or `=`, `<` or `>=` and an integer.
+// The test of values that a string names: `never`, or `=`, `<` or `>=` and an integer.
 fn result_test_from_name(text: &[u8]) -> Option<ResultTest>
     ensures { result ≡ result_test_from_name text.now }
 {
@@ -216,7 +216,7 @@ fn result_test_from_name(text: &[u8]) -> Option<ResultTest>
     }
 }
 
-// A test of values, by its text. Errors: `BadValue` where the value is no test.
+// A test of values, by its string. Errors: `BadValue` if the value is no test.
 fn parse_result_test(value: &Value) -> Result<ResultTest, HeadError>
     ensures { result ≡ parse_named result_test_from_name (view value.now) }
 {
@@ -224,7 +224,7 @@ fn parse_result_test(value: &Value) -> Result<ResultTest, HeadError>
     result_test_from_name(text.as_bytes()).ok_or(HeadError::BadValue)
 }
 
-/// The test of values at a key; where it is absent, no value is retried.
+/// The test of values at a key; if it is absent, no value is retried.
 pub(crate) fn result_test_at(key: &'static str, table: &Table) -> Result<ResultTest, HeadFault>
     ensures { result ≡ parse_at (parse_named result_test_from_name) Never key.now (table_view table.now) }
 {
@@ -239,7 +239,7 @@ pub(crate) fn parse_table<'a>(value: &'a Value) -> Result<&'a Table, HeadError>
     value.as_table().ok_or(HeadError::BadValue)
 }
 
-// The tables in a value, where it is an array of them.
+// The tables in a value, if it is an array of them.
 #[tactic(auto, using(crate::proofs::LayerLaws::each_next))]
 fn parse_tables<'a>(alloc: Global, value: &'a Value) -> Result<Vec<&'a Table>, HeadError>
     ensures { GivesBy (λ tables. map (λ table. table_view table.now) tables.items) result (parse_tables (view value.now)) }
@@ -254,7 +254,7 @@ fn parse_tables<'a>(alloc: Global, value: &'a Value) -> Result<Vec<&'a Table>, H
     Ok(tables)
 }
 
-/// The tables in the array at a key, none where it is absent.
+/// The tables in the array at a key, none if it is absent.
 pub(crate) fn tables_at<'a>(
     alloc: Global,
     key: &'static str,

@@ -1,8 +1,8 @@
-//! The layers of a head, with the bulkheads that they name, as `chain` and `run` have them.
+//! The layers of a head, with the bulkheads that they name, for `chain` and `run`.
 //!
-//! A head is read whole before the first of its parts is built, so that a bad value in the last layer comes before an interval that is
-//! too long in the first. So what each layer says is read first (`values`), and then the configurations, the layers and the chain are
-//! built (`bulkheads`, `build`).
+//! A head is read whole before the first of its parts is built, so that a bad value in the last layer is reported before an interval
+//! that is too long in the first. First it is read what each layer says (`values`), and then the configurations, the layers and the
+//! chain are built (`bulkheads`, `build`).
 
 ghost use Rattle.toml.specs.View.{table_view};
 ghost use Rattle.resil_heads.specs.Checks.{Gives};
@@ -33,7 +33,7 @@ pub const PERMITS: Key = Key::Optional("permits", Form::Configurations);
 /// The layers, innermost first.
 pub const LAYER: Key = Key::Optional("layer", Form::Tables("layer"));
 
-/// What a head says of its chain, from its values alone: nothing is built of them yet.
+/// What a head says of its chain, by its values alone: nothing is built of them yet.
 #[derive(Drop)]
 pub struct ChainSpec<'a> {
     configurations: Vec<ConfigSpec<'a>>,
@@ -65,11 +65,11 @@ impl Model for BuiltChain {
     ghost view = { λ c. record { layers = c.chain; lists = c.bulkheads } };
 }
 
-/// What a table of these keys says of its chain.
+/// What a table with these keys says of its chain.
 ///
 /// # Errors
 ///
-/// The first in this order: `BadValue` where `permits` isn't a table or `layer` isn't an array of tables; `MissingKey` or `BadValue` for
+/// The first in this order: `BadValue` if `permits` isn't a table or `layer` isn't an array of tables; `MissingKey` or `BadValue` for
 /// the first layer that has no kind or an unknown one; `BadValue` for an unknown backoff; `UnknownKey`; `MissingKey`; `BadValue`.
 /// `Memory` may come at any step.
 #[tactic(auto, unfolding(crate::specs::Layers::parse_chain))]
@@ -89,7 +89,7 @@ pub fn parse_chain<'a>(
     })
 }
 
-// The first of layers that make no chain which is one too many, or with which there are too many calls.
+// The first of some layers that make no chain: one too many, or the layer that makes too many calls.
 fn excess(layers: &[Layer]) -> Part {
     let mut calls = 1u32;
     if layers.len() <= MAX_LAYERS {
@@ -105,7 +105,7 @@ fn excess(layers: &[Layer]) -> Part {
     Part::Layer(MAX_LAYERS)
 }
 
-/// The chain that is requested, with its bulkheads.
+/// The chain that a head asks for, with its bulkheads.
 ///
 /// # Errors
 ///

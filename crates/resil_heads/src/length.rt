@@ -1,7 +1,7 @@
 //! How long an input may be, and its head.
 //!
 //! Each program has limits for its inputs. A head is at most a mebibyte in all of them: its table can take a thousand times the memory of
-//! its text, while the rows of a body take a few times that of theirs. Lengths are checked before TOML is read.
+//! its text, while the rows of a body take a few times the memory of theirs. Lengths are checked before TOML is read.
 
 ghost use Rattle.std.specs.Prelude.{◌≡◌};
 ghost use Rattle.resil_heads.specs.Length.{has_long_head, is_too_long};

@@ -1,12 +1,12 @@
-//! What the commands have in common beside their bytes: the parts of their heads, and why an input is refused.
+//! What the commands share above their bytes: the parts of their heads, and why an input is refused.
 //!
-//! Each command has its head in its own crate. Here are how long an input may be (`length`), the TOML table and its keys (`document`),
-//! what keys and bodies may have (`forms`), the values at keys (`keys`), the three sizes of a pool (`sizes`), the head of a history
-//! of any pool of the JDK (`pool_head`) with what of it is drawn (`drawing`), and the layers around a call with the bulkheads that they
-//! name (`layers`).
-//! `bulkheads` reads a text that names the bulkheads of a service, by the same tables. A head that is refused tells its key (`error`).
-//! The error of each step of a command becomes a `CommandError` by `?` (`command_error`), and all lines of refusals are made by one
-//! module (`refusal`). `subject` is what a command says of its inputs to whoever explains a refusal.
+//! Each command has its head in its own crate. This crate says how long an input may be (`length`). It has the TOML table and its keys
+//! (`document`), the forms of keys and bodies (`forms`), the values at keys (`keys`), and the three sizes of a pool (`sizes`). It reads
+//! the head of a history of any pool of the JDK (`pool_head`), which also says what of the history is drawn (`drawing`), and the layers
+//! around a call with the bulkheads that they name (`layers`). `bulkheads` reads a text that names the bulkheads of a service, by the
+//! same tables. The error of a refused head names its key (`error`). The error of each step of a command becomes a `CommandError` by
+//! `?` (`command_error`), and one module makes all lines of refusals (`refusal`). `subject` is what a command says of its inputs to the
+//! code that explains a refusal.
 #![tactic(auto)]
 
 pub mod bulkheads;

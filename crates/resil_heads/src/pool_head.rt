@@ -1,6 +1,6 @@
 //! The head of a history that the whole rule judges: the sizes of any pool of the JDK, its name, and what its recorder wrote there.
 //!
-//! A recorder names itself, the time of its first event, and how many events recreate the state in which its file begins. A command
+//! A recorder writes its name, the time of its first event, and how many events recreate the state in which its file begins. A command
 //! says which of these it uses (`Uses`). It reads past the others, so a value that one command refuses may be any value for another.
 
 ghost use Rattle.std.specs.Prelude.{◌≡◌, None, [], IfOk, string_bytes};
@@ -44,7 +44,7 @@ pub const POOL_KEYS: &[Key] = &[
     Key::Optional("most_workers", Form::Integer(0, 4_294_967_295)),
 ];
 
-/// Which of the values that a recorder writes a command uses, and whether it draws.
+/// Which values of a recorder a command uses, and whether it draws.
 #[derive(Clone, Copy, Debug)]
 pub struct Uses {
     /// `idle_for`, an integer from 0 to 31,536,000,000,000, a year in microseconds.
@@ -90,13 +90,13 @@ pub struct Moment {
 /// What a recorder wrote in a head.
 #[derive(Drop)]
 pub struct Recorded {
-    /// After how many microseconds an idle worker may end, if the head has that.
+    /// After how many microseconds an idle worker may end, if the head says that.
     pub idle_for: Option<u64>,
-    /// How many of the first events recreate the state in which the file begins. They may be more than there are events.
+    /// How many of the first events recreate the state in which the file begins. This may be more than there are events.
     pub made: u64,
     /// Whose record it is, empty if the head doesn't say that.
     pub owner: String,
-    /// When the first event was, if the head has that.
+    /// When the first event was, if the head says that.
     pub began: Option<Moment>,
 }
 
@@ -148,7 +148,7 @@ fn parse_moment(value: &Value) -> Result<Moment, HeadError>
     }
 }
 
-// Microseconds, of which a year has 31,536,000,000,000, from 0 to a year. Errors: `BadValue`.
+// Microseconds, from 0 to a year, which is 31,536,000,000,000. Errors: `BadValue`.
 fn parse_year(value: &Value) -> Result<u64, HeadError>
     ensures { result ≡ parse_year (view value.now) }
 {
@@ -204,7 +204,7 @@ fn began_at(is_used: bool, table: &Table) -> Result<Option<Moment>, HeadFault>
     }
 }
 
-// What a recorder wrote in a table, as far as it is used. Errors: `BadValue`, `Memory`.
+// What a recorder wrote in a table, if it is used. Errors: `BadValue`, `Memory`.
 fn parse_recorded(alloc: Global, uses: Uses, table: &Table) -> Result<Recorded, HeadFault>
     ensures { GivesBy recorded_view result (parse_recorded uses (table_view table.now)) }
 {
@@ -220,9 +220,9 @@ fn parse_recorded(alloc: Global, uses: Uses, table: &Table) -> Result<Recorded, 
     })
 }
 
-/// What the bytes of a head say: the sizes that `core`, `max` (workers, both required) and `queue` (jobs, 100 if it is absent) give
-/// to a pool of the JDK, its `name`, of at most 64 characters, and what its recorder wrote and what is to be drawn, as far as it is used.
-/// Each other key of `POOL_KEYS` may have any value.
+/// What the bytes of a head say. The sizes of a pool of the JDK are at `core`, `max` (workers, both required) and `queue` (jobs, 100 if
+/// it is absent); its `name` has at most 64 characters. What its recorder wrote and what is to be drawn are read if they are used. Every
+/// other key of `POOL_KEYS` may have any value.
 ///
 /// # Errors
 ///

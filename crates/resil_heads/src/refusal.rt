@@ -1,7 +1,7 @@
 //! Why an input is refused, and the line that says so.
 //!
-//! All names that the program prints for a refusal are here, and in `specs/Refusal.antt`: the name
-//! of the variant, whichever crate refused. The line is `refused`, where, and the name.
+//! All names that the program prints for a refusal are here, and in `specs/Refusal.antt`: the name of the variant,
+//! whichever crate refused. The line is `refused`, the place, and the name.
 
 ghost use Rattle.std.specs.Prelude.{◌≡◌, IfOk, string_bytes};
 ghost use Rattle.resil_heads.specs.Refusal.{chain_name, head_name, load_name, part_line, pool_name, refusal_line, registry_name, retry_name, row_line, row_name, run_name, step_name};
@@ -22,11 +22,11 @@ pub enum Refusal {
     NoBody,
     /// Its head is refused.
     Head(HeadError),
-    /// The history in one pool is asked for, and its head has several.
+    /// The history in one pool is wanted, and its head has several.
     ManyPools,
     /// Its body doesn't begin with the header.
     BadHeader,
-    /// The record at this position, from 1 under the header, is no row.
+    /// The record at this position, from 1 after the header, isn't a row.
     BadRow(usize),
     /// The row at this position, from 1, can't be carried out.
     Row(usize, RowRefusal),
@@ -34,7 +34,7 @@ pub enum Refusal {
     Step(usize, StepRefusal),
     /// The row at this position, from 1, of a load or of a history with times can't be taken.
     Load(usize, LoadRefusal),
-    /// A result of a run behind its history can't be read.
+    /// A result of a run after its history can't be read.
     BadResult,
     /// The run was carried out, and has no report.
     Run(RunRefusal),
@@ -45,7 +45,7 @@ pub enum Refusal {
 pub enum RowRefusal {
     /// The submission's number isn't its caller's next one.
     WrongNumber,
-    /// No job of this id is out.
+    /// No job with this id is out.
     NotOut,
     /// No worker may take a job, or no worker may end.
     NotAllowed,
@@ -90,8 +90,8 @@ pub enum RunRefusal {
     ReceiptsDiffer,
 }
 
-// The word that is printed for a refused head: the variant's name, and for what another crate
-// refuses the name of its refusal. `Memory` and `SameName` are never printed.
+// The word that is printed for a refused head: the variant's name or, if another crate refused, the name of its
+// refusal. `Memory` and `SameName` are never printed.
 fn head_name(why: HeadError) -> &'static str
     ensures { result.now ≡ head_name why }
 {
@@ -212,21 +212,21 @@ fn run_name(why: RunRefusal) -> &'static str
     }
 }
 
-// The line of a refusal of a part of the input. Errors: memory runs out.
+// The line of a refusal of a part of the input. Errors: out of memory.
 fn part_line(alloc: Global, part: &str, name: &str) -> Result<String, AllocError>
     ensures { IfOk result (λ line. string_bytes line ≡ part_line part.now name.now) }
 {
     format!(in alloc; "refused {part} {name}\n")
 }
 
-// The line of a refusal of a row, by its position from 1. Errors: memory runs out.
+// The line of a refusal of a row, by its position from 1. Errors: out of memory.
 fn row_line(alloc: Global, position: usize, name: &str) -> Result<String, AllocError>
     ensures { IfOk result (λ line. string_bytes line ≡ row_line position name.now) }
 {
     format!(in alloc; "refused {position} {name}\n")
 }
 
-/// The line that is written for a refusal: where, and its name.
+/// The line that is written for a refusal: the place, and the name.
 ///
 /// # Errors
 ///

@@ -1,6 +1,6 @@
 //! The sizes of a pool, as the table of a head gives them.
 //!
-//! What is read are sizes that a pool takes, so a head never opens a pool out of its ranges.
+//! The sizes that are read are ones that a pool takes, so a head never opens a pool out of its ranges.
 
 ghost use Rattle.std.specs.Prelude.{◌≡◌, IfOk, IsOkAnd};
 ghost use Rattle.toml.specs.View.{table_view};
@@ -28,21 +28,21 @@ pub const QUEUE: Key = Key::Optional("queue", Form::Count(1, Limits::MAX_WAITING
 /// The core size of a pool of the JDK, in workers.
 pub(crate) const JDK_CORE: Key = Key::Required("core", Form::Count(0, 536_870_911));
 
-/// The maximum size of one, in workers.
+/// The maximum size of such a pool, in workers.
 pub(crate) const JDK_MAX: Key = Key::Required("max", Form::Count(1, 536_870_911));
 
-/// The capacity of the queue of one, in jobs.
+/// The capacity of the queue of such a pool, in jobs.
 pub(crate) const JDK_QUEUE: Key = Key::Optional("queue", Form::Count(0, 2_147_483_647));
 
-/// The capacity of the queue where a head names none, in jobs (Resilience4j user guide, Bulkhead, `queueCapacity`).
+/// The capacity of the queue if a head names none, in jobs (Resilience4j user guide, Bulkhead, `queueCapacity`).
 pub const DEFAULT_QUEUE: u32 = 100;
 
-/// The limits that a table gives by its keys `core` and `max` (workers) and `queue` (jobs, 100 where it is absent). It takes no memory.
+/// The limits that a table gives by its keys `core` and `max` (workers) and `queue` (jobs, 100 if it is absent). It takes no memory.
 ///
 /// # Errors
 ///
-/// In this order, of the first of them: `MissingKey` where `core` or `max` is absent, `BadValue` where it is no integer from 0 to
-/// 4,294,967,295; then `Limits` where the pool refuses the sizes.
+/// In this order, each for the first size at fault: `MissingKey` if `core` or `max` is absent, `BadValue` if it isn't an integer
+/// from 0 to 4,294,967,295; then `Limits` if the pool refuses the sizes.
 #[tactic(auto, unfolding(crate::specs::Sizes::parse_limits))]
 pub fn parse_limits(table: &Table) -> Result<Limits, HeadFault>
     ensures answer { result ≡ parse_limits (table_view table.now) }
@@ -74,8 +74,8 @@ fn build_jdk_limits(core: u32, max: u32, queue: u32) -> Result<JdkLimits, HeadEr
 ///
 /// # Errors
 ///
-/// In this order, of the first of them: `MissingKey` if `core` or `max` is absent, `BadValue` if it is no integer from 0 to
-/// 4,294,967,295; then `Limits` if `JdkLimits` refuses the sizes, by the name that `Limits` has for it.
+/// In this order, each for the first size at fault: `MissingKey` if `core` or `max` is absent, `BadValue` if it isn't an integer
+/// from 0 to 4,294,967,295; then `Limits` if `JdkLimits` refuses the sizes, by the name that `Limits` has for it.
 #[tactic(auto, unfolding(crate::specs::Sizes::parse_jdk_limits))]
 pub fn parse_jdk_limits(table: &Table) -> Result<JdkLimits, HeadFault>
     ensures answer { result ≡ parse_jdk_limits (table_view table.now) }

@@ -1,6 +1,6 @@
-//! What a command says of its inputs to whoever explains on standard error what is wrong with one of them.
+//! What a command says of its inputs to the code that explains on standard error what is wrong with one of them.
 //!
-//! Each command has it beside what reads its heads and bodies, so the explanation knows no command, and no command knows it.
+//! Each command has it beside the code that reads its heads and bodies, so the explanation knows no command, and no command knows it.
 
 use crate::error::HeadFault;
 use crate::forms::{Body, Key};
@@ -20,7 +20,7 @@ pub trait Subject: Copy {
     /// What its bodies may have.
     fn body(self) -> Body;
 
-    /// What else they may have, each under another header, and when that is.
+    /// What else they may have, each under another header, and when.
     fn other_bodies(self) -> &'static [(&'static str, Body)] {
         &[]
     }
@@ -30,12 +30,12 @@ pub trait Subject: Copy {
         1
     }
 
-    /// What is said of a refusal that this command alone has, by its name.
+    /// What is said of a refusal that only this command has, by its name.
     fn said_of(self, _name: &str) -> Option<&'static str> {
         None
     }
 
-    /// The limits of the pool that a head names, and the events of a part of its body, where the rule of admission answers its rows.
+    /// The limits of the pool that a head names, and the events of a part of its body, if the rule of admission answers its rows.
     fn pool(self, _alloc: Global, _head: &[u8], _part: &[u8]) -> Option<(Limits, Vec<Event>)> {
         None
     }
@@ -50,8 +50,8 @@ pub trait Subject: Copy {
         None
     }
 
-    /// What is said where another command takes what is refused by this name: the head, or the record of the body that the refusal is
-    /// about, the header or a row.
+    /// What is said if another command takes what is refused by this name: the head, or the record of the body that the refusal is
+    /// about, which is the header or a row.
     fn other_command(
         self,
         _alloc: Global,

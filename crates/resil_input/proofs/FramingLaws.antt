@@ -75,7 +75,7 @@ module _ (text line rest : List ℕ) (start : ℕ) (at : IsLineAt text start lin
         take-add start (length line) text ∙ ap (λ l. take start text ++ l) (ap (take (length line)) at.cut ∙ whole) in
         before ∙ rw (at.first, other) (with_prefix-append (take start text) line (parts_of rest) ∙ ap (λ l. with_prefix l (parts_of rest)) (sym front))
 
--- where no line is left, the text has no parts
+-- if no line is left, the text has no parts
 pub parts_of-end : (text : List ℕ) (start : ℕ) → length (drop start text) ≡ 0 → parts_of text ≡ with_prefix (take start text) (parts_of (drop start text)) → parts_of text ≡ None
 unfolding cut_at_separator lines_of
 parts_of-end text start past before = let none : drop start text ≡ [] = search (arith, common_steps) in before ∙ rw none refl

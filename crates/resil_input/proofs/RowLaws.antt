@@ -59,7 +59,7 @@ module _ {A Row : Type 0} (f : A → Option Row) where
   abbrev rows_before : List A → ℕ
   rows_before records = prefix_len (λ record_. is_some (f record_)) records
 
-  -- all of them, where all are rows
+  -- all of them, if all are rows
   rows_before-all : (records : List A) (rows : List Row) → map f records ≡ map Some rows → rows_before records ≡ length records
   rows_before-all [] rows e = refl
   rows_before-all (x ∷ records) [] e = cc e

@@ -42,7 +42,7 @@ module _ {X A : Type 0} (f : X → Option A) (front : List A) (item : X) (items 
       go None = refl
       go (Some values) = ap Some (sym (append_assoc front (value ∷ []) values))
 
-  -- where one value is missing, there is no list of all
+  -- if one value is missing, there is no list of all
   pub there-gap : f item ≡ None → behind front (all_some (map f (item ∷ items))) ≡ None
   there-gap none = rw none refl
 

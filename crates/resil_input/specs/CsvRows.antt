@@ -1,4 +1,4 @@
--- The rows of a body, whose records are the header and one record a row, and why a body has none.
+-- The rows of a body. Its records are the header and one record for each row; and why a body has none.
 use Rattle.std.specs.Prelude.{ℕ, suc, ◌≡◌, ◌≢◌, ◌==◌, ◌++◌, ◌∷◌, [], List, Option, Some, None, if◌then◌else◌, length, map, slice_get, Result, IfOk, ⊤}
 use denote.Ref.{Bor}
 use Rattle.csv.specs.Records.{Row as Record, fields_of}
@@ -14,12 +14,12 @@ records_of body = records default_config (strip_bom body)
 abbrev pub row_under : {Row : Type 0} → List (List ℕ) → (List (List ℕ) → Option Row) → List (List ℕ) → Option Row
 row_under header row_of fields = if length fields == length header then row_of fields else None
 
--- what answers for each record with as many fields as the header tells its row, where it doesn't fail
+-- a call that answers for each record with as many fields as the header returns its row, if it doesn't fail
 abbrev pub AnswersRows : {Row E : Type 0} → (Bor Record → Result (Option Row) E → Type 0) → List (List ℕ) → (List (List ℕ) → Option Row) → Type 0
 AnswersRows {Row} {E} answers header row_of =
     (fields : Bor Record) (answer : Result (Option Row) E) → answers fields answer → length (fields_of fields.now) ≡ length header → IfOk answer (λ row. row ≡ row_of (fields_of fields.now))
 
--- these records are read as these rows, one row a record
+-- these records are read as these rows, one for each record
 abbrev pub ParseAs : {Row : Type 0} → List (List ℕ) → (List (List ℕ) → Option Row) → List (List (List ℕ)) → List Row → Type 0
 ParseAs header row_of records rows = map (row_under header row_of) records ≡ map Some rows
 
@@ -32,24 +32,24 @@ abbrev pub IsBodyError : {Row : Type 0} → List (List ℕ) → (List (List ℕ)
 IsBodyError header row_of body error.Memory = ⊤
 -- the first record is missing, or isn't the header
 IsBodyError header row_of body error.BadHeader = slice_get (records_of body) 0 ≢ Some header
--- the records before that position are rows, and the one there is none; positions are from 1
+-- the records before that position are rows, and the one there isn't; positions are from 1
 IsBodyError {Row} header row_of body (error.BadRow position) = (prefix : List (List (List ℕ))) × (bad : List (List ℕ)) × (rest : List (List (List ℕ))) × (rows : List Row)
     × (records_of body ≡ header ∷ (prefix ++ bad ∷ rest)) × ParseAs header row_of prefix rows × (row_under header row_of bad ≡ None) × (position ≡ suc (length prefix))
 
--- why a body has no first record: memory ran out, or it has no record
+-- why a body has no first record: it is out of memory, or it has no record
 abbrev pub IsUnopened : List ℕ → BodyError → Type 0
 IsUnopened body error.Memory = ⊤
 IsUnopened body error.BadHeader = records_of body ≡ []
 IsUnopened body (error.BadRow position) = ⊥
 
--- A body has one list of rows at most.
+-- A body has at most one list of rows.
 abbrev pub RowsUnique : {Row : Type 0} → List (List ℕ) → (List (List ℕ) → Option Row) → Type 0
 RowsUnique {Row} header row_of = (body : List ℕ) (rows others : List Row) → IsBody header row_of body rows → IsBody header row_of body others → rows ≡ others
 
--- A body with rows has no error, except that memory may run out.
+-- A body with rows has no error, except that it may be out of memory.
 abbrev pub RowsExcludeErrors : {Row : Type 0} → List (List ℕ) → (List (List ℕ) → Option Row) → Type 0
 RowsExcludeErrors {Row} header row_of = (body : List ℕ) (rows : List Row) (why : BodyError) → IsBody header row_of body rows → IsBodyError header row_of body why → why ≡ error.Memory
 
--- A body has one error at most, except that memory may run out.
+-- A body has at most one error, except that it may be out of memory.
 abbrev pub ErrorsUnique : {Row : Type 0} → List (List ℕ) → (List (List ℕ) → Option Row) → Type 0
 ErrorsUnique header row_of = (body : List ℕ) (why other : BodyError) → IsBodyError header row_of body why → IsBodyError header row_of body other → why ≢ error.Memory → other ≢ error.Memory → why ≡ other

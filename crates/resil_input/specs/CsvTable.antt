@@ -1,4 +1,4 @@
--- The text of a table: records of fields, none of which needs quotes.
+-- The text of a table: records of fields. None of the fields needs quotes.
 use Rattle.std.specs.Prelude.{◌≡◌, ◌<◌, ℕ, ◌++◌, ◌∷◌, [], List, Bool, true, false, codes, not, unwrap_or, Some}
 use Rattle.std.specs.List.{flat_map, join_with_byte, list_all}
 use Rattle.csv.specs.Writing.{comma, default_writer, fields_written, first_length, has_written, needs_quotes, text_written, writer_setup}
@@ -13,7 +13,7 @@ record_text fields = join_with_byte comma fields ++ line_feed ∷ []
 abbrev pub table_text : List (List (List ℕ)) → List ℕ
 table_text records = flat_map record_text records
 
--- the header of a table of results: the id of a job, and what is told of its run
+-- the header of a table of results: the id of a job, and what is said of its run
 abbrev pub results_header : List (List ℕ)
 results_header = codes "caller" ∷ codes "number" ∷ codes "outcome" ∷ codes "calls" ∷ codes "waits" ∷ codes "asked" ∷ []
 

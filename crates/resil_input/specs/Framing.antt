@@ -3,7 +3,7 @@ use Rattle.std.specs.Prelude.{ℕ, ◌==◌, ◌||◌, ◌++◌, ◌∷◌, Bool
 use Rattle.std.specs.List.{concat}
 use Rattle.resil_input.specs.TextEquality.{is_same}
 
--- a byte more at the front of the first line
+-- one more byte at the front of the first line
 abbrev pub onto_first : ℕ → List (List ℕ) → List (List ℕ)
 onto_first byte [] = (byte ∷ []) ∷ []
 onto_first byte (line ∷ lines) = (byte ∷ line) ∷ lines
@@ -13,7 +13,7 @@ unfoldable pub lines_of : List ℕ → List (List ℕ)
 lines_of [] = []
 lines_of (byte ∷ rest) = if byte == 10 then (byte ∷ []) ∷ lines_of rest else onto_first byte (lines_of rest)
 
--- a line of three dashes alone, apart from its line end, which the last line may lack
+-- a line of just three dashes, apart from its line end, which the last line may lack
 abbrev pub is_separator : List ℕ → Bool
 is_separator line = is_same line (codes "---\n") || is_same line (codes "---\r\n") || is_same line (codes "---")
 

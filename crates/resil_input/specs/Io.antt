@@ -15,7 +15,7 @@ inner_of s = s.inner
 abbrev pub has_failed : {S : Type 0} → FailureTracking S → Bool
 has_failed s = s.failed
 
--- the greatest length of an input of `resil`, and of a head, in bytes: one mebibyte
+-- the maximum length of an input of `resil`, and of a head, in bytes: one mebibyte
 abbrev pub input_limit : ℕ
 input_limit = 1048576
 
@@ -32,7 +32,7 @@ IsInput = IsInputUpTo input_limit
 abbrev pub ConsumesAtMost : ℕ → Option (List ℕ) → Option (List ℕ) → Type 0
 ConsumesAtMost most old new = (taken : List ℕ) × (length taken ≤ most) × Consumes old new taken
 
--- bytes were read and added to those there were, as many as are told, and none only where none are left to read
+-- bytes were read and added to those before, as many as the answer says, and none only if none are left to read
 abbrev pub AddsRead : Option (List ℕ) → Option (List ℕ) → List ℕ → List ℕ → ℕ → Type 0
 AddsRead old new before after count = (read : List ℕ) × Consumes old new read × (after ≡ before ++ read) × (length read ≡ count) × (count ≡ 0 → IsAtEnd new)
 

@@ -5,12 +5,12 @@ use Rattle.std.specs.Str.{all_ascii_digits}
 use Rattle.std.specs.Str.Parse.{digits_value}
 use Rattle.resil_input.specs.TextEquality.{is_same}
 
--- one digit or more, of which the first isn't 0 (byte 48)
+-- one or more digits; the first isn't 0 (byte 48)
 abbrev pub is_numeral : List ℕ → Bool
 is_numeral [] = false
 is_numeral (digit ∷ digits) = not (digit == 48) && all_ascii_digits (digit ∷ digits)
 
--- the number of which a field is the text, if it is below a bound
+-- the number whose text a field is, if it is below a bound
 abbrev pub parse_number_below : ℕ → List ℕ → Option ℕ
 parse_number_below bound field = if is_numeral field && nat_lt (digits_value 10 field) bound then Some (digits_value 10 field) else None
 
@@ -30,6 +30,6 @@ parse_from_zero bound field = if is_same field (codes "0") then Some 0 else pars
 abbrev pub NumbersRoundTrip : Type 0
 NumbersRoundTrip = (n : ℕ) → 1 ≤ n → n < 2 ^ 64 → parse_number (decimal n) ≡ Some n
 
--- What is read as a number is its decimal text, and the number is from 1 to 2 ^ 64 - 1.
+-- A text that is read as a number is its decimal text, and the number is from 1 to 2 ^ 64 - 1.
 abbrev pub NumbersAreDecimal : Type 0
 NumbersAreDecimal = (field : List ℕ) (n : ℕ) → parse_number field ≡ Some n → (field ≡ decimal n) × (1 ≤ n) × (n < 2 ^ 64)

@@ -67,7 +67,7 @@ parse_outcome (first ∷ rest) = if first == 86 then option_map Value (parse_sig
 
 -- ---- Reading is tied to writing.
 
--- A text is read as a value exactly where it is that value's text, and the value fits its type.
+-- A text is read as a value exactly if it is that value's text, and the value fits its type.
 abbrev pub RoundTrips : {A : Type 0} → (List ℕ → Option A) → (A → Type 0) → (A → List ℕ) → Type 0
 RoundTrips {A} read Fits text_of = (text : List ℕ) (value : A) → (read text ≡ Some value) ↔ (Fits value × (text ≡ text_of value))
 

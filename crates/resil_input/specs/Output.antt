@@ -16,7 +16,7 @@ code_of status.NoMemory = 3
 code_of status.NoThread = 3
 code_of status.Failed = 4
 
--- the three lines that are no refusal of an input
+-- the three lines that don't refuse an input
 abbrev pub usage_line : List ℕ
 usage_line = codes "refused usage\n"
 
@@ -42,9 +42,8 @@ bytes_of output.Usage = usage_line
 bytes_of output.NoMemory = memory_line
 bytes_of output.NoThread = threads_line
 
--- The output was written whole, with its status and no new failure, or a write failed behind a
--- prefix of it. The lists are what the writer has before and after, where it tells, and the two
--- tests say whether a call of it had failed.
+-- The output was written whole, with its status and no new failure, or a write failed after a prefix of it. The lists are what the writer
+-- has before and after, if it says so, and the two tests say whether a call of it had failed.
 abbrev pub IsWritten : Option (List ℕ) → Option (List ℕ) → Bool → Bool → Output → Status → Type 0
 IsWritten before after failed_before failed_after out s = (s ≡ status_of out) × Appends before after (bytes_of out) × (failed_after ≡ failed_before)
     ⊎ ((s ≡ status.Failed) × AppendsPrefix before after (bytes_of out) × (failed_after ≡ true))

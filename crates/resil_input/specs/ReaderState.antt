@@ -34,7 +34,7 @@ GivesNext old new fields Record = IsBetweenRecords new × (records_left old ≡ 
 GivesNext old new fields UnequalLength = (bad : List (List ℕ)) × (rest : List (List (List ℕ))) × (records_left old ≡ bad ∷ rest) × (width : ℕ) × (old.expected ≡ Some width) × (length bad ≢ width)
 GivesNext old new fields End = records_left old ≡ []
 
--- a reader after the header, so that each record that it gives has as many fields
+-- a reader after the header: each record that it gives must have as many fields
 abbrev pub IsInBody : List (List ℕ) → Reader (Bor (List ℕ)) → Type 0
 IsInBody header reader = IsBetweenRecords reader × (reader.expected ≡ Some (length header))
 
@@ -42,7 +42,7 @@ IsInBody header reader = IsBetweenRecords reader × (reader.expected ≡ Some (l
 abbrev pub header_of : OpenBody → List (List ℕ)
 header_of opened = fields_of opened.header
 
--- The body was opened: its first record was read, and none behind it.
+-- The body was opened: its first record was read, and no record after it.
 pub record IsOpened (body : List ℕ) (opened : OpenBody) : Type 0 where
   pub first : records_of body ≡ header_of opened ∷ records_left opened.reader
   pub inside : IsInBody (header_of opened) opened.reader

@@ -14,6 +14,6 @@ all_some (Some value ∷ rest) = option_map (λ values. value ∷ values) (all_s
 abbrev pub split_items : List ℕ → List (List ℕ)
 split_items text = slice_split (λ byte. byte == 59) text
 
--- the outcomes that a text is read as: one or more, with semicolons between them
+-- the outcomes that a text is read as: one or more, separated by semicolons
 abbrev pub parse_script : List ℕ → Option (List Outcome)
 parse_script text = all_some (map parse_outcome (split_items text))

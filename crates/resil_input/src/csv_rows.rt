@@ -1,4 +1,4 @@
-//! The rows of a body, from the records that `csv` reads in it: a header, then one record a row.
+//! The rows of a body, from the records that `csv` reads in it: a header, then one record for each row.
 //!
 //! A body is the list of its records; `csv` handles quotes, a byte order mark, empty lines and line
 //! ends. After each read, the records already read and those still to come make up that list, so no
@@ -24,7 +24,7 @@ pub enum BodyError {
     /// The first record is missing, or isn't the header.
     #[error("the first record is not the header")]
     BadHeader,
-    /// The record at this position is no row. The first one after the header has position 1.
+    /// The record at this position isn't a row. The first one after the header has position 1.
     #[error("row {0} is invalid")]
     BadRow(usize),
 }
@@ -123,11 +123,11 @@ impl OpenBody<'_> {
     }
 
     /// Reads the rows after the header, in order. `row_of` reads the row of a record with as many fields as the header, or `None`
-    /// if it is no row; it fails when out of memory.
+    /// if it isn't a row; it fails when out of memory.
     ///
     /// # Errors
     ///
-    /// The first that is met: `Memory` when out of memory; `BadRow` with the position of the first record that is no row.
+    /// The first that is met: `Memory` when out of memory; `BadRow` with the position of the first record that isn't a row.
     pub fn rows<R: Drop, F: Fn(&ByteRecord) -> Result<Option<R>, AllocError> + Drop>(
         self,
         alloc: Global,
@@ -156,14 +156,13 @@ impl OpenBody<'_> {
     }
 }
 
-/// Reads the rows of a body, in order: the records after one with the fields of the header.
-/// `row_of` reads the row of a record with as many fields as the header, or `None` if it is no
-/// row; it fails when out of memory.
+/// Reads the rows of a body, in order: the records after one with the fields of the header. `row_of` reads the row of a record
+/// with as many fields as the header, or `None` if it isn't a row; it fails when out of memory.
 ///
 /// # Errors
 ///
-/// The first that is met: `Memory` when out of memory; `BadHeader` if the first record is
-/// missing or isn't the header; `BadRow` with the position of the first record that is no row.
+/// The first that is met: `Memory` when out of memory; `BadHeader` if the first record is missing or isn't the header; `BadRow`
+/// with the position of the first record that isn't a row.
 pub fn read_rows<R: Drop, F: Fn(&ByteRecord) -> Result<Option<R>, AllocError> + Drop>(
     alloc: Global,
     header: &[&str],

@@ -12,7 +12,7 @@ use std::alloc::Global;
 use std::io::{ErrorKind, Read, Write};
 use thiserror::Error;
 
-/// The greatest length of an input of the program `resil`, and of a head with its separator line, in bytes: one mebibyte.
+/// The maximum length of an input of the program `resil`, and of a head with its separator line, in bytes: one mebibyte.
 pub const MAX_INPUT_LEN: usize = 1_048_576;
 
 // The most bytes that one read asks for. Room for them is zeroed at each start, so there are few.

@@ -1,5 +1,4 @@
-//! The script of a job, as one field of a row writes it: one outcome or more, with semicolons
-//! between them.
+//! The script of a job, as one field of a row writes it: one or more outcomes, separated by semicolons.
 //!
 //! An empty field is no script, since an empty text is no outcome.
 
@@ -11,8 +10,8 @@ use resil_retry::Script;
 use std::alloc::{AllocError, Global};
 use std::marker::Model;
 
-/// Reads a script: one outcome or more, with semicolons between them. `None` for any other text.
-/// A text without a semicolon takes no memory.
+/// Reads a script: one or more outcomes, separated by semicolons. `None` for any other text. A text without a semicolon
+/// takes no memory.
 ///
 /// # Errors
 ///

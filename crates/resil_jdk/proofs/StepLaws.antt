@@ -153,7 +153,7 @@ module _ (v after : JdkView) (id : Id) (is : after ≡ record v { line = after.l
   took (Ok false) may less more = tt
   took (Err why) may less more = tt
 
-  -- where nothing else is changed, it is where it was
+  -- if nothing else is changed, it is where it was
   only-tidied : (after.waits ≡ v.waits) × (after.runs ≡ v.runs) → StaysAt v after
   only-tidied (waits, runs) h state =
       let z : JdkView = record v { line = after.line } in

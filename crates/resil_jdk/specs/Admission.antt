@@ -55,11 +55,12 @@ WorkersWithinOpening = (limits : Sizes) (history : List JdkEvent) → AreJdkLimi
 abbrev pub RunningWithinWorkers : Type 0
 RunningWithinWorkers = (limits : Sizes) (history : List JdkEvent) → IsLegal limits history → length (running history) ≤ workers history
 
--- Of the jobs with an id: those accepted are those that wait, run, are finished or were removed, and there is one at most.
+-- The jobs with an id: the accepted ones are those that wait, run, are finished or were removed, and there is at most one.
 pub record IsConserved (history : List JdkEvent) (id : Id) : Type 0 where
   pub sum : times id (accepted history) ≡ times id (waiting history) + times id (running history) + times id (finished history) + times id (removed history)
   pub once : times id (accepted history) ≤ 1
 
--- In a legal history no job is lost, and none is there twice: each accepted one waits, runs, is finished or was removed, and is one of these alone.
+-- In a legal history no job is lost, and none is there twice: each accepted job waits, runs, is finished or was removed, and only one of
+-- these.
 abbrev pub JobsConserved : Type 0
 JobsConserved = (limits : Sizes) (history : List JdkEvent) → IsLegal limits history → (id : Id) → IsConserved history id

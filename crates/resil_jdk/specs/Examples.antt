@@ -1,4 +1,4 @@
--- Histories of small pools, to read the definitions against: each shows what `resil_rule` has no word for.
+-- Histories of small pools, to read the definitions against: each shows something for which `resil_rule` has no word.
 use Rattle.std.specs.Prelude.{ℕ, List, [], ◌∷◌, true}
 use Rattle.resil_rule.specs.Limits.{Sizes}
 use Rattle.resil_rule.specs.declared.event.Id.{Id}

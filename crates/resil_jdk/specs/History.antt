@@ -89,7 +89,7 @@ abbrev pub new_max : JdkEvent → Option ℕ
 new_max (Resized core max) = Some max
 new_max _ = None
 
--- what is set of the core workers' time-out
+-- what is set for the core workers' time-out
 abbrev pub new_time_out : JdkEvent → Option Bool
 new_time_out (TimeOut on) = Some on
 new_time_out _ = None
@@ -153,7 +153,7 @@ abbrev pub last_setting : Bool → List Bool → Bool
 last_setting other [] = other
 last_setting other (setting ∷ settings) = last_setting setting settings
 
--- whether core workers time out: as it was set last, and at first they don't
+-- whether core workers time out: as it was last set; at first they don't
 abbrev pub times_out : List JdkEvent → Bool
 times_out history = last_setting false (filter_map new_time_out history)
 

@@ -1,4 +1,4 @@
--- Which histories the rule's state may stand for, and what a step adds to each of them.
+-- Which histories the rule's state may represent, and what a step adds to each of them.
 use Rattle.std.specs.Prelude.{ℕ, ◌≡◌, ◌++◌, ◌∷◌, [], List, true, length}
 use Rattle.resil_rule.specs.History.{is_among, times}
 use Rattle.resil_rule.specs.declared.event.Id.{Id}
@@ -19,18 +19,18 @@ pub record IsStateOf (history : List JdkEvent) (v : JdkView) : Type 0 where
   pub queue_is : queue_of v ≡ waiting history
   pub waits_are : (x : Id) → times x v.waits ≡ times x (waiting history)
   pub runs_are : (x : Id) → times x v.runs ≡ times x (running history)
-  -- who stands in the line was queued
+  -- each job in the line was queued
   pub lined : (x : Id) → is_among x v.line ≡ true → is_among x (queued history) ≡ true
   pub made_are : (caller : ℕ) → made_by v caller ≡ length (submissions history caller)
 
--- One event further: it may follow each history that the state stood for, and the state stands for that history with it.
+-- One event further: it may follow each history that the state represented, and the state represents that history with it.
 abbrev pub Follows : JdkView → JdkEvent → JdkView → Type 0
 Follows before event after = (history : List JdkEvent) → IsStateOf history before → IsAllowed before.limits history event × IsStateOf (history ++ event ∷ []) after
 
--- No event: the state stands for each history that it stood for.
+-- No event: the state represents each history that it represented.
 abbrev pub StaysAt : JdkView → JdkView → Type 0
 StaysAt before after = (history : List JdkEvent) → IsStateOf history before → IsStateOf history after
 
--- The event may follow no history that the state stands for.
+-- The event may follow no history that the state represents.
 abbrev pub IsBarred : JdkView → JdkEvent → Type 0
 IsBarred v event = (history : List JdkEvent) → IsStateOf history v → ¬ IsAllowed v.limits history event

@@ -11,9 +11,9 @@ use Rattle.resil_jdk.specs.declared.event.JdkReply.TheVariants.{Core, First, Que
 use Rattle.resil_jdk.specs.declared.event.JdkEvent.{JdkEvent}
 use Rattle.resil_jdk.specs.declared.event.JdkEvent.TheVariants.{Submit, Take, Finish, IdleEnd, Close, Resized, Start, Cull, Remove, Stop, TimeOut}
 
--- The sizes of the opening and now, whether core workers time out, whether the pool is closed and stopped, how many workers there are; the line of
--- those that were queued, oldest first, in which some may stand that have left the queue; the jobs that wait, and those that run, in any order; and
--- how many submissions each caller made.
+-- The sizes of the opening and now, whether core workers time out, whether the pool is closed and stopped, and how many workers there are;
+-- the line of the jobs that were queued, oldest first, which may have some that have left the queue; the jobs that wait, and those that
+-- run, in any order; and how many submissions each caller made.
 pub record JdkView : Type 0 where
   pub limits : Sizes
   pub core : ℕ
@@ -27,7 +27,7 @@ pub record JdkView : Type 0 where
   pub runs : List Id
   pub made : List ℕ
 
--- just opened
+-- a pool that was just opened
 abbrev pub opened : Sizes → JdkView
 opened limits = record {
   limits = limits;
@@ -65,7 +65,7 @@ next_reply v =
     else if nat_lt v.workers v.max then Extra
     else Full
 
--- the jobs that one joins which is answered so
+-- the jobs that a submission with this answer joins
 abbrev pub joined : JdkView → JdkReply → List Id
 joined v Core = v.runs
 joined v First = v.waits
@@ -89,7 +89,7 @@ May v (Remove id) = is_among id v.waits ≡ true
 May v Stop = v.stopped ≡ false
 May v (TimeOut on) = Unit {0}
 
--- What an event changes, in the words of the history that it alone is.
+-- How an event changes the state, in the words of the history of this event alone.
 pub record IsStep (v : JdkView) (e : JdkEvent) (after : JdkView) : Type 0 where
   pub limits : after.limits ≡ v.limits
   pub core : after.core ≡ last_size v.core (filter_map new_core (e ∷ []))
@@ -103,12 +103,13 @@ pub record IsStep (v : JdkView) (e : JdkEvent) (after : JdkView) : Type 0 where
   pub runs : (x : Id) → times x after.runs + times x (finished (e ∷ [])) ≡ times x v.runs + times x (run_at_once (e ∷ [])) + times x (taken (e ∷ []))
   pub made : (caller : ℕ) → made_by after caller ≡ made_by v caller + (if is_submit_of caller e then 1 else 0)
 
--- A line that has no one new, and those of them that wait, in the same order.
+-- The line has no new job, and the jobs in it that wait are in the same order.
 pub record IsSameQueue (waits before after : List Id) : Type 0 where
   pub queue : filter (λ id. is_among id waits) after ≡ filter (λ id. is_among id waits) before
   pub line : (x : Id) → is_among x after ≡ true → is_among x before ≡ true
 
--- Nothing is changed but room: some that have left the queue may have left the line, and callers may be counted that made no submission.
+-- Nothing is changed but room: some jobs that have left the queue may have left the line, and callers may be counted that made no
+-- submission.
 pub record IsTidied (v after : JdkView) : Type 0 where
   pub rest : after ≡ record v { line = after.line; made = after.made }
   pub queue : IsSameQueue v.waits v.line after.line

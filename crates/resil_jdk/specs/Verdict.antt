@@ -12,6 +12,6 @@ IsVerdict limits history Legal = IsLegal limits history
 IsVerdict limits history (FirstIllegal position) = (prefix : List JdkEvent) × (bad : JdkEvent) × (rest : List JdkEvent)
     × (history ≡ prefix ++ bad ∷ rest) × (position ≡ suc (length prefix)) × IsLegal limits prefix × ¬ IsAllowed limits prefix bad
 
--- A history has one verdict at most.
+-- A history has at most one verdict.
 abbrev pub VerdictsAreOne : Type 0
 VerdictsAreOne = (limits : Sizes) (history : List JdkEvent) (one other : Verdict) → IsVerdict limits history one → IsVerdict limits history other → one ≡ other

@@ -47,8 +47,8 @@ pub enum JdkEvent {
     IdleEnd,
     /// The pool was closed (`shutdown`). Jobs accepted before are still run.
     Close,
-    /// The core and maximum sizes, in workers, are these from here on. No worker begins or ends by it, and the capacity of
-    /// the queue stays.
+    /// The core and maximum sizes, in workers, are these from here on. No worker begins or ends because of it, and the
+    /// capacity of the queue stays.
     Resized { core: u32, max: u32 },
     /// A worker began without a job (`prestartCoreThread`, a raised core size).
     Start,
@@ -58,7 +58,7 @@ pub enum JdkEvent {
     /// A job left the queue without a worker (`remove`, `purge`, the oldest job that `DiscardOldestPolicy` discards, and
     /// what `shutdownNow` hands back).
     Remove(Id),
-    /// The pool was stopped (`shutdownNow`): it is closed, and no job is taken any more.
+    /// The pool was stopped (`shutdownNow`): it is closed, and no job is taken from here on.
     Stop,
     /// Whether idle workers may end below the core size, too, from here on (`allowCoreThreadTimeOut`).
     TimeOut(bool),

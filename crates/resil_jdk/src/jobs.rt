@@ -1,5 +1,5 @@
-//! Jobs of a pool, as a set of their ids. A look-up takes the same time however many there are, and so does an edit, the
-//! growth of the table apart; the memory is that of the most jobs that were in the set at once.
+//! Jobs of a pool, as a set of their ids. A look-up takes the same time for any number of jobs, and so does an edit,
+//! except for the growth of the table. The memory is that of the most jobs that were in the set at once.
 
 ghost use Rattle.std.specs.Prelude.{◌≡◌, ◌+◌, ◌<◌, ◌^◌, ◌∷◌, [], List, ℕ, map, not, length, IfOk, OnErr};
 ghost use Rattle.std.specs.Bool.{OnTrue, OnFalse};
@@ -12,7 +12,7 @@ use std::alloc::{AllocError, Global};
 use std::collections::HashSet;
 use std::marker::Model;
 
-/// A set of jobs. Contracts see the ids of these, in any order.
+/// A set of jobs. Contracts see their ids, in any order.
 #[derive(Drop)]
 pub(crate) struct Jobs {
     // The caller and the number of each.
@@ -56,7 +56,7 @@ impl Jobs {
         self.keys.contains(&key_of(id))
     }
 
-    /// Adds a job, and says whether it wasn't among them.
+    /// Adds a job, and returns whether it wasn't among them.
     ///
     /// # Errors
     ///
@@ -71,7 +71,7 @@ impl Jobs {
         Ok(added)
     }
 
-    /// Takes a job out, and says whether it was among them.
+    /// Takes a job out, and returns whether it was among them.
     pub(crate) fn remove(&mut self, id: Id) -> bool
         ensures had { result ≡ is_among id self.old }
         ensures less { OnTrue result ((x : Id) → times x self.new + times x (id ∷ []) ≡ times x self.old) }

@@ -20,13 +20,13 @@ pub fn worked_histories()
     ensures started_when_stopped { ¬ IsLegal (sizes 1 1 1) started_when_stopped }
 {}
 
-/// The law of resizes: they never let in more workers than the maximum size of the opening.
+/// The law of resizes: there are never more workers than the maximum size of the opening, whatever they set.
 pub fn workers_within_opening()
     ensures { WorkersWithinOpening }
 {}
 
 /// The law of jobs at once: no more run than there are workers. With `workers_within_opening` no more jobs run at once than
-/// the maximum size of the opening says.
+/// the maximum size of the opening.
 pub fn running_within_workers()
     ensures { RunningWithinWorkers }
 {}
@@ -38,7 +38,7 @@ pub fn jobs_conserved()
 {}
 
 /// The law of the two rules: a history of `resil_rule`'s rule, with sizes that it takes, is legal by the whole rule exactly
-/// if it is legal by that one, so long as no resize sets the core size 0.
+/// if it is legal by that one, as long as no resize sets the core size 0.
 pub fn legal_alike()
     ensures { AreLegalAlike }
 {}

@@ -6,9 +6,9 @@
 //! what a history of events means, and `specs/Admission.antt` which event may come next. `audit` judges a history by one pass of
 //! `JdkRule`. A history that `resil_rule` has words for is legal by both rules or by none (`legal_alike`).
 //!
-//! The rule is that of the class documentation of `java.util.concurrent.ThreadPoolExecutor`; `JdkRule::next_reply` tells how it
-//! answers a submission. Not of this rule are pools with a queue that isn't first in, first out, with a thread factory that
-//! fails, or with jobs in the queue before the pool is made, and `ScheduledThreadPoolExecutor`.
+//! The rule is that of the class documentation of `java.util.concurrent.ThreadPoolExecutor`; `JdkRule::next_reply` says how it
+//! answers a submission. This rule doesn't cover pools with a queue that isn't first in, first out, with a thread factory that
+//! fails, or with jobs in the queue before the pool is made, nor `ScheduledThreadPoolExecutor`.
 #![tactic(auto)]
 
 mod error;

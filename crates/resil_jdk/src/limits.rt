@@ -1,4 +1,4 @@
-//! The sizes that a pool is opened with. A resize leaves them: they tell how far it may go.
+//! The sizes that a pool is opened with. A resize leaves them as they are: they limit what it may set.
 
 ghost use Rattle.std.specs.Prelude.{◌≡◌, IfOk, IfErr};
 ghost use Rattle.resil_rule.specs.Limits.{Sizes};
@@ -9,7 +9,7 @@ use std::marker::Model;
 
 /// The sizes of a pool: the core size (0 to 536,870,911 workers), the maximum size (1 to 536,870,911, and at least the core
 /// size) and the capacity of the queue (0 to 2,147,483,647 jobs; 0 is a direct handoff). After the ThreadPoolExecutor class
-/// documentation. The JDK compares the low 29 bits of its sizes alone: with a maximum of 536,870,912 its pool rejects each
+/// documentation. The JDK compares only the low 29 bits of its sizes: with a maximum of 536,870,912 its pool rejects each
 /// task. A `LinkedBlockingQueue` without a bound has a capacity of 2,147,483,647.
 ///
 /// ```

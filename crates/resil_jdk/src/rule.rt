@@ -1,11 +1,11 @@
 //! The whole rule of a ThreadPoolExecutor, over the ids of its jobs.
 //!
 //! It keeps no history: only numbers, the jobs that wait and those that run. An event takes the same time however many these
-//! are, the growth of a table apart. The memory is that of the most jobs that were in the pool at once and of a count for
-//! each caller, and never that of the sizes: a queue may have room for 2,147,483,647 jobs.
+//! are, except for the growth of a table. The memory is that of the most jobs that were in the pool at once and of a count
+//! for each caller, and never that of the sizes: a queue may have room for 2,147,483,647 jobs.
 //!
-//! The jobs in the queue stand in a line, the oldest first, and in a set. A job that leaves the queue leaves the set, and the
-//! line later: from its front at the next look, or once more than half of the line have left.
+//! The jobs in the queue are in a line, the oldest first, and in a set. A job that leaves the queue leaves the set, and the
+//! line later: from its front at the next look-up, or once more than half of the line have left.
 
 ghost use Rattle.std.specs.Prelude.{◌≡◌, ◌↔◌, ◌≤◌, ◌<◌, ◌+◌, ◌-◌, ◌++◌, ◌∷◌, [], ℕ, suc, max, true, false, not, filter, length, slice_get, slice_index_or, IsTrue, IfOk, IfErr, IsOk, OnOk, OnErr, if◌then◌else◌, ◌==◌};
 ghost use Rattle.std.specs.Bool.{OnTrue, OnFalse};
@@ -47,7 +47,7 @@ pub struct JdkRule {
     stopped: bool,
     // How many workers there are.
     workers: u32,
-    // The jobs that were queued, oldest first; of those that left the queue some may still be here.
+    // The jobs that were queued, oldest first; some that have left the queue may still be here.
     line: VecDeque<Id>,
     // The jobs that wait.
     waits: Jobs,
@@ -124,13 +124,13 @@ impl JdkRule {
         }
     }
 
-    /// Takes the rule one event further, and says whether it allows it: a submission with the reply that it has, a job that
-    /// is taken, finished or removed by its id (ThreadPoolExecutor class documentation). What it doesn't allow leaves it
-    /// where it was.
+    /// Takes the rule one event further, and returns whether it allows it: a submission with the reply that it has, a job
+    /// that is taken, finished or removed by its id (ThreadPoolExecutor class documentation). An event that it doesn't allow
+    /// leaves it as it was.
     ///
     /// # Errors
     ///
-    /// `Memory`, of a submission and a take, when out of memory; then it is where it was.
+    /// `Memory`, for a submission and a take, when out of memory; then it is as it was.
     #[tactic(auto, using(crate::proofs::StepLaws::barred, crate::proofs::StepLaws::stays))]
     pub fn follow(&mut self, event: JdkEvent) -> Result<bool, JdkError>
         ensures allowed { IfOk result (λ allowed. OnTrue allowed (Follows self.old event self.new)) }
@@ -200,7 +200,7 @@ impl JdkRule {
         Ok(true)
     }
 
-    // Puts a job where the answer says, and says whether it wasn't there.
+    // Puts a job where the answer says, and returns whether it wasn't there.
     fn place(&mut self, id: Id, reply: JdkReply) -> Result<bool, JdkError>
         requires answer { reply ≡ next_reply self.old }
         requires sizes { (1 ≤ self.old.limits.max) × (self.old.core ≤ self.old.limits.max) × (self.old.max ≤ self.old.limits.max) }
@@ -438,7 +438,7 @@ fn front_of(line: &mut VecDeque<Id>, waits: &Jobs) -> Option<Id>
     None
 }
 
-// Drops those that don't wait from the line, if they are more than half of it.
+// Drops the jobs that don't wait from the line, if they are more than half of it.
 fn drop_left(line: &mut VecDeque<Id>, waits: &Jobs)
     ensures { IsSameQueue waits.now line.old.items line.new.items }
 {
@@ -447,8 +447,8 @@ fn drop_left(line: &mut VecDeque<Id>, waits: &Jobs)
     }
 }
 
-// Counts the callers from 0 to this one, those that weren't counted yet from no submission. Errors: `AllocError` when out of
-// memory, and then each caller made what it made.
+// Counts the callers from 0 to this one; those that weren't counted yet have made no submission. Errors: `AllocError` when
+// out of memory, and then each caller has the submissions that it had.
 fn count_up_to(made: &mut Vec<u64>, caller: u16) -> Result<(), AllocError>
     ensures reaches { OnOk result (caller < length made.new.items) }
     ensures same { (other : ℕ) → slice_index_or made.new.items other 0 ≡ slice_index_or made.old.items other 0 }

@@ -1,4 +1,4 @@
-//! An event of the whole rule with the moment when it happened, and lists of them.
+//! An event of the whole rule with the time at which it happened, and lists of them.
 
 ghost use Rattle.std.specs.Prelude.{◌≡◌, IfOk};
 ghost use Rattle.resil_jdk.specs.Timed.{events_in, times_in};

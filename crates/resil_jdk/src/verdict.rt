@@ -1,8 +1,8 @@
-//! The audit of a history by the whole rule: whether it is legal, and where it first isn't.
+//! The audit of a history by the whole rule: whether it is legal, and where its first illegal event is.
 //!
-//! Each event is held against the rule's state after the events before it. These are legal at every moment, so the first
-//! event that may not follow them is the first illegal one. It is one pass, and an event takes the same time whatever the
-//! sizes are and however many jobs are in the pool, the growth of a table apart.
+//! Each event is checked against the rule's state after the events before it. These are legal at every moment, so the first
+//! event that may not follow them is the first illegal one. It is one pass, and an event takes the same time for any sizes
+//! and any number of jobs in the pool, except for the growth of a table.
 
 ghost use Rattle.std.specs.Prelude.{◌≡◌, IfOk, IfErr};
 ghost use Rattle.resil_jdk.specs.Verdict.{IsVerdict, VerdictsAreOne};
@@ -49,7 +49,7 @@ pub fn audit(alloc: Global, limits: &JdkLimits, history: &[JdkEvent]) -> Result<
     Ok(Verdict::Legal)
 }
 
-/// The law of verdicts: a history has one at most. So an audit answers `Legal` exactly if the history is legal, and a
+/// The law of verdicts: a history has at most one. So an audit answers `Legal` exactly if the history is legal, and a
 /// position exactly if the first illegal event is there.
 #[tactic(auto, using(crate::proofs::VerdictLaws::verdict_unique))]
 pub fn verdicts_are_one()

@@ -16,7 +16,7 @@ struct Reading {
 }
 
 impl Reading {
-    // Goes on by a row. At the end of a history it answers its verdict.
+    // Continues with a row. At the end of a history it returns the verdict.
     fn step(&mut self, row: Row) -> anyhow::Result<Option<Verdict>> {
         match row {
             Row::Pool(limits) => {

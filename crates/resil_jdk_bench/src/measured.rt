@@ -1,5 +1,5 @@
-//! How long an audit takes: by the whole rule, of pools with 500 workers; by that of `resil_rule`, of ones with 8, and with
-//! 64, the most that it takes.
+//! How long an audit takes: by the whole rule for pools with 500 workers; by that of `resil_rule` for pools with 8 workers, and
+//! with 64, the most that it takes.
 
 use resil_jdk::{JdkEvent, JdkLimits, JdkReply};
 use resil_rule::{Event, Id, Limits, Reply, Verdict};
@@ -17,7 +17,7 @@ fn job(number: u64) -> Id {
     Id { caller: 1, number }
 }
 
-// A pool of so many workers that are all busy: a job is queued, a worker finishes its job, and takes that one, again and again.
+// A pool of this many workers that are all busy: a job is queued, a worker finishes its job, and takes that one, again and again.
 fn queued(alloc: Global, workers: u64) -> anyhow::Result<Vec<Event>> {
     let mut events = Vec::new(alloc);
     for number in 1..=workers {
@@ -63,7 +63,7 @@ fn as_jdk(alloc: Global, events: &[Event]) -> anyhow::Result<Vec<JdkEvent>> {
     Ok(history)
 }
 
-// A cached pool of so many workers: a worker finishes its job, and the next one is handed to it, again and again.
+// A cached pool of this many workers: a worker finishes its job, and gets the next one directly, again and again.
 fn handed(alloc: Global, workers: u64) -> anyhow::Result<Vec<JdkEvent>> {
     let mut events = Vec::new(alloc);
     for number in 1..=workers {

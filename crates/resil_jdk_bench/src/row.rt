@@ -78,7 +78,7 @@ impl<'a> Fields<'a> {
         }
     }
 
-    // An event of a job, of which the other fields are empty.
+    // An event of a job; its other fields are empty.
     fn of_job(&mut self) -> anyhow::Result<Id> {
         let id = self.id()?;
         self.skip(4)?;

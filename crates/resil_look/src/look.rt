@@ -19,13 +19,13 @@ use resil_simulate::command::{self, LoadView, Progress};
 use resil_view::{View, view_text};
 use std::alloc::Global;
 
-/// The greatest length of a history, in bytes: 16 mebibytes.
+/// The maximum length of a history, in bytes: 16 mebibytes.
 const MAX_HISTORY_LEN: usize = 16_777_216;
 
-/// The greatest length of a load, in bytes: 4 mebibytes.
+/// The maximum length of a load, in bytes: 4 mebibytes.
 const MAX_LOAD_LEN: usize = 4_194_304;
 
-/// What the arguments request.
+/// What the arguments ask for.
 #[derive(Clone, Copy, Debug, PartialEq, Eq)]
 pub(crate) enum Request {
     /// A view of a history.
@@ -34,7 +34,7 @@ pub(crate) enum Request {
     Simulate(LoadView),
 }
 
-/// What the arguments request. The first of them is the program's name.
+/// What the arguments ask for. The first of them is the program's name.
 pub(crate) fn requested(words: &[&str]) -> Option<Request>
     ensures { result ≡ requested (map (λ word. word.now) words.now) }
 {
@@ -47,7 +47,7 @@ pub(crate) fn requested(words: &[&str]) -> Option<Request>
     }
 }
 
-// What a word alone requests.
+// What a single word asks for.
 fn request_named(word: &str) -> Option<Request>
     ensures { result ≡ request_named word.now }
 {
@@ -58,7 +58,7 @@ fn request_named(word: &str) -> Option<Request>
     Some(Request::View(view))
 }
 
-/// The view that a word requests.
+/// The view that a word asks for.
 pub(crate) fn view_named(word: &str) -> Option<View>
     ensures { result ≡ view_named word.now }
 {
@@ -73,7 +73,7 @@ pub(crate) fn view_named(word: &str) -> Option<View>
     }
 }
 
-/// The greatest length of an input for this request, in bytes.
+/// The maximum length of an input for this request, in bytes.
 pub(crate) fn limit_of(request: Request) -> usize
     ensures { result ≡ limit_of request }
 {

@@ -1,4 +1,4 @@
-//! What `resil_look` reports on standard error of its arguments, and of an output by what they request.
+//! What `resil_look` reports on standard error about its arguments, and about an output by what they ask for.
 
 use crate::look::{Request, limit_of, requested, view_named};
 use resil_explain::{explain_input, say_commands, say_words};

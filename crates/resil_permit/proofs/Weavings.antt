@@ -92,7 +92,7 @@ not_both m step why can is = is
 none_stuck : (max : ℕ) (steps : List Step) (why : StepError) (place : ℕ) → CanMakeAll (start max) steps → IsFirstStuck max steps (λ m step. IsStuck m step why) place → ⊥
 none_stuck max steps why place all f = not_both (after_steps (start max) f.front) f.step why (can_make_there (start max) f.front f.step f.back (subst (CanMakeAll (start max)) f.parts all)) f.is_stuck
 
--- where all steps can be made, memory alone is wanting
+-- if all steps can be made, memory alone is wanting
 pub memory_alone : (max : ℕ) (steps : List Step) (e : WeaveError) → max ≤ 65535 → CanMakeAll (start max) steps → IsRefusedFor max steps e → e ≡ Memory
 memory_alone max steps Memory few all is = refl
 memory_alone max steps TooManyPermits few all is = absurd (omega arith)

@@ -132,7 +132,7 @@ pub each_begins : (callers : List CallerView) (taken : List LoggedEvent) (before
     → All (λ c. IsPrefix (events_in c.seen) history) callers
 each_begins callers taken before history all is grown k d h = events_begin (get_or callers k d).seen taken before history (all k d h) is grown
 
--- the submissions of each caller are still those on its receipts, where none came after those that were seen
+-- the submissions of each caller are still those on its receipts, if none came after those that were seen
 pub still_submissions : (taken : List LoggedEvent) (before history : List Event) (lists : List (List Receipt)) → AreSubmissions (events_in taken) lists → before ≡ events_in taken
     → ((caller : ℕ) → submissions history caller ≡ submissions before caller) → AreSubmissions history lists
 still_submissions taken before history lists all is same caller low high = same caller ∙ (ap (λ (es : List Event). submissions es caller) is ∙ all caller low high)

@@ -66,7 +66,7 @@ module _ (callers : ℕ) where
   pub resize_names : (old new : MachineView) (core max : ℕ) → AppendsToMachine None old (Resized core max) new → KeepsNames callers old new
   resize_names old new core max w = one_more_event old.history new.history (Resized core max) w.history tt
 
-  -- a turn keeps the names, where all that its seat may write does
+  -- a turn keeps the names, if all that its seat may write does
   seats_turn_names : (me : LockSeatState) (plan : Option PlanView) (machine : MachineView) → ((e : Event) → MayWrite me.0.key.callers me.0.number e → NamesCaller callers e) → IsTurn me plan machine → LeavesNames callers me machine
   seats_turn_names me plan machine names turn = ⊎_elim
       (λ (k : MatchesLog me.0.key.limits me.0.seen machine). subst (AllNameCallers callers) (sym k.history))

@@ -35,7 +35,7 @@ unrefused (Some run) none some = absurd none
 pub none_held : (ends : List EndView) → ¬ HasRefused ends
 none_held ends held = unrefused held.1.refused held.1.none held.4
 
--- the causes of each refusal, where no end holds a refused run
+-- the causes of each refusal, if no end holds a refused run
 pub stranger_causes : (S D R : Type 0) → (S ↔ ¬ D) → ¬ R → S ↔ ((true ≡ false) ⊎ R ⊎ ¬ D)
 stranger_causes S D R iff none = (
   λ s. inr (inr (iff.0 s)),

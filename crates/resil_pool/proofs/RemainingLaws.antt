@@ -159,7 +159,7 @@ is_result (job ∷ jobs) (x ∷ xs) row h kept = cases (is_same_id row.id job.id
     cases false is here rest = let r = rest here in (suc r.0, omega arith, r.2)
 is_result _ _ row h kept = absurd h
 
--- what a drain ran itself, where there is a report
+-- what a drain ran itself, if there is a report
 pub ran_where_ok : {P A E : Type 0} (Between : P → List Asked → P → Type 0) (first last : P) (old new : MachineView) (made : List Row) (history_of : A → List Event) (results_of : A → List Row) (r : Result A E)
     → Ran Between first old made last new → IsPrefix old.history new.history → IfOk r (λ x. history_of x ≡ new.history) → IfOk r (λ x. AreResultsOf new.jobs (results_of x))
     → IfOk r (λ x. (before : List Event) × (rows : List Row) × RanInDrain Between first last before rows (history_of x) (results_of x))

@@ -13,6 +13,6 @@ record_header = codes "event" ∷ codes "caller" ∷ codes "number" ∷ codes "r
 abbrev pub IsRecordBody : List ℕ → List TimedJdkEvent → Type 0
 IsRecordBody body history = IsBody record_header parse_row body history
 
--- why a body is no history in version 4
+-- why a body isn't a history in version 4
 abbrev pub IsRecordBodyError : List ℕ → BodyError → Type 0
 IsRecordBodyError body why = IsBodyError record_header parse_row body why

@@ -20,7 +20,7 @@ reply_name Extra = codes "extra"
 reply_name Full = codes "full"
 reply_name Closed = codes "closed"
 
--- the reply of which a field is the name
+-- the reply whose name a field is
 abbrev pub parse_reply : List ℕ → Option JdkReply
 parse_reply name =
     if is_same name (reply_name Core) then Some Core
@@ -54,7 +54,7 @@ switch_name false = codes "off"
 abbrev pub parse_switch : List ℕ → Option Bool
 parse_switch field = if is_same field (switch_name true) then Some true else if is_same field (switch_name false) then Some false else None
 
--- the event of which a field is the name, if it has no other field
+-- the event whose name a field is, if it has no other field
 abbrev pub parse_lone_event : List ℕ → Option JdkEvent
 parse_lone_event name =
     if is_same name (codes "idle") then Some IdleEnd

@@ -65,7 +65,7 @@ pub fn is_record(opened: &OpenBody<'_>) -> bool
 /// # Errors
 ///
 /// The first that is met: `Memory` when out of memory; `BadHeader` if the first record is missing or isn't the header; `BadRow` with
-/// the position, from 1, of the first record that is no event or has no time.
+/// the position, from 1, of the first record that isn't an event or has no time.
 pub fn read_rows(alloc: Global, body: &[u8]) -> Result<Vec<TimedJdkEvent>, BodyError>
     ensures { MatchResult result (λ history. IsRecordBody body.now history.items) (IsRecordBodyError body.now) }
 {

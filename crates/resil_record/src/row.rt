@@ -53,7 +53,7 @@ fn parse_id(fields: &ByteRecord) -> Option<Id>
     Some(Id { caller, number })
 }
 
-// Reads the sizes of a resize, each from 0 to 4,294,967,295, so that it is for the rule to refuse one.
+// Reads the sizes of a resize, each from 0 to 4,294,967,295. The rule may refuse them.
 fn parse_sizes(fields: &ByteRecord) -> Option<JdkEvent>
     ensures { result ≡ parse_sizes (fields_of fields.now) }
 {

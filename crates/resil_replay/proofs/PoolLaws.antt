@@ -153,11 +153,11 @@ refused-idle m out id plan admit.NotOut kept known refusal = rw (← out-running
 refused-idle m out id plan admit.OtherJob kept known refusal = absurd (refusal.3 (cc (refusal.2, known)))
 refused-idle m out id plan why kept known refusal = absurd refusal
 
--- where no job that is out has an id, none of this id runs
+-- if no job that is out has an id, none of this id runs
 pub idle-where-none : (m : MachineView) (out : List (Id × PlanView)) (id : Id) → ReplayPoolInvariant m out → is_among id (ids_in_flight out) ≡ false → is_among id (running m.history) ≡ false
 idle-where-none m out id kept none = false_from_ne_true _ (λ runs. both_ways _ none (kept.held id runs))
 
--- where no index of a job with an id is found, no job of that id is out
+-- if no index of a job with an id is found, no job of that id is out
 among-at : (id : Id) (out : List (Id × PlanView)) → is_among id (ids_in_flight out) ≡ nat_lt (position_or_len (λ job. is_same_id id job.0) out) (length out)
 among-at id [] = refl
 among-at id (job ∷ out) = grind (arith, among-at id out)

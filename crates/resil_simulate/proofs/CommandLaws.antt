@@ -44,7 +44,7 @@ lone [] d one = absurd (cc one)
 lone (pool ∷ []) d one = refl
 lone (pool ∷ other ∷ pools) d one = absurd (cc one)
 
--- where the head names one pool, a load is carried out on one
+-- if the head names one pool, a load is carried out on one
 one-pool : (plan : LoadPlan) (body : List ℕ) (arrivals : List Arrival) (own : Option Numbers) (pools : List Sizes) → length plan.pools ≡ 1 → AreArrivals body plan arrivals own pools → length pools ≡ 1
 one-pool plan body arrivals own pools one (inl are) = ap length are.5 ∙ length-map plan.pools _ ∙ one
 one-pool plan body arrivals own pools one (inr are) = ap length are.2.6 ∙ length-map plan.pools _ ∙ one

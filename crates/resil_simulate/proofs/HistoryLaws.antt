@@ -26,7 +26,7 @@ use Rattle.resil_simulate.specs.declared.history.Moment.{Moment}
 use Rattle.resil_simulate.specs.declared.history.Submitted.{Submitted}
 use Rattle.resil_simulate.proofs.LoadLaws.{load}
 
--- an event with its time, for what is never read
+-- an event with its time, for places that are never read
 abbrev pub no_timed : TimedJdkEvent
 no_timed = record { event = no_event; at = 0 }
 
@@ -66,7 +66,7 @@ times_kept moment h t times none are id small = are id small ∙ sym (time-more 
     go (Some x) None is = refl
     go None None is = refl
 
--- one number for an id and no other
+-- one number for each id
 key-same : (x y : Id) → x.number < 2 ^ 64 → y.number < 2 ^ 64 → (key x == key y) ≡ is_same_id y x
 key-same x y one other = grind (arith, common_steps, one, other)
 
@@ -124,7 +124,7 @@ module _ (whole : List TimedJdkEvent) (terms : Terms) (first : List JdkEvent) wh
   abbrev job_of : ℕ → TimedJdkEvent → Id → Arrival
   job_of p t id = arrival_by terms first (record { place = p; id = id; at = t.at; ran = ran_of whole id })
 
-  -- a job with its caller's next number behind those of the first events, which events begin with
+  -- a job with its caller's next number after those of the first events, with which events begin
   abbrev IsNumbered : List JdkEvent → List Arrival → ℕ → Arrival → Type 0
   IsNumbered before jobs k a = a.id.number + length (submissions first a.id.caller) ≡ suc (length (submissions before a.id.caller) + length (of_caller a.id.caller (take k jobs)))
 
@@ -160,7 +160,7 @@ module _ (whole : List TimedJdkEvent) (terms : Terms) (first : List JdkEvent) wh
           let one-here = rw (own.1 a.id.caller) at more in
           rw same (grind (arith, common_steps, then, one-here))
 
-  -- none comes before what all events are behind
+  -- no event comes before a time that all events are after
   behind-jobs : (bound p : ℕ) (h : List TimedJdkEvent) → AreBehind bound (times_in h) → AreBehind bound (times_of (jobs_from p h))
   behind-jobs bound p [] behind = tt
   behind-jobs bound p (t ∷ h) behind = go (behind-jobs bound (p + 1) h behind.1) (submitted_id t.event) refl
@@ -177,7 +177,7 @@ module _ (whole : List TimedJdkEvent) (terms : Terms) (first : List JdkEvent) wh
       go later None none = rw none later
       go later (Some id) some = rw some (ascending-from t.at (times_of (jobs_from (p + 1) h)) (behind-jobs t.at (p + 1) h (behind-first t.at (times_in h) ascending)) later)
 
--- behind the first events
+-- after the first events
 allowed-drop : (limits : Sizes) (before : List JdkEvent) (k : ℕ) (h : List TimedJdkEvent) → AreAllowedAfter limits before (events_in h) → AreAllowedAfter limits (before ++ take k (events_in h)) (events_in (drop k h))
 allowed-drop limits before zero h legal = rw append-nil legal
 allowed-drop limits before (suc k) [] legal = tt
@@ -198,9 +198,9 @@ history_load limits ways terms h legal ascending in_time =
     (λ k a is. omega (arith, numbered h terms first limits first (suc terms.made) rest (λ caller. omega arith) (allowed-drop limits [] terms.made h legal) k a is))
     in_time
 
--- ---- One event of a slice behind others.
+-- One event of a slice after others.
 
--- the submissions behind the first events, with one more event
+-- the submissions after the first events, with one more event
 module _ (history rest : List TimedJdkEvent) (restated i : ℕ) (lt : i < length rest) where
   abbrev made_to : ℕ → List Submitted
   made_to k = filter_map (submitted_at history) (enumerate_from (suc restated) (take k rest))

@@ -21,7 +21,7 @@ same-resizes [] = refl
 same-resizes (Resized core max ∷ h) = omega (arith, same-resizes h)
 same-resizes (e ∷ h) = same-resizes h
 
--- what is no more at the opening is no more later
+-- a size that is no more at the opening is no more later
 last-le : (a b : ℕ) (sizes : List ℕ) → a ≤ b → last_size a sizes ≤ last_size b sizes
 last-le a b [] le = le
 last-le a b (s ∷ sizes) le = omega arith
@@ -30,13 +30,13 @@ last-le a b (s ∷ sizes) le = omega arith
 abbrev sizes_after : Sizes → List JdkEvent → Sizes
 sizes_after limits h = record { core = core_size limits h; max = max_size limits h; queue = limits.queue }
 
--- a size of which one more worker is asked for has place for it where a greater one has
+-- if one more worker is needed, a size that is large enough has room for it whenever a greater size has
 opened : (h : List JdkEvent) (sizes : List ℕ) → length sizes ≡ length (filter_map new_core h) → (less more : ℕ) → one_more h ≤ less → workers h < last_size more sizes
     → workers h < last_size less sizes
 opened h [] same less more enough lt = let none = rw (sym same) at enough in omega (arith, none)
 opened h (s ∷ sizes) same less more enough lt = lt
 
--- a size that has place for one more worker is what is asked for
+-- a size that has room for one more worker is as large as is needed
 asks : (h : List JdkEvent) (sizes : List ℕ) → length sizes ≡ length (filter_map new_core h) → (size : ℕ) → workers h < last_size size sizes → one_more h ≤ size
 asks h [] same size lt = rw (sym same) (omega (arith, lt))
 asks h (s ∷ sizes) same size lt = grind (arith, common_steps, same)
@@ -65,7 +65,7 @@ module _ (workers waiting running : ℕ) where
       if closed then Closed else if nat_lt workers sizes.core then Core else if nat_lt waiting sizes.queue then (if workers == 0 then First else Queued)
       else if hands sizes then Handed else if nat_lt workers sizes.max then Extra else Full
 
-  -- what an answer asks of the sizes
+  -- what an answer needs of the sizes
   abbrev Serves : JdkReply → Sizes → Type 0
   Serves Core sizes = workers < sizes.core
   Serves First sizes = waiting < sizes.queue
@@ -83,7 +83,7 @@ module _ (workers waiting running : ℕ) where
   no-hand_place : (sizes : Sizes) → hands sizes ≡ false → running < workers → 1 ≤ sizes.queue
   no-hand_place sizes none idle = let is = is-below running workers idle in grind (arith, common_steps, none, is)
 
-  -- the answer that sizes give asks no more of them
+  -- the answer that sizes give needs no more than they have
   told : (closed : Bool) (sizes : Sizes) → Serves (reply_by closed sizes) sizes
   told true sizes = tt
   told false sizes = elim (cases_Bool (nat_lt workers sizes.core)) [
@@ -121,7 +121,7 @@ module _ (workers waiting running : ℕ) where
       ])
     ]
 
--- ---- What a legal history asks for.
+-- What a legal history needs.
 
 module _ (limits : Sizes) (h : List JdkEvent) (legal : IsLegal limits h) where
   -- as many jobs wait as were queued and haven't left
@@ -131,7 +131,7 @@ module _ (limits : Sizes) (h : List JdkEvent) (legal : IsLegal limits h) where
       let parts = length-append (left h) (waiting h) in
       omega (arith, same, parts)
 
-  -- a place is asked for where a worker is idle, and only there
+  -- a place is needed if a worker is idle, and only then
   idle-asks : length (running h) < workers h → no_hand_off h ≡ 1
   idle-asks idle =
       let many = as-many limits h legal in
@@ -153,7 +153,7 @@ module _ (limits : Sizes) (h : List JdkEvent) (legal : IsLegal limits h) where
   served-after : (reply : JdkReply) → reply ≡ reply_after limits h → ServesAfter reply (sizes_after limits h)
   served-after reply is = subst (λ r. ServesAfter r (sizes_after limits h)) (sym is) (told (workers h) (length (waiting h)) (length (running h)) (is_closed h) (sizes_after limits h))
 
-  -- what is asked for is no more than the sizes of a pool that has the event
+  -- the sizes that an event needs are no more than those of a pool that has the event
   pub asked_enough : AreJdkLimits limits → (e : JdkEvent) → IsAllowed limits h e → AreEnough (asked_at h e) limits
   asked_enough are (Submit id Core) allowed = (asks h (filter_map new_core h) refl limits.core (served-after Core allowed.1), are.max.0, omega arith)
   asked_enough are (Submit id First) allowed = (omega arith, are.max.0, omega (arith, in-line, served-after First allowed.1))
@@ -235,7 +235,7 @@ allowed_at limits events i d lt legal =
     let cut : events ≡ take i events ++ get_or events i d ∷ drop (i + 1) events = sym (take-append-drop i events) ∙ ap (λ (l : List JdkEvent). take i events ++ l) (drop_more events i d lt) in
     parts-legal limits [] (take i events) (get_or events i d) (drop (i + 1) events) (subst (IsLegal limits) cut legal)
 
--- what is asked for by one more event
+-- what one more event needs
 pub asked_grown : (before h : List JdkEvent) (e : JdkEvent) (less more : Asked) → less.core ≤ more.core → less.max ≤ more.max → less.queue ≤ more.queue
     → (asked_at (before ++ h) e).core ≤ more.core → (asked_at (before ++ h) e).max ≤ more.max → (asked_at (before ++ h) e).queue ≤ more.queue
     → IsAsked before h less → IsAsked before (h ++ e ∷ []) more

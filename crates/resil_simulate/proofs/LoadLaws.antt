@@ -1,10 +1,10 @@
--- The jobs of rows are a load, where times ascend and each job is in time.
+-- The jobs of rows are a load if times ascend and each job is in time.
 use Rattle.resil_simulate.proofs.Words.{◌≡◌, ◌<◌, ◌+◌, ◌∷◌, [], ◌++◌, ◌∙◌, ℕ, zero, suc, List, Some, get_or, length, map, slice_get, slice_index, take, refl, ap, sym, add-one, arith, common_steps, map_push, map-append, max, take_more, sum-map, sum_by_more, get_or_from_slice_get, slice_get_within, AreAscending, IsLoad, earliest_ends_of, latest, of_caller, runs_of, times_of, Arrival, Row, AreInTime, arrival_at, arrivals_of, end_of, Ways, ◌*◌}
 use Rattle.std.specs.List.{enumerate_from, sum}
 use Rattle.resil_stats.proofs.PlaceLaws.{placed-push}
 use Rattle.resil_virtual.proofs.LoadLaws.{latest-push}
 
--- a job, for what is never read
+-- a job, for places that are never read
 abbrev pub no_job : Arrival
 no_job = record { id = record { caller = 0; number = 0 }; at = 0; takes = 0; earliest_end = 0 }
 

@@ -46,7 +46,7 @@ area-within events times less more within (suc i) =
     let next = mul-le-mul_right (slice_index times (suc i) - slice_index times i) (within (suc i)) in
     omega (arith, before, next)
 
--- ---- Of a legal history.
+-- A legal history.
 
 module _ (events : List JdkEvent) (times : List ℕ) (has : HasTimes events times) (fits : (k : ℕ) → Fits w64 (slice_index times k)) where
   before : (k : ℕ) → IsLegal has.legal.0 (take k events)
@@ -55,7 +55,7 @@ module _ (events : List JdkEvent) (times : List ℕ) (has : HasTimes events time
   workers-few : (k : ℕ) → workers (take k events) ≤ 536870911
   workers-few k = let few = workers-within_opening has.legal.0 (take k events) has.legal.1 (before k) in omega (arith, few, has.legal.1.max)
 
-  -- no more ran than was there, which is small
+  -- no more ran than workers existed, which is a small number
   areas-small : (i : ℕ) → i < length events → (area running_count events times i ≤ area workers events times i) × (area workers events times i < 2 ^ 93)
   areas-small i lt =
       let small = area-small events times workers workers-few has.ascending i (omega (arith, lt, has.same)) in

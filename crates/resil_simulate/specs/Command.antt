@@ -27,7 +27,7 @@ use Rattle.resil_simulate.specs.declared.rows.Row.{Row}
 
 -- ---- The pools.
 
--- A recorder writes the maximum size that there is into a head, and a resize before all else: its pool begins with the sizes of that.
+-- A recorder may write the largest possible maximum size into a head, and a resize before all else: its pool begins with the sizes of that.
 abbrev pub resized_sizes : Sizes → JdkEvent → Sizes
 resized_sizes sizes (Resized core max) = let own : Sizes = record { core = core; max = max; queue = sizes.queue } in if is_pool own then own else sizes
 resized_sizes sizes event = sizes
@@ -39,11 +39,11 @@ first_sizes sizes (timed ∷ history) = resized_sizes sizes timed.event
 abbrev pub own_sizes : Bool → List TimedJdkEvent → Sizes → Sizes
 own_sizes is_one history sizes = if is_one && (sizes.max == 536870911) then first_sizes sizes history else sizes
 
--- the pools that a load is carried out on: those that the head names, or that of the recorder that wrote the one that it names
+-- the pools that a load is carried out on: those that the head names, or that of the recorder that wrote the pool that it names
 abbrev pub pools_of : List Sizes → List TimedJdkEvent → List Sizes
 pools_of pools history = map (own_sizes (length pools == 1) history) pools
 
--- a pool of sizes whose workers end and wake so
+-- a pool of sizes whose workers end and wake in this way
 abbrev pub pool_of : Sizes → Ways → VirtualPool
 pool_of sizes ways = record { limits = sizes; time_out = ways.time_out; idle_for = ways.idle_for; wakes = ways.wakes }
 
@@ -60,7 +60,7 @@ AreArrivals body plan arrivals own pools =
     ((rows : List Row) × IsLoadBody body rows × (arrivals ≡ arrivals_of rows) × (own ≡ None) × IsLoad plan.ways.idle_for plan.ways.wakes arrivals × (pools ≡ pools_of plan.pools []))
     ⊎ ((history : List TimedJdkEvent) × IsHistoryBody body history × IsLoadOf history plan arrivals own pools)
 
--- what a load comes to in a pool: the numbers of its history there
+-- the result of a load in a pool: the numbers of its history there
 abbrev pub IsPoolRun : Ways → List Arrival → Sizes → Numbers → Type 0
 IsPoolRun ways arrivals sizes numbers = (history : List TimedJdkEvent) × IsSimulated (pool_of sizes ways) arrivals history × AreNumbersOf 0 (events_in history) (times_in history) numbers
 
@@ -69,7 +69,7 @@ abbrev pub AreShown : LoadView → ℕ → Type 0
 AreShown load_view.Numbers pools = ⊤
 AreShown load_view.History pools = pools ≡ 1
 
--- the head of an input says this, its pools can be shown, and its body has these jobs, of which this really happened, for these pools
+-- the head of an input says this, its pools can be shown, and its body has these jobs, for these pools; this is what really happened
 abbrev pub IsRead : LoadView → List ℕ → LoadPlan → List Arrival → Option Numbers → List Sizes → Type 0
 IsRead shown input plan arrivals own pools = (body : List ℕ) × SplitsInto load_head_of input plan body × AreShown shown (length plan.pools) × AreArrivals body plan arrivals own pools
 
@@ -106,11 +106,11 @@ IsArrivalsRefusal body plan why = ⊥
 abbrev pub IsHeadRefusal : List ℕ → Refusal → Type 0
 IsHeadRefusal input why = IsPartRefusal load_head_of (λ _ _. ⊥) input why
 
--- why a body is refused whose head can be read, and whose pools can be shown
+-- why a body is refused if its head can be read and its pools can be shown
 abbrev pub IsRestRefusal : LoadView → List ℕ → Refusal → Type 0
 IsRestRefusal shown input why = (plan : LoadPlan) × (body : List ℕ) × SplitsInto load_head_of input plan body × AreShown shown (length plan.pools) × IsArrivalsRefusal body plan why
 
--- Why there is no text, in this order: the head can't be read; its pools can't be shown; and, only where they can, the body has no jobs.
+-- Why there is no text, in this order: the head can't be read; its pools can't be shown; and, only if they can, the body has no jobs.
 abbrev pub IsSimulateRefusal : LoadView → List ℕ → Refusal → Type 0
 IsSimulateRefusal shown input refusal.NoBody = IsHeadRefusal input refusal.NoBody
 IsSimulateRefusal shown input (refusal.Head why) = IsHeadRefusal input (refusal.Head why) ⊎ IsRestRefusal shown input (refusal.Head why)

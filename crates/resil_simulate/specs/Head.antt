@@ -29,7 +29,7 @@ load_keys = record {
   required = required_sizes;
 }
 
--- the items of an array, or the one value that is none
+-- the items of an array, or the one value that isn't an array
 abbrev pub listed : Data → List Data
 listed value = option_map_or items_listed (as_array value) (value ∷ [])
 
@@ -41,7 +41,7 @@ parse_counts value = and_then (each parse_count (listed value)) (λ counts. if i
 abbrev pub check_each : ℕ → ℕ → AdmitError → List ℕ → Result (Unit {0}) HeadError
 check_each least greatest why sizes = if list_all (is_within least greatest) sizes then Ok tt else Err (error.Limits why)
 
--- all combinations, the queue quickest, then the maximum size
+-- all combinations, with the queue varying fastest, then the maximum size
 abbrev pub with_queues : List ℕ → ℕ → ℕ → List Sizes
 with_queues queues core max = map (λ queue. record { core = core; max = max; queue = queue }) queues
 
@@ -64,11 +64,11 @@ pools_from cores maxes queues =
     let pools : List Sizes = filter is_pool (combinations cores maxes queues) in
     if length pools == 0 then Err (error.Limits refused.MaxOutOfRange) else Ok pools)))
 
--- for how many microseconds a job runs that has no finish, where the head says it
+-- for how many microseconds a job without a finish runs, if the head says it
 abbrev pub parse_takes : Members → Result (Option ℕ) HeadError
 parse_takes head = parse_at (λ value. and_then (parse_count value) (λ us. Ok (Some us))) None (codes "takes") head
 
--- microseconds at a key, up to the most; the default where it is absent
+-- microseconds at a key, up to the most; the default if it is absent
 abbrev pub micros_at : List ℕ → ℕ → ℕ → Members → Result ℕ HeadError
 micros_at key default most head = and_then (parse_at parse_wait default key head) (λ us. if nat_le us most then Ok us else Err error.BadValue)
 
@@ -90,7 +90,7 @@ unfinished_named name = if is_same name (codes "run") then Some Run else if is_s
 abbrev pub parse_unfinished : Members → Result Unfinished HeadError
 parse_unfinished head = parse_at (parse_named unfinished_named) Run (codes "unfinished") head
 
--- how the jobs of a history are taken; what else a recorder writes may be anything
+-- how the jobs of a history are taken; everything else that a recorder writes may be anything
 abbrev pub parse_terms : Members → Result Terms HeadError
 parse_terms head =
     and_then (parse_takes head) (λ takes.

@@ -1,4 +1,4 @@
--- The jobs that a history has: its submissions, with replies of every kind, each with how long it ran there.
+-- The jobs of a history: its submissions, with replies of every kind, each with how long it ran there.
 use Rattle.std.specs.Prelude.{ℕ, suc, ◌≡◌, ◌<◌, ◌-◌, ◌+◌, ◌*◌, ◌^◌, Bool, false, List, Option, Some, None, drop, find, is_none, length, map, option_map, unwrap_or}
 use Rattle.std.specs.BTreeMap.{BTreeMap, get}
 use Rattle.std.specs.List.{enumerate_from, filter_map}
@@ -36,7 +36,7 @@ job_at Finish event = finished_id event
 abbrev pub is_of : Moment → Id → TimedJdkEvent → Bool
 is_of moment id timed = option_map_or (is_same_id id) (job_at moment timed.event) false
 
--- when a job starts, or is finished, for the first time; none where it never does
+-- when a job starts, or is finished, for the first time; none if it never does
 abbrev pub time_of : Moment → List TimedJdkEvent → Id → Option ℕ
 time_of moment history id = option_map (λ timed. timed.at) (find (is_of moment id) history)
 
@@ -49,7 +49,7 @@ abbrev pub ran_from : ℕ → Option ℕ → ℕ → Ran
 ran_from start (Some finish) last = Whole (finish - start)
 ran_from start None last = Cut (last - start) last
 
--- how long a job ran: from its start to its finish, or to the last event where it has no finish
+-- how long a job ran: from its start to its finish, or to the last event if it has no finish
 abbrev pub ran_of : List TimedJdkEvent → Id → Ran
 ran_of history id = option_map_or (λ start. ran_from start (time_of Finish history id) (last_at history)) (time_of Start history id) Never
 
@@ -62,13 +62,13 @@ abbrev pub submitted_at : List TimedJdkEvent → ℕ × TimedJdkEvent → Option
 submitted_at history placed =
     option_map (λ id. record { place = placed.0; id = id; at = placed.1.at; ran = ran_of history id }) (submitted_id placed.1.event)
 
--- The submissions of a history, in order. The first events restate the state in which it begins: what they submit is left out.
+-- The submissions of a history, in order. The first events restate the state in which it begins: their submissions are left out.
 abbrev pub submissions_in : ℕ → List TimedJdkEvent → List Submitted
 submissions_in restated history = filter_map (submitted_at history) (enumerate_from (suc restated) (drop restated history))
 
 -- ---- How long they run in another pool.
 
--- how long a job runs by what the head says of those that weren't finished, or never started; none where it doesn't say
+-- how long a job runs by what the head says of those that weren't finished, or never started; none if it doesn't say
 abbrev pub cut_by : Unfinished → ℕ → Option ℕ → Option ℕ
 cut_by Run us takes = Some us
 cut_by Takes us takes = takes
@@ -78,7 +78,8 @@ run_by terms (Whole us) = Some us
 run_by terms (Cut us until) = cut_by terms.unfinished us terms.takes
 run_by terms Never = terms.takes
 
--- The earliest moment at which the run of a job may end: the last event of the history, where it goes on as it did up to that; else there is none.
+-- The earliest moment at which the run of a job may end: the last event of the history, if the job runs on as it did up to then; else there
+-- is none.
 abbrev pub held_by : Unfinished → ℕ → ℕ
 held_by Run until = until
 held_by Takes until = 0
@@ -87,11 +88,11 @@ abbrev pub earliest_end_by : Terms → Ran → ℕ
 earliest_end_by terms (Cut us until) = held_by terms.unfinished until
 earliest_end_by terms ran = 0
 
--- the place of the first one of which nothing says how long it runs
+-- the place of the first submission without any statement of how long it runs
 abbrev pub first_without : Terms → List Submitted → Option ℕ
 first_without terms jobs = option_map (λ job. job.place) (find (λ job. is_none (run_by terms job.ran)) jobs)
 
--- the id of a submission behind those that are left out: its caller's numbers begin at 1 there
+-- the id of a submission after those that are left out: its caller's numbers begin at 1 there
 abbrev pub renumbered : List JdkEvent → Id → Id
 renumbered restated id = record { caller = id.caller; number = id.number - length (submissions restated id.caller) }
 

@@ -1,4 +1,4 @@
--- Which histories are legal in some pool of the JDK, whatever its sizes, and the least sizes that one takes.
+-- Which histories are legal in some pool of the JDK, of any sizes, and the least sizes that such a pool has.
 use Rattle.std.specs.Prelude.{ℕ, suc, ◌≡◌, ◌≤◌, ◌<◌, ◌+◌, ◌-◌, ◌^◌, ◌==◌, ◌++◌, ◌∷◌, [], Bool, not, List, if◌then◌else◌, filter, filter_map, length, nat_lt, take}
 use Rattle.resil_rule.specs.Limits.{Sizes}
 use Rattle.resil_jdk.specs.Admission.{IsLegal}
@@ -14,7 +14,7 @@ use Rattle.resil_simulate.specs.declared.legality.Tally.{Tally}
 abbrev pub IsLegalSomewhere : List JdkEvent → Type 0
 IsLegalSomewhere history = (limits : Sizes) × AreJdkLimits limits × IsLegal limits history
 
--- The first event up to which a history is legal in no pool stands at this position, from 1.
+-- This is the position, from 1, of the first event up to which a history is legal in no pool.
 pub record IsIllegalAt (history : List JdkEvent) (position : ℕ) : Type 0 where
   pub within : (1 ≤ position) × (position ≤ length history)
   pub before : IsLegalSomewhere (take (position - 1) history)
@@ -37,7 +37,7 @@ pub record AreTallied (history : List JdkEvent) (tally : Tally) : Type 0 where
 abbrev pub is_resized : List JdkEvent → Bool
 is_resized history = not (length (filter_map new_core history) == 0)
 
--- one more worker than there are, of the sizes at the opening, 0 where the sizes are those of a resize
+-- one more worker than there are, of the sizes at the opening, 0 if the sizes are those of a resize
 abbrev pub one_more : List JdkEvent → ℕ
 one_more before = if is_resized before then 0 else suc (workers before)
 
@@ -45,12 +45,12 @@ one_more before = if is_resized before then 0 else suc (workers before)
 abbrev pub one_place : List JdkEvent → ℕ
 one_place before = suc (length (queued before) - length (left before))
 
--- a place where a worker is idle, who without a queue would be handed the job
+-- a place if a worker is idle, because without a queue the worker would get the job
 abbrev pub no_hand_off : List JdkEvent → ℕ
 no_hand_off before =
     if nat_lt (length (run_at_once before) + length (taken before) + length (filter is_end before)) (length (finished before) + length (filter is_begin before)) then 1 else 0
 
--- what an event behind others asks of the sizes of the opening: each is at least so large
+-- the least sizes at the opening that an event after others needs: each is at least as large
 abbrev pub asked_at : List JdkEvent → JdkEvent → Asked
 asked_at before (Submit id Core) = record { core = one_more before; max = 1; queue = 0 }
 asked_at before (Submit id First) = record { core = 0; max = 1; queue = one_place before }
@@ -61,11 +61,11 @@ asked_at before Start = record { core = one_more before; max = 1; queue = 0 }
 asked_at before (Resized core max) = record { core = 0; max = max; queue = 0 }
 asked_at before _ = record { core = 0; max = 1; queue = 0 }
 
--- sizes that are so large
+-- sizes that are at least as large
 abbrev pub AreEnough : Asked → Sizes → Type 0
 AreEnough least sizes = (least.core ≤ sizes.core) × (least.max ≤ sizes.max) × (least.queue ≤ sizes.queue)
 
--- what each of some events asks for behind those before it is at most this
+-- what each of some events needs after those before it is at most this
 abbrev pub IsAsked : List JdkEvent → List JdkEvent → Asked → Type 0
 IsAsked before [] most = Unit {0}
 IsAsked before (event ∷ events) most =

@@ -1,4 +1,4 @@
--- The jobs of a load, by the rows of its body or by a history, and why they are none.
+-- The jobs of a load, by the rows of its body or by a history, and why there are none.
 use Rattle.std.specs.Prelude.{ℕ, suc, ◌≡◌, ◌≤◌, ◌<◌, ◌+◌, ◌-◌, ◌*◌, ◌^◌, List, Some, None, length, map, max, slice_get, slice_index, sum, take}
 use Rattle.std.specs.List.{enumerate_from}
 use Rattle.resil_rule.specs.Timed.{AreAscending, GoesBackAt}
@@ -35,19 +35,19 @@ end_of ways arrivals index =
 abbrev pub AreInTime : Ways → List Arrival → Type 0
 AreInTime ways arrivals = (k : ℕ) → k < length arrivals → end_of ways arrivals k < 2 ^ 64
 
--- The first job for which it isn't stands at this position, from 1.
+-- This is the position, from 1, of the first job for which it isn't.
 pub record IsTooLateAt (ways : Ways) (arrivals : List Arrival) (position : ℕ) : Type 0 where
   pub within : (1 ≤ position) × (position ≤ length arrivals)
   pub late : 2 ^ 64 ≤ end_of ways arrivals (position - 1)
   pub first : (k : ℕ) → k + 1 < position → end_of ways arrivals k < 2 ^ 64
 
--- why the jobs of rows are no load: a time is below the one before; or none is, and a job comes too late
+-- why the jobs of rows aren't a load: a time is below the one before; or none is, and a job comes too late
 abbrev pub IsLoadRefusal : Ways → List Arrival → Refusal → Type 0
 IsLoadRefusal ways arrivals (refusal.Load position TimeGoesBack) = GoesBackAt (times_of arrivals) position
 IsLoadRefusal ways arrivals (refusal.Load position TimeTooLate) = AreAscending (times_of arrivals) × IsTooLateAt ways arrivals position
 IsLoadRefusal ways arrivals why = ⊥
 
--- ---- Of a history.
+-- Histories.
 
 -- the events that restate the state in which a history begins
 abbrev pub restated_in : ℕ → List TimedJdkEvent → List JdkEvent
@@ -74,13 +74,13 @@ IsHistoryRefusal terms history (refusal.Load position TimeGoesBack) =
     (terms.made ≤ length history) × (first_without terms (submissions_in terms.made history) ≡ None) × IsLegalSomewhere (events_in history) × GoesBackAt (times_in history) position
 IsHistoryRefusal terms history why = ⊥
 
--- why the jobs of submissions are no load: one comes too late, whose submission stands at the position
+-- why the jobs of submissions aren't a load: one comes too late, and its submission is at this position
 abbrev pub IsLateRefusal : Ways → List Arrival → List Submitted → Refusal → Type 0
 IsLateRefusal ways arrivals jobs (refusal.Load position TimeTooLate) =
     (job : ℕ) × IsTooLateAt ways arrivals job × (slice_get (map (λ submission. submission.place) jobs) (job - 1) ≡ Some position)
 IsLateRefusal ways arrivals jobs why = ⊥
 
--- why its jobs are no load: it can't be carried out; or it can, and a job comes too late
+-- why its jobs aren't a load: it can't be carried out; or it can, and a job comes too late
 abbrev pub IsHistoryLoadRefusal : Ways → Terms → List TimedJdkEvent → Refusal → Type 0
 IsHistoryLoadRefusal ways terms history (refusal.Load position TimeTooLate) =
     IsUsable terms history × IsLateRefusal ways (jobs_in terms history) (submissions_in terms.made history) (refusal.Load position TimeTooLate)

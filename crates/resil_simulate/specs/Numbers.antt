@@ -26,30 +26,30 @@ abbrev pub is_finish : JdkEvent → Bool
 is_finish (Finish id) = true
 is_finish _ = false
 
--- A number over the time up to the event at an index: what it is after each event before that one, times the time to the next event.
+-- A number over the time up to the event at an index: its value after each event before that one, times the time to the next event.
 abbrev pub area : (List JdkEvent → ℕ) → List JdkEvent → List ℕ → ℕ → ℕ
 area number history times zero = 0
 area number history times (suc index) =
     area number history times index + number (take (suc index) history) * (slice_index times (suc index) - slice_index times index)
 
--- the same up to the last finish among as many first events, 0 where there is none
+-- the same up to the last finish among this many first events, 0 if there is none
 abbrev pub to_finish : (List JdkEvent → ℕ) → List JdkEvent → List ℕ → ℕ → ℕ
 to_finish number history times zero = 0
 to_finish number history times (suc count) =
     if option_map_or is_finish (slice_get history count) false then area number history times count else to_finish number history times count
 
--- the jobs that run, and the workers that there are, over the time up to the last finish
+-- the running jobs and the workers over the time up to the last finish
 abbrev pub run_time : List JdkEvent → List ℕ → ℕ
 run_time history times = to_finish running_count history times (length history)
 
 abbrev pub worker_time : List JdkEvent → List ℕ → ℕ
 worker_time history times = to_finish workers history times (length history)
 
--- the thousandths of the workers' time in which they run jobs, rounded down; none where they have no time
+-- the thousandths of the workers' time in which they run jobs, rounded down; none if they have no time
 abbrev pub busy : List JdkEvent → List ℕ → Option ℕ
 busy history times = if worker_time history times == 0 then None else Some (run_time history times * 1000 / worker_time history times)
 
--- The numbers of a history. What is submitted by its first events, which restate a state, counts in no submission, refusal or wait.
+-- The numbers of a history. The first events restate a state, and their submissions don't count in any submission, refusal or wait.
 pub record AreNumbersOf (restated : ℕ) (history : List JdkEvent) (times : List ℕ) (numbers : Numbers) : Type 0 where
   pub submitted : numbers.submitted ≡ length (filter is_submit (drop restated history))
   pub refused : numbers.refused ≡ length (filter is_full (drop restated history))

@@ -1,4 +1,4 @@
--- The bodies of `simulate`: of a load, which says when each job comes and how long it runs, or of a history with times.
+-- The bodies of `simulate`: a load, which says when each job comes and how long it runs, or a history with times.
 use Rattle.std.specs.Prelude.{ℕ, ◌≡◌, ◌⊎◌, ◌^◌, ◌∷◌, [], List, Option, codes, get_or, option_and_then, option_map, ⊤}
 use Rattle.resil_input.specs.CsvRows.{IsBody, IsBodyError}
 use Rattle.resil_input.specs.Number.{parse_from_zero}
@@ -41,7 +41,8 @@ abbrev pub AreRows : List ℕ → Rows → Type 0
 AreRows body (Load rows) = IsLoadBody body rows.items
 AreRows body (History history) = IsHistoryBody body history.items
 
--- why a body has neither rows nor a history: memory ran out; its first record is no header of them; or a record under one is no row of it
+-- why a body has neither rows nor a history: it is out of memory; its first record is no header of them; or a record after a header isn't a
+-- row of it
 abbrev pub IsBodyRefused : List ℕ → BodyError → Type 0
 IsBodyRefused body error.Memory = ⊤
 IsBodyRefused body error.BadHeader = IsLoadBodyError body error.BadHeader × IsBodyError timed_header parse_timed body error.BadHeader × IsRecordBodyError body error.BadHeader

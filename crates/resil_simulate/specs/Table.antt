@@ -31,6 +31,6 @@ size_text sizes = join_with_byte comma (size_fields sizes)
 abbrev pub pool_fields : Option Sizes → Numbers → List (List ℕ)
 pool_fields sizes numbers = size_fields sizes ++ number_fields numbers
 
--- the header, then a record of what really happened where that is known, then one for each pool, in order
+-- the header, then a record of what really happened if that is known, then one for each pool, in order
 abbrev pub pools_text : Option Numbers → List (Sizes × Numbers) → List ℕ
 pools_text own pools = table_text (pools_header ∷ (map (pool_fields None) (option_to_list own) ++ map (λ pool. pool_fields (Some pool.0) pool.1) pools))

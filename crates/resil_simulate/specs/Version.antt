@@ -1,4 +1,4 @@
--- In which version the history that a load comes to is written.
+-- The version in which the history of a load is written.
 use Rattle.std.specs.Prelude.{ℕ, ◌&&◌, ◌||◌, Bool, not, List, Option, Some, None, if◌then◌else◌, nat_le, option_map}
 use Rattle.std.specs.List.{filter_map}
 use Rattle.resil_rule.specs.Limits.{Sizes}
@@ -16,7 +16,8 @@ use Rattle.resil_record.specs.Text.{record_text}
 use Rattle.resil_replay.specs.Timed.{timed_text}
 use Rattle.resil_simulate.specs.declared.head.Ways.{Ways}
 
--- the reply in the words of version 3, which has none for a job that is handed over, or queued with a worker that begins without a job
+-- the reply in the words of version 3, which has none for a job that goes directly to an idle worker, or is queued with a worker that
+-- begins without a job
 abbrev pub own_reply : JdkReply → Option Reply
 own_reply Core = Some reply.Core
 own_reply Queued = Some reply.Queued
@@ -38,7 +39,7 @@ own_event _ = None
 abbrev pub own_timed : TimedJdkEvent → Option Timed
 own_timed timed = option_map (λ own. record { event = own; at = timed.at }) (own_event timed.event)
 
--- the events that version 3 has words for; in a pool of its sizes that is each
+-- the events that version 3 has words for: all of them, in a pool of its sizes
 abbrev pub in_own_words : List TimedJdkEvent → List Timed
 in_own_words history = filter_map own_timed history
 
@@ -46,6 +47,6 @@ in_own_words history = filter_map own_timed history
 abbrev pub has_own_sizes : Sizes → Bool
 has_own_sizes sizes = nat_le 1 sizes.core && nat_le sizes.max 64 && nat_le 1 sizes.queue && nat_le sizes.queue 65536
 
--- version 4 where version 3 has no words for the pool, or core workers time out
+-- version 4 if version 3 has no words for the pool, or core workers time out
 abbrev pub version_text : Sizes → Ways → List TimedJdkEvent → List ℕ
 version_text sizes ways history = if ways.time_out || not (has_own_sizes sizes) then record_text history else timed_text (in_own_words history)

@@ -1,4 +1,4 @@
-//! `simulate`: what is read of an input, and the text of what its load comes to: the numbers of each pool, or the history of one.
+//! `simulate`: reads an input, and makes the text of what its load comes to: the numbers of each pool, or the history of one.
 
 ghost use Rattle.std.specs.Prelude.{◌≡◌, ◌↔◌, All, IfOk, IsTrue, MatchResult, length, map};
 ghost use Rattle.resil_heads.specs.CommandError.{IsError};
@@ -20,13 +20,13 @@ use resil_jdk::{JdkEvent, JdkLimits, TimedJdkEvent};
 use resil_virtual::{Arrival, VirtualPool, simulate};
 use std::alloc::{AllocError, Global};
 
-/// Who is told how far a command is.
+/// What learns how far a command is.
 pub trait Progress {
-    /// So many of the pools are done.
+    /// This many of the pools are done.
     fn done(&mut self, count: usize, of: usize);
 }
 
-/// Nobody is told.
+/// Nobody learns it.
 #[derive(Clone, Copy)]
 pub struct Untold;
 
@@ -151,7 +151,7 @@ fn read_arrivals(alloc: Global, body: &[u8], head: &LoadHead) -> Result<Load, Co
     }
 }
 
-// The pool of these sizes, whose workers end and wake so.
+// The pool of these sizes, whose workers end and wake in this way.
 fn pool_of(limits: JdkLimits, ways: Ways) -> VirtualPool
     ensures { result ≡ pool_of limits ways }
 {
@@ -163,7 +163,7 @@ fn pool_of(limits: JdkLimits, ways: Ways) -> VirtualPool
     }
 }
 
-// What a load comes to in one pool. Errors: `AllocError` when out of memory.
+// The numbers of a load in one pool. Errors: `AllocError` when out of memory.
 fn run_pool(
     alloc: Global,
     limits: JdkLimits,
@@ -177,7 +177,7 @@ fn run_pool(
     numbers_of(alloc, 0, &history)
 }
 
-// What it comes to in each of some pools, in order, with word of each that is done. Errors: `AllocError` when out of memory.
+// The numbers of a load in each of some pools, in order; the progress learns of each pool that is done. Errors: `AllocError` when out of memory.
 fn run_pools<P: Progress>(
     alloc: Global,
     pools: &[JdkLimits],
@@ -225,7 +225,7 @@ fn read_load(alloc: Global, shown: LoadView, input: &[u8]) -> Result<(LoadHead, 
     }
 }
 
-/// The text of the numbers of what really happened, where the body is a history, and of each pool that the head of an input names.
+/// The text of the numbers of what really happened, if the body is a history, and of each pool that the head of an input names.
 ///
 /// # Errors
 ///
@@ -250,7 +250,7 @@ pub fn numbers_text<P: Progress>(
 ///
 /// # Errors
 ///
-/// Those of `numbers_text`, with `ManyPools` behind those of the head.
+/// Those of `numbers_text`, with `ManyPools` after those of the head.
 pub fn history_text(alloc: Global, input: &[u8]) -> Result<Vec<u8>, CommandError>
     ensures { MatchResult result (λ text. IsHistoryText input.now text.items) (IsError (IsSimulateRefusal LoadView.History input.now)) }
 {
@@ -263,7 +263,7 @@ pub fn history_text(alloc: Global, input: &[u8]) -> Result<Vec<u8>, CommandError
     Ok(version_text(alloc, limits, head.ways, &history)?)
 }
 
-/// The text of what is asked for of an input. Behind each pool whose numbers are made it is told how many are done.
+/// The text that is wanted of an input. After each pool whose numbers are made, the progress learns how many are done.
 ///
 /// # Errors
 ///

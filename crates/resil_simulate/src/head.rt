@@ -1,5 +1,5 @@
 //! The head of a load: the sizes that it is carried out on, one or more for each of the three, when an idle worker may end, and how the
-//! jobs of a history are taken. It reads past what else a recorder writes.
+//! jobs of a history are taken. It reads past anything else that a recorder writes.
 
 ghost use Rattle.std.specs.Prelude.{◌≡◌, ◌≤◌, All, IfOk, filter, length};
 ghost use Rattle.toml.specs.View.{table_view, view};
@@ -17,7 +17,7 @@ use resil_rule::AdmitError;
 use std::alloc::{AllocError, Global};
 use toml::{Table, Value};
 
-// After how many microseconds an idle worker may end where a head says none (Resilience4j user guide, Bulkhead, `keepAliveDuration`).
+// After how many microseconds an idle worker may end if a head doesn't say it (Resilience4j user guide, Bulkhead, `keepAliveDuration`).
 const DEFAULT_IDLE: u64 = 20_000;
 
 /// The keys of the head.
@@ -36,10 +36,10 @@ pub const LOAD_KEYS: &[Key] = &[
     Key::Optional("began", Form::Moment),
 ];
 
-/// How long a job of a history runs in another pool that was started there and has no finish.
+/// How long a job of a history that was started there and has no finish runs in another pool.
 #[derive(Clone, Copy, Debug, PartialEq, Eq)]
 pub enum Unfinished {
-    /// What it ran there up to the last event.
+    /// As long as it ran there, up to the last event.
     Run,
     /// What the head says at `takes`.
     Takes,
@@ -50,9 +50,9 @@ pub enum Unfinished {
 pub struct Terms {
     /// For how many microseconds a job runs that was never started there, if the head says so.
     pub takes: Option<u32>,
-    /// How long one runs that was started and has no finish.
+    /// How long a job runs that was started and has no finish.
     pub unfinished: Unfinished,
-    /// How many of the first events restate the state in which the history begins. They may be more than there are events.
+    /// How many of the first events restate the state in which the history begins. This may be more than there are events.
     pub made: u64,
 }
 
@@ -72,7 +72,7 @@ pub struct Ways {
 pub struct LoadHead {
     /// The pools that it is carried out on, 1 to 512 of them.
     pub pools: Vec<JdkLimits>,
-    /// How the workers of each of them end and wake.
+    /// How the workers of each pool end and wake.
     pub ways: Ways,
     /// How the jobs of a history are taken.
     pub terms: Terms,
@@ -97,7 +97,7 @@ fn parse_counts(alloc: Global, value: &Value) -> Result<Vec<u32>, HeadError>
     Ok(counts)
 }
 
-// Checks that each of the sizes is from the least to the greatest. Errors: this one of the pool.
+// Checks that each of the sizes is from the least to the greatest. Errors: `Limits` with this reason.
 fn check_each(least: u32, greatest: u32, why: AdmitError, sizes: &[u32]) -> Result<(), HeadError>
     ensures { result ≡ check_each least greatest why sizes.now }
 {
@@ -105,7 +105,7 @@ fn check_each(least: u32, greatest: u32, why: AdmitError, sizes: &[u32]) -> Resu
     all.then_some(()).ok_or(HeadError::Limits(why))
 }
 
-// The combinations that a pool takes. Errors: memory runs out.
+// The combinations that a pool takes. Errors: out of memory.
 fn combine(
     alloc: Global,
     cores: &[u32],
@@ -164,7 +164,7 @@ fn parse_takes(table: &Table) -> Result<Option<u32>, HeadFault>
     }
 }
 
-// How long an unfinished job runs, as it did there where the head doesn't say it. Errors: `BadValue`.
+// How long an unfinished job runs: as long as it did there, if the head doesn't say it. Errors: `BadValue`.
 fn parse_unfinished(table: &Table) -> Result<Unfinished, HeadFault>
     ensures { result ≡ parse_unfinished (table_view table.now) }
 {
@@ -192,7 +192,7 @@ fn parse_terms(table: &Table) -> Result<Terms, HeadFault>
     })
 }
 
-// Microseconds at a key, up to the most, or the default where it is absent. Errors: `BadValue`.
+// Microseconds at a key, up to the most, or the default if it is absent. Errors: `BadValue`.
 fn micros_at(key: &'static str, default: u64, most: u64, table: &Table) -> Result<u64, HeadFault>
     ensures { result ≡ micros_at key.now default most (table_view table.now) }
 {
@@ -203,7 +203,7 @@ fn micros_at(key: &'static str, default: u64, most: u64, table: &Table) -> Resul
     Ok(length)
 }
 
-// Whether core workers may end too, which they may not where the head doesn't say it. Errors: `BadValue`.
+// Whether core workers may end too; by default they may not. Errors: `BadValue`.
 fn parse_time_out(table: &Table) -> Result<bool, HeadFault>
     ensures { result ≡ parse_time_out (table_view table.now) }
 {
@@ -230,15 +230,15 @@ fn parse_ways(table: &Table) -> Result<Ways, HeadFault>
     })
 }
 
-/// What the head of a load says: a pool for each combination of `core`, `max` (workers, both required) and `queue` (jobs, 100 where
-/// it is absent) whose core size is at most the greatest, in the order of the arrays, the queue quickest; `idle_for`, from 0 to
-/// 31,536,000,000,000 microseconds, 20,000 if it is absent; `wakes`, from 0 to 1,000,000 microseconds, and `time_out`, 0 and false if they
-/// are absent; `takes`, from 0 to 4,294,967,295 microseconds, `None` if it is absent; `unfinished`, `"run"` (also if it is absent) or
-/// `"takes"`; and `made`, from 0 on, 0 if it is absent. `name`, `record` and `began` may have any value.
+/// What the head of a load says. There is a pool for each combination of `core`, `max` (workers, both required) and `queue` (jobs, 100 if
+/// it is absent) whose core size is at most the maximum size, in the order of the arrays, with the queue varying fastest. The other keys
+/// are `idle_for`, from 0 to 31,536,000,000,000 microseconds, 20,000 if it is absent; `wakes`, from 0 to 1,000,000 microseconds, and
+/// `time_out`, 0 and false if they are absent; `takes`, from 0 to 4,294,967,295 microseconds, `None` if it is absent; `unfinished`, `"run"`
+/// (also if it is absent) or `"takes"`; and `made`, from 0 on, 0 if it is absent. `name`, `record` and `began` may have any value.
 ///
 /// # Errors
 ///
-/// The first in this order: `BadToml`; `UnknownKey`; `MissingKey`; `BadValue` where a size is neither an integer from 0 to 4,294,967,295
+/// The first in this order: `BadToml`; `UnknownKey`; `MissingKey`; `BadValue` if a size is neither an integer from 0 to 4,294,967,295
 /// nor an array of 1 to 8 of them, or else `idle_for`, `wakes`, `time_out`, `takes`, `unfinished` or `made` isn't of its kind, or is out of
 /// its range; `Limits` for the first of `core`, `max` and `queue` that has an item out of its range, and for `max` if no combination is left.
 /// `Memory` may come at any stage.

@@ -1,4 +1,4 @@
-//! The jobs that a history has: its submissions, whatever was replied, each with how long it ran there.
+//! The jobs of a history: its submissions, with any reply, each with how long it ran there.
 //!
 //! The times of starts and of finishes are put into tables by the jobs' ids, so that each event costs the same however many jobs wait.
 
@@ -49,7 +49,7 @@ pub enum Ran {
     Whole(u64),
     /// From its start to the last event, and when that is, since any start: it has no finish.
     Cut { us: u64, until: u64 },
-    /// It was refused or removed, or waits to the end.
+    /// It was refused or removed, or waits until the end.
     Never,
 }
 
@@ -88,7 +88,7 @@ fn key_of(id: Id) -> u128
     u128::from(id.caller) * 18_446_744_073_709_551_616 + u128::from(id.number)
 }
 
-// Puts the time of a job into a table, where it has none yet. Errors: `AllocError` when out of memory.
+// Puts the time of a job into a table, if it has none yet. Errors: `AllocError` when out of memory.
 fn keep_first(times: &mut BTreeMap<u128, u64>, key: u128, at: u64) -> Result<(), AllocError>
     requires { IsOrdered nat_cmp times.old }
     ensures ordered { IsOrdered nat_cmp times.new }
@@ -154,7 +154,7 @@ fn ran_of(starts: &BTreeMap<u128, u64>, finishes: &BTreeMap<u128, u64>, last: u6
     }
 }
 
-// The submissions in the rest of a history, behind its first events. Errors: `AllocError` when out of memory.
+// The submissions in the rest of a history, after its first events. Errors: `AllocError` when out of memory.
 fn submissions_behind(
     alloc: Global,
     restated: usize,
@@ -183,7 +183,7 @@ fn submissions_behind(
     Ok(jobs)
 }
 
-/// The submissions of a history, in order, behind its first events, as many as `restated`, which restate the state in which it begins.
+/// The submissions of a history, in order, after its first `restated` events, which restate the state in which it begins.
 ///
 /// # Errors
 ///
@@ -209,8 +209,8 @@ fn run_by(terms: Terms, ran: Ran) -> Option<u64>
     }
 }
 
-// The earliest moment at which the run of a job may end in another pool: the last event, if it went on there up to that and the head says
-// no other run.
+// The earliest moment at which the run of a job may end in another pool: the last event, if the job ran there up to that event and the
+// head says no other run.
 fn earliest_end_by(terms: Terms, ran: Ran) -> u64
     ensures { result ≡ earliest_end_by terms ran }
 {
@@ -220,7 +220,7 @@ fn earliest_end_by(terms: Terms, ran: Ran) -> u64
     }
 }
 
-/// The place of the first submission of which nothing says how long its job runs.
+/// The place of the first submission without any statement of how long its job runs.
 pub fn first_without(terms: Terms, jobs: &[Submitted]) -> Option<usize>
     ensures { result ≡ first_without terms jobs.now }
 {

@@ -1,8 +1,8 @@
-//! Whether a history is legal in some pool of the JDK, whatever its sizes.
+//! Whether a history is legal in some pool of the JDK, of any sizes.
 //!
-//! A history asks of the sizes that they aren't less: more workers than there are where one begins, a place in the queue where a job is put
-//! there, and one where a job isn't handed to an idle worker. All else that the rule says of sizes holds of smaller ones too. So a history
-//! that is legal in some pool is so in that of the least sizes that it asks for, and one audit tells.
+//! Some events need sizes that aren't less: room for one more worker if one begins, a place in the queue if a job is put there, and one if
+//! no idle worker gets a job at once. Everything else that the rule says of sizes also holds for smaller ones. So a history that is legal
+//! in some pool is also legal in a pool of the least sizes that it needs, and one audit decides it.
 
 ghost use Rattle.std.specs.Prelude.{◌≡◌, ◌↔◌, ◌≤◌, ◌++◌, ◌∷◌, [], List, IfNone, IfOk, IfSome, IsTrue, MatchOption, max, take};
 ghost use Rattle.resil_rule.specs.Limits.{Sizes};
@@ -15,7 +15,7 @@ use resil_jdk::{JdkEvent, JdkLimits, JdkReply, audit};
 use resil_rule::Verdict;
 use std::alloc::{AllocError, Global};
 
-// The sizes that events ask for, at least.
+// The sizes that events need, at least.
 #[derive(Clone, Copy)]
 struct Asked {
     core: usize,
@@ -24,7 +24,7 @@ struct Asked {
 }
 
 impl Asked {
-    // Those of an event that asks for none.
+    // The sizes of an event that needs none.
     const NONE: Asked = Asked {
         core: 0,
         max: 1,
@@ -93,7 +93,7 @@ impl Tally {
     }
 }
 
-// One more worker than there are after events of this tally, 0 where they have a resize.
+// One more worker than there are after events of this tally, 0 if they have a resize.
 #[tactic(auto, using(resil_stats::proofs::CountLaws::filter_few))]
 fn one_more(before: &Tally) -> usize
     requires { MayBeTallied before.now }
@@ -114,7 +114,7 @@ fn one_place(before: &Tally) -> usize
     before.queued.saturating_sub(before.left) + 1
 }
 
-// One place where a worker is idle after events of this tally.
+// One place if a worker is idle after events of this tally.
 fn no_hand_off(before: &Tally) -> usize
     ensures { (history : List JdkEvent) → AreTallied history before.now → result ≡ no_hand_off history }
 {
@@ -122,7 +122,7 @@ fn no_hand_off(before: &Tally) -> usize
     usize::from(busy < before.finished as u128 + before.begun as u128)
 }
 
-// What an event asks for behind events of this tally.
+// What an event needs after events of this tally.
 fn asked_at(before: &Tally, event: JdkEvent) -> Asked
     requires { MayBeTallied before.now }
     ensures { (history : List JdkEvent) → AreTallied history before.now → result ≡ asked_at history event }
@@ -167,7 +167,7 @@ fn asked_at(before: &Tally, event: JdkEvent) -> Asked
     }
 }
 
-// What events ask for.
+// What events need.
 fn asked_by(events: &[JdkEvent]) -> Asked
     ensures some { 1 ≤ result.max }
     ensures most { IsAsked [] events.now result }
@@ -182,7 +182,7 @@ fn asked_by(events: &[JdkEvent]) -> Asked
     most
 }
 
-// The limits of these sizes, the maximum size no less than the core size, or `None` where no pool has so large ones.
+// The limits of these sizes, the maximum size no less than the core size, or `None` if no pool has sizes that large.
 fn limits_of(least: Asked) -> Option<JdkLimits>
     requires { 1 ≤ least.max }
     ensures sizes { IfSome result (λ limits. limits ≡ record { core = least.core; max = max least.max least.core; queue = least.queue }) }
@@ -198,7 +198,7 @@ fn limits_of(least: Asked) -> Option<JdkLimits>
     }
 }
 
-// The least sizes of a pool that could have these events, or `None` where there is no such pool.
+// The least sizes of a pool that could have these events, or `None` if there is no such pool.
 fn least_limits(events: &[JdkEvent]) -> Option<JdkLimits>
     ensures legal { IfSome result (λ least. AreJdkLimits least × ((limits : Sizes) → AreJdkLimits limits → IsLegal limits events.now → IsLegal least events.now)) }
     ensures none { IfNone result (¬ IsLegalSomewhere events.now) }
@@ -218,13 +218,13 @@ fn is_legal(alloc: Global, events: &[JdkEvent]) -> Result<bool, AllocError>
     match audit(alloc, &limits, events) {
         Ok(Verdict::Legal) => Ok(true),
         Ok(Verdict::FirstIllegal(_)) => Ok(false),
-        // The only error of an audit is that memory runs out.
+        // The only error of an audit is that it is out of memory.
         Err(_) => Err(AllocError),
     }
 }
 
-/// The position, from 1, of the first event up to which a history is legal in no pool, or `None` where it is legal in some pool. It is
-/// searched for by halves.
+/// The position, from 1, of the first event up to which a history is legal in no pool, or `None` if it is legal in some pool. This is a
+/// binary search.
 ///
 /// # Errors
 ///

@@ -1,9 +1,9 @@
-//! `simulate`: which sizes a pool needs, by a load that is known.
+//! `simulate`: which sizes a pool needs, for a known load.
 //!
-//! The load is carried out in virtual time by `resil_virtual`. Here is what is read of an input and what is written: `head` has the
-//! sizes, `rows` the body, `history` the jobs of one that is a history, `legality` whether some pool has it, `load` the jobs that are
-//! carried out, `numbers` what the history of one pool comes to, `table` the text, and `command` all in its order; `subject` is what is
-//! said of a refusal.
+//! `resil_virtual` carries out the load in virtual time. This crate reads the input and writes the text. `head` has the sizes, `rows`
+//! the body, `history` the jobs of a body that is a history, `legality` whether some pool has it, `load` the jobs that are carried out,
+//! `numbers` the numbers of the history of one pool, `table` the text, and `command` everything in its order; `subject` is what is said
+//! of a refusal.
 #![tactic(auto)]
 
 pub mod command;

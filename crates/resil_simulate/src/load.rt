@@ -1,4 +1,4 @@
-//! The jobs of a load, by the rows of its body or by a history. All rows are held against each other first, then each against the end of
+//! The jobs of a load, by the rows of its body or by a history. All rows are compared with each other first, then each with the end of
 //! time.
 
 ghost use Rattle.std.specs.Prelude.{◌≡◌, ◌≤◌, ◌<◌, IfErr, IfOk, MatchOption, MatchResult, length, take};
@@ -59,7 +59,7 @@ fn times_of(alloc: Global, arrivals: &[Arrival]) -> Result<Vec<u64>, AllocError>
     arrivals.iter().map(|arrival| arrival.at).collect(alloc)
 }
 
-// The position, from 1, of the first job that comes too late, or `None` where each is in time.
+// The position, from 1, of the first job that comes too late, or `None` if each is in time.
 fn first_late(arrivals: &[Arrival], ways: Ways) -> Option<usize>
     ensures { MatchOption result (AreInTime ways arrivals.now) (IsTooLateAt ways arrivals.now) }
 {
@@ -97,7 +97,7 @@ pub fn load_of(alloc: Global, rows: &[Row], ways: Ways) -> Result<Vec<Arrival>, 
     }
 }
 
-// How many events restate a state. Errors: `Refused` as `Head` of `BadValue` if these are more than there are.
+// How many events restate a state. Errors: `Refused` as `Head` of `BadValue` if there are fewer events.
 fn restated_in(made: u64, history: &[TimedJdkEvent]) -> Result<usize, CommandError>
     ensures { MatchResult result (λ restated. (restated ≡ made) × (made ≤ length history.now)) (λ why. (why ≡ CommandError.Refused (Refusal.Head HeadError.BadValue)) × (length history.now < made)) }
 {
@@ -143,7 +143,7 @@ fn callers_in(alloc: Global, events: &[JdkEvent]) -> Result<BTreeMap<u16, Caller
     Ok(callers)
 }
 
-// The jobs of submissions. The first events, as many as `restated`, are left out. Errors: `AllocError` when out of memory.
+// The jobs of submissions. The first `restated` events are left out. Errors: `AllocError` when out of memory.
 fn jobs_of(
     alloc: Global,
     terms: Terms,
@@ -170,9 +170,9 @@ fn check_times(arrivals: &[Arrival], ways: Ways, jobs: &[Submitted]) -> Result<(
     }
 }
 
-/// The jobs of a history: its submissions behind the events that restate a state, with their callers, each of which takes what it ran
-/// there. One that was started and has no finish takes what it ran up to the last event, and ends no earlier than that, or takes what
-/// the terms say; one that was never started takes that.
+/// The jobs of a history: its submissions after the events that restate a state, with their callers. Each takes as long as it ran there.
+/// A job that was started and has no finish takes as long as it ran up to the last event, and ends no earlier than that, or takes what
+/// the terms say. A job that was never started takes what the terms say.
 ///
 /// # Errors
 ///

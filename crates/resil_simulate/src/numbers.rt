@@ -1,7 +1,7 @@
-//! What a history comes to, in the numbers that `simulate` writes.
+//! The numbers of a history that `simulate` writes.
 //!
-//! How often things happen and how long jobs waited is counted by `resil_stats`. The time that jobs ran, and that workers were there
-//! to run them, is gathered event by event: as many of them as there are then, times the time to the next event.
+//! `resil_stats` counts how often things happen and how long jobs waited. The time that jobs ran, and that workers existed to run them,
+//! is added up event by event: their number after an event, times the time to the next event.
 
 ghost use Rattle.std.specs.Prelude.{◌≡◌, IfOk};
 ghost use Rattle.resil_jdk.specs.Admission.{IsLegal};
@@ -30,18 +30,18 @@ pub struct Numbers {
     pub most_waiting: usize,
     /// The most workers that there were at one moment.
     pub most_workers: usize,
-    /// How busy the workers were up to the last finish, in thousandths, rounded down, or `None` where there was none for any time.
+    /// How busy the workers were up to the last finish, in thousandths, rounded down, or `None` if there was no worker for any time.
     pub busy: Option<u64>,
 }
 
-// Microseconds of all jobs that ran, and of all workers that there were.
+// Microseconds of all jobs that ran, and of all workers.
 #[derive(Clone, Copy, Default)]
 struct Areas {
     run_time: u128,
     worker_time: u128,
 }
 
-// What jobs ran and workers were there up to the last finish.
+// The time of jobs and of workers up to the last finish.
 fn areas_of(events: &[JdkEvent], times: &[u64]) -> Areas
     requires { HasTimes events.now times.now }
     ensures run_time { result.run_time ≡ run_time events.now times.now }
@@ -76,8 +76,8 @@ fn busy_of(events: &[JdkEvent], times: &[u64]) -> Option<u64>
     }
 }
 
-/// The numbers of a legal history whose times ascend. The first events, as many as `restated`, restate the state in which it begins: what
-/// they submit counts in no submission, refusal or wait.
+/// The numbers of a legal history whose times ascend. The first `restated` events restate the state in which it begins: their submissions
+/// don't count in any submission, refusal or wait.
 ///
 /// # Errors
 ///

@@ -36,7 +36,7 @@ pub struct Row {
 /// The rows of a body, in order.
 #[derive(Drop)]
 pub enum Rows {
-    /// Those of a load.
+    /// The jobs of a load.
     Load(Vec<Row>),
     /// The events of a history of version 3 or 4, with their times.
     History(Vec<TimedJdkEvent>),
@@ -56,7 +56,7 @@ fn parse_row(fields: &ByteRecord) -> Option<Row>
 /// # Errors
 ///
 /// The first that is met: `Memory` when out of memory; `BadHeader` if the first record is missing, or is none of these headers; `BadRow`
-/// with the position of the first record that is no row under its header.
+/// with the position of the first record that isn't a row under its header.
 pub fn read_rows(alloc: Global, body: &[u8]) -> Result<Rows, BodyError>
     ensures { MatchResult result (AreRows body.now) (IsBodyRefused body.now) }
 {

@@ -1,4 +1,4 @@
-//! What `simulate` says of its inputs to whoever explains what is wrong with one.
+//! What `simulate` says of its inputs to the code that explains what is wrong with one.
 
 use crate::command::LoadView;
 use crate::head::{LOAD_KEYS, read_load_head};

@@ -9,7 +9,7 @@ use crate::numbers::Numbers;
 use resil_jdk::JdkLimits;
 use std::alloc::{AllocError, Global};
 
-// A number as a field, empty where there is none. Errors: `AllocError` when out of memory.
+// A number as a field, empty if there is none. Errors: `AllocError` when out of memory.
 fn field_of(alloc: Global, number: Option<u64>) -> Result<String, AllocError>
     ensures { IfOk result (λ text. string_bytes text ≡ span_word number) }
 {
@@ -50,7 +50,7 @@ fn pool_text(
     )
 }
 
-// The header, and the record of what really happened where that is known. Errors: `AllocError` when out of memory.
+// The header, and the record of what really happened if that is known. Errors: `AllocError` when out of memory.
 fn first_text(alloc: Global, own: &Option<Numbers>) -> Result<String, AllocError>
     ensures { IfOk result (λ text. string_bytes text ≡ pools_text own.now []) }
 {
@@ -65,10 +65,10 @@ fn first_text(alloc: Global, own: &Option<Numbers>) -> Result<String, AllocError
     Ok(text)
 }
 
-/// The text of the numbers of pools, each with its sizes: the header
-/// `core,max,queue,submitted,refused,wait_median,wait_p99,wait_most,most_waiting,most_workers,busy`; where there are numbers of what really
-/// happened, a record of them with empty sizes; then a record for each pool, in order, in microseconds and thousandths. What there is not
-/// is empty.
+/// The text of the numbers of pools, each with its sizes. It has the header
+/// `core,max,queue,submitted,refused,wait_median,wait_p99,wait_most,most_waiting,most_workers,busy`; if there are numbers of what really
+/// happened, a record of them with empty sizes; then a record for each pool, in order, in microseconds and thousandths. A number that
+/// doesn't exist is an empty field.
 ///
 /// # Errors
 ///

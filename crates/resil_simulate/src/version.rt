@@ -1,4 +1,4 @@
-//! The text of a history that a load comes to: in version 3 if the rule of `audit` has words for the pool, else in version 4.
+//! The text of the history of a load: in version 3 if the rule of `audit` has words for the pool, else in version 4.
 
 ghost use Rattle.std.specs.Prelude.{◌≡◌, IfOk};
 ghost use Rattle.resil_simulate.specs.Version.{own_event, own_reply, own_timed, in_own_words, has_own_sizes, version_text};

@@ -16,7 +16,7 @@ last-more : {A : Type 0} (id : Id) (other : Option A) (all : List (Id × A)) (on
 last-more id other [] one = refl
 last-more id other (first ∷ all) one = last-more id (if is_same_id id first.0 then Some first.1 else other) all one
 
--- the table with where one more span begins
+-- the table with the beginning of one more span
 pub begun-more : {A S : Type 0} (all : List (Id × A)) (id : Id) (index : A) (old new : HashMap (ℕ × ℕ) A S)
     → ((key : ℕ × ℕ) → get is_key new key ≡ cond (is_key (id.caller, id.number) key) (Some index) (get is_key old key)) → AreBegun all old → AreBegun (all ++ (id, index) ∷ []) new
 begun-more {A} {S} all id index old new put are x =

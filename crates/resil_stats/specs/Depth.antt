@@ -25,7 +25,7 @@ abbrev pub sizes_after : ℕ × ℕ → JdkEvent → ℕ × ℕ
 sizes_after sizes (Resized core max) = (core, max)
 sizes_after sizes event = sizes
 
--- the sizes that a pool begins with. If the maximum size of a pool was raised, its recorder writes a head with the greatest of all sizes,
+-- the sizes that a pool begins with. If the maximum size of a pool was raised, its recorder writes a head with the largest possible one,
 -- and a resize before all else
 abbrev pub opening_sizes : Sizes → List JdkEvent → ℕ × ℕ
 opening_sizes limits [] = (limits.core, limits.max)

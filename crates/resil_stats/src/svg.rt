@@ -68,7 +68,7 @@ impl Draft {
         }
     }
 
-    /// Adds the time of day of an element's title, where it is known.
+    /// Adds the time of day of an element's title, if it is known.
     pub(crate) fn put_clock(&mut self, clock: Option<Clock>) {
         if let Some(clock) = clock {
             put!(self; ", {clock} UTC");

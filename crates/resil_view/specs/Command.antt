@@ -14,7 +14,7 @@ use Rattle.resil_view.specs.Read.{IsReadFrom, AreRead, AreInOrder}
 use Rattle.resil_view.specs.declared.command.View.{View}
 use Rattle.resil_view.specs.declared.command.View.TheVariants as view
 
--- what is used of a head of a history that is drawn: when the first event was, and what is to be drawn
+-- what is used of the head of a history that is drawn: when the first event was, and what is to be drawn
 abbrev pub drawn_uses : Uses
 drawn_uses = record { idle_for = false; made = false; owner = false; began = true; drawing = true }
 
@@ -22,11 +22,11 @@ drawn_uses = record { idle_for = false; made = false; owner = false; began = tru
 abbrev pub extent_of : Drawing → Extent
 extent_of drawing = record { from = drawing.from; to = drawing.to; waiting = drawing.most_waiting; workers = drawing.most_workers }
 
--- the text of the chart, with a name, of a history in a pool of these sizes as far as an extent asks for, by the verdict of `judge`
+-- the text of the chart, with a name, of a history in a pool of these sizes, by the verdict of `judge`: of the part that an extent gives
 abbrev pub IsPictureText : Extent → List ℕ → Sizes → AnyEvents → Option (List ℕ) → List ℕ → Type 0
 IsPictureText extent name limits events times text = (verdict : Verdict) × IsJudgment limits events verdict × IsHistorySvg extent name limits verdict (jdk_events events) times text
 
--- the text is that of the chart of the history of the input: the results behind it can be read, and the times ascend
+-- the text is that of the chart of the history of the input: the results after it can be read, and the times ascend
 abbrev pub IsTimelineText : List ℕ → List ℕ → Type 0
 IsTimelineText input text = (said : PoolHeadView) × (events : AnyEvents) × (times : Option (List ℕ)) × (results : Option (List ℕ))
     × IsReadFrom (pool_head_of drawn_uses) IsAnyBody input said events times results × AreRead results × AreInOrder times × IsPictureText (extent_of said.drawing) said.name said.limits events times text

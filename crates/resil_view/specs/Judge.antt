@@ -1,4 +1,5 @@
--- `judge`: which history of any version an input has, by which rule it is judged, and that this is as `audit` does where that takes the input.
+-- `judge`: which history of any version an input has, and by which rule it is judged. If `audit` takes the input, the verdict is that of
+-- `audit`.
 use Rattle.std.proofs.Common.{inl, inr}
 use Rattle.std.specs.Prelude.{ℕ, ◌≡◌, ◌⊎◌, false, List, Option, Some, None, Result, ⊤}
 use Rattle.resil_rule.specs.Limits.{AreLimits, Sizes}
@@ -25,7 +26,7 @@ use Rattle.resil_view.specs.Read.{AreInOrder, AreRead, IsReadFrom, IsReadRefusal
 use Rattle.resil_view.specs.declared.judge.Events.{Events}
 use Rattle.resil_view.specs.declared.judge.Events.TheVariants as read
 
--- what a head says; of what recorders write there nothing is used
+-- what a head says; nothing that recorders write there is used
 abbrev pub judged_head_of : List ℕ → Result PoolHeadView HeadError
 judged_head_of bytes = pool_head_of (record { idle_for = false; made = false; owner = false; began = false; drawing = false }) bytes
 
@@ -40,12 +41,13 @@ abbrev pub events_of : Events → AnyEvents
 events_of (read.Own events) = inl events.items
 events_of (read.Whole events) = inr events.items
 
--- a body of these events, and of their times where its version has them
+-- a body of these events, and of their times if its version has them
 abbrev pub IsAnyBody : List ℕ → AnyEvents → Option (List ℕ) → Type 0
 IsAnyBody body (inl events) times = IsHistoryBody body events times
 IsAnyBody body (inr events) times = (history : List TimedJdkEvent) × IsRecordBody body history × (events ≡ events_in history) × (times ≡ Some (times_in history))
 
--- why a body is no history in any version: memory ran out; its first record is the header of none; or a record under the header of one of them is no row
+-- why a body isn't a history in any version: it is out of memory; its first record is not the header of a version; or a record after such a
+-- header isn't a row
 abbrev pub IsAnyBodyError : List ℕ → BodyError → Type 0
 IsAnyBodyError body body_error.Memory = ⊤
 IsAnyBodyError body body_error.BadHeader = IsHistoryBodyError body body_error.BadHeader × IsRecordBodyError body body_error.BadHeader
@@ -61,7 +63,7 @@ IsJudgment limits (inr events) verdict = whole.IsVerdict limits events verdict
 abbrev pub IsVerdictText : Sizes → AnyEvents → List ℕ → Type 0
 IsVerdictText limits events text = (verdict : Verdict) × IsJudgment limits events verdict × (text ≡ verdict_text verdict)
 
--- the input has this history, under a head that says this: the results behind it can be read, and the times ascend
+-- the input has this history, under a head that says this: the results after it can be read, and the times ascend
 abbrev pub IsJudgedFrom : List ℕ → PoolHeadView → AnyEvents → Type 0
 IsJudgedFrom input said events = (times : Option (List ℕ)) × (results : Option (List ℕ))
     × IsReadFrom judged_head_of IsAnyBody input said events times results × AreRead results × AreInOrder times
@@ -70,7 +72,7 @@ IsJudgedFrom input said events = (times : Option (List ℕ)) × (results : Optio
 abbrev pub IsJudgeText : List ℕ → List ℕ → Type 0
 IsJudgeText input text = (said : PoolHeadView) × (events : AnyEvents) × IsJudgedFrom input said events × IsVerdictText said.limits events text
 
--- the refusal of the first step that refuses an input of any version, whose head has some values that are used
+-- the refusal of the first step that refuses an input of any version; some values of its head are used
 abbrev pub IsPoolRefusal : Uses → List ℕ → Refusal → Type 0
 IsPoolRefusal uses input why = IsReadRefusal (pool_head_of uses) IsAnyBody IsAnyBodyError input why
 
@@ -78,11 +80,11 @@ IsPoolRefusal uses input why = IsReadRefusal (pool_head_of uses) IsAnyBody IsAny
 abbrev pub IsJudgeRefusal : List ℕ → Refusal → Type 0
 IsJudgeRefusal input why = IsReadRefusal judged_head_of IsAnyBody IsAnyBodyError input why
 
--- the input has a history, and nothing behind it
+-- the input has a history, and nothing after it
 abbrev pub HasNoResults : List ℕ → Type 0
 HasNoResults input = (head body : List ℕ) → parts_of input ≡ Some (head, body) → results_of body ≡ None
 
--- What `audit` writes for an input without results, `judge` writes too, and it refuses none that `audit` takes.
+-- `judge` writes what `audit` writes for an input without results, and refuses no input that `audit` takes.
 abbrev pub JudgesAsAudit : Type 0
 JudgesAsAudit = (input text : List ℕ) → HasNoResults input → IsAuditText input text
     → ((other : List ℕ) → IsJudgeText input other → other ≡ text) × ((why : Refusal) → ¬ IsJudgeRefusal input why)

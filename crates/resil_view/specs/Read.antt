@@ -1,4 +1,5 @@
--- What is read of an input in order, whatever heads and histories say: its head, its history, the results behind that, its times; and why it is refused.
+-- What is read of an input in order, for any heads and histories: its head, its history, the results after that, its times; and why it is
+-- refused.
 use Rattle.std.specs.Prelude.{ℕ, ◌≡◌, ◌≢◌, List, Option, Some, IfSome, Result, option_map}
 use Rattle.resil_rule.specs.Timed.{AreAscending, GoesBackAt}
 use Rattle.resil_heads.specs.Parts.{SplitsInto, IsPartRefusal}
@@ -11,15 +12,15 @@ use Rattle.resil_input.specs.declared.csv_rows.BodyError.TheVariants as body_err
 use Rattle.resil_stats.specs.Results.{AreResults, IsResultsError, history_part, results_of}
 use Rattle.resil_stats.specs.declared.results.JobResult.{JobResult}
 
--- the text of results can be read, where there is one
+-- the text of results can be read, if there is one
 abbrev pub AreRead : Option (List ℕ) → Type 0
 AreRead results = IfSome results (λ text. (rows : List JobResult) × AreResults text rows)
 
--- the times of a history, where it has some, ascend
+-- the times of a history, if it has some, ascend
 abbrev pub AreInOrder : Option (List ℕ) → Type 0
 AreInOrder times = IfSome times AreAscending
 
--- why results can't be read: one of them is no result
+-- why results can't be read: one of them isn't a result
 abbrev pub IsResultsRefusal : Option (List ℕ) → Refusal → Type 0
 IsResultsRefusal results refusal.BadResult = (text : List ℕ) × (results ≡ Some text) × (why : BodyError) × IsResultsError text why × (why ≢ body_error.Memory)
 IsResultsRefusal results why = ⊥
@@ -31,7 +32,7 @@ IsOrderRefusal times why = ⊥
 
 -- Below, `head_of` is what the bytes of a head say, `IsHistory` which history a body has with which times, and `IsBad` why a body has none.
 
--- what is read of an input: what its head says, its history, the times of that where it has some, and the text of the results behind it
+-- what is read of an input: what its head says, its history, its times if it has some, and the text of the results after it
 abbrev pub IsReadFrom : {Head History : Type 0} → (List ℕ → Result Head HeadError) → (List ℕ → History → Option (List ℕ) → Type 0) → List ℕ → Head → History → Option (List ℕ) → Option (List ℕ) → Type 0
 IsReadFrom head_of IsHistory input said history times results = (body : List ℕ) × SplitsInto head_of input said body × IsHistory (history_part body) history times
     × (results ≡ option_map (λ parts. parts.1) (results_of body))

@@ -1,7 +1,7 @@
 //! `judge`, `stats` and `timeline`: the text of a view of the history that an input has.
 //!
-//! All three read any history of a pool of the JDK. Its head may be that of a `run`, and the results of a run may follow it. They are
-//! read, and a result that can't be read is refused once the history is read; then a time that goes back is. Each view has a module
+//! All three read any history of a pool of the JDK. Its head may be that of a `run`, and the results of a run may follow it. The
+//! results are read after the history, and one that can't be read is refused; then a time that goes back is. Each view has a module
 //! of its own.
 
 ghost use Rattle.std.specs.Prelude.{MatchResult};
@@ -14,7 +14,7 @@ use crate::numbers::numbers_text;
 use resil_heads::CommandError;
 use std::alloc::Global;
 
-/// What the words request.
+/// What the arguments ask for.
 #[derive(Clone, Copy, Debug, PartialEq, Eq)]
 pub enum View {
     /// `judge`: say whether a history is legal.
@@ -30,8 +30,8 @@ pub enum View {
 /// # Errors
 ///
 /// In this order: `Refused` as `NoBody`; as `Head`; as `BadHeader` or `BadRow`, as `audit` refuses a history without times; as
-/// `BadResult` where a result can't be read; as `Load` for `TimeGoesBack`; of `stats` as `Head` for `BadValue` where the head says of more
-/// events than there are that they restate a state. `Memory` may come at any step.
+/// `BadResult` if a result can't be read; as `Load` for `TimeGoesBack`; of `stats` as `Head` for `BadValue` if by the head more
+/// events restate a state than there are. `Memory` may come at any step.
 pub fn view_text(alloc: Global, view: View, input: &[u8]) -> Result<Vec<u8>, CommandError>
     ensures { MatchResult result (λ text. IsViewText view input.now text.items) (IsError (IsViewRefusal view input.now)) }
 {

@@ -1,7 +1,7 @@
 //! `timeline`: the chart of a history of any version, in a pool of any sizes.
 //!
-//! What is drawn are the events before the first illegal one, by the verdict of `judge`, in the words of the whole rule. A head may say
-//! when the first event was, from when to when the history is drawn, and how high the scales go.
+//! It draws the events before the first illegal one, by the verdict of `judge`, in the words of the whole rule. A head may say when the
+//! first event was, from when to when the history is drawn, and how high the scales go.
 
 ghost use Rattle.std.specs.Prelude.{◌≡◌, IfOk, MatchResult, option_map, string_bytes};
 ghost use Rattle.resil_heads.specs.CommandError.{IsError};
@@ -27,7 +27,7 @@ use resil_stats::{Caption, Extent, Outcomes, picture_of, svg_text};
 use std::alloc::{AllocError, Global};
 use std::fmt;
 
-/// What is used of a head beside the sizes and the name: when the first event was, and what is to be drawn.
+/// What is used of a head besides the sizes and the name: when the first event was, and what is to be drawn.
 pub const DRAWN_USES: Uses = Uses {
     idle_for: false,
     made: false,
@@ -109,7 +109,7 @@ fn time_of_day(at: &Moment) -> u64 {
     microseconds.saturating_add(u64::from(at.microsecond))
 }
 
-// The times of a history, where it has some.
+// The times of a history, if it has some.
 fn times_of(history: &AnyHistory) -> Option<&[u64]>
     ensures { option_map (λ times. times.now) result ≡ option_map (λ times. times.items) history.now.times }
 {

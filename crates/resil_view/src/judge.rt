@@ -61,7 +61,7 @@ fn read_whole(alloc: Global, body: &[u8]) -> Result<AnyHistory, BodyError>
 /// # Errors
 ///
 /// The first that is met: `Memory` when out of memory; `BadHeader` if the first record is missing or isn't the header of a version;
-/// `BadRow` with the position of the first record that is no event, or has no time, in that version.
+/// `BadRow` with the position of the first record that isn't an event, or has no time, in that version.
 pub(crate) fn read_any(alloc: Global, body: &[u8]) -> Result<AnyHistory, BodyError>
     ensures { MatchResult result (λ read. IsAnyBody body.now (events_of read.events) (option_map (λ times. times.items) read.times)) (IsAnyBodyError body.now) }
 {
@@ -76,8 +76,8 @@ pub(crate) fn read_any(alloc: Global, body: &[u8]) -> Result<AnyHistory, BodyErr
     })
 }
 
-/// What the head says, of which some is used, the history and the text of the results of an input. Errors, in this order: `Refused`
-/// as `NoBody`; as `Head`; as `BadHeader` or `BadRow`.
+/// What the head says, with some of its values used, the history and the text of the results of an input. Errors, in this order:
+/// `Refused` as `NoBody`; as `Head`; as `BadHeader` or `BadRow`.
 pub(crate) fn read_parts(
     alloc: Global,
     uses: Uses,

@@ -1,7 +1,7 @@
 //! `stats`: the numbers of a history of any version, in a pool of any sizes.
 //!
-//! What is counted are the events before the first illegal one, by the verdict of `judge`, in the words of the whole rule. A head may say
-//! how many of the first events restate the state in which a record begins.
+//! It counts the events before the first illegal one, by the verdict of `judge`, in the words of the whole rule. A head may say how many
+//! of the first events restate the state in which a record begins.
 
 ghost use Rattle.std.specs.Prelude.{◌≡◌, ◌≤◌, IfOk, MatchResult, length, option_map};
 ghost use Rattle.resil_heads.specs.CommandError.{IsError};
@@ -20,7 +20,7 @@ use resil_rule::Verdict;
 use resil_stats::{JdkSpans, count_jdk, legal_part, spans_of_jdk, stats_text};
 use std::alloc::{AllocError, Global};
 
-/// What is used of what a recorder writes in a head: how many events restate a state.
+/// What is used of a recorder's values in a head: how many events restate a state.
 pub(crate) const USES: Uses = Uses {
     idle_for: false,
     made: true,
@@ -29,7 +29,7 @@ pub(crate) const USES: Uses = Uses {
     drawing: false,
 };
 
-// The spans of legal events, where their history has times. Errors: `AllocError` when out of memory.
+// The spans of legal events, if their history has times. Errors: `AllocError` when out of memory.
 fn known_spans(
     alloc: Global,
     restated: usize,
@@ -97,7 +97,7 @@ fn count_of(events: &Events) -> usize
     }
 }
 
-// How many events restate a state. Errors: `Refused` as `Head` of `BadValue` if these are more than there are.
+// How many events restate a state. Errors: `Refused` as `Head` of `BadValue` if there are fewer events.
 fn restated_in(made: u64, events: &Events) -> Result<usize, CommandError>
     ensures { MatchResult result (λ restated. (restated ≡ made) × (made ≤ length (jdk_events (events_of events.now)))) (IsError (IsManyMade made (events_of events.now))) }
 {

@@ -1,4 +1,4 @@
-//! What all views read behind the history of an input: the results of a run, and the order of the times.
+//! What all views read after the history of an input: the results of a run, and the order of the times.
 
 ghost use Rattle.std.specs.Prelude.{◌≡◌, MatchResult, option_map};
 ghost use Rattle.resil_heads.specs.CommandError.{IsError};

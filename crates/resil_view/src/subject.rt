@@ -1,4 +1,4 @@
-//! What a view of a history says of its inputs to whoever explains what is wrong with one.
+//! What a view of a history says of its inputs to the code that explains what is wrong with one.
 
 use crate::command::View;
 use crate::drawn::DRAWN_USES;

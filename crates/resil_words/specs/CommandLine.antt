@@ -34,7 +34,7 @@ single_from_name command =
 abbrev pub hold_flag : Rule
 hold_flag = record (new_rule (codes "hold")) { long = Some (codes "hold"); action = Some action.SetTrue }
 
--- the option `--callers`, a number from 1 to 64, which is 1 where it isn't given
+-- the option `--callers`, a number from 1 to 64, which is 1 if it isn't given
 abbrev pub callers_option : Rule
 callers_option = record (new_rule (codes "callers")) {
   long = Some (codes "callers");
@@ -91,7 +91,7 @@ HasFewCallers (request.Run words) = (1 ≤ words.callers) × (words.callers ≤ 
 abbrev pub IsRun : Option Request → Type 0
 IsRun requested = (words : RunOptions) × (requested ≡ Some (request.Run words))
 
--- the command that the words request, where one thread carries it out
+-- the command that the words request, if one thread carries it out
 abbrev pub single_of : Option Request → Option Single
 single_of None = None
 single_of (Some (request.Single command)) = Some command

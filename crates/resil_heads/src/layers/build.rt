@@ -1,7 +1,7 @@
-//! Builds the layers that a head requests: intervals, retries, bulkheads with their ids, fallbacks, and the chain of them all.
+//! Builds the layers that a head asks for: intervals, retries, bulkheads with their ids, fallbacks, and the chain of them all.
 //!
-//! The first part that can't be built gives the error. The registry goes from one layer to the
-//! next, so a name that two layers have is one bulkhead.
+//! The first part that can't be built gives the error. The registry goes from one layer to the next, so layers with the same
+//! name share one bulkhead.
 
 ghost use Rattle.std.specs.Prelude.{◌≡◌};
 ghost use Rattle.resil_heads.specs.Checks.{GivesBy};
@@ -16,7 +16,7 @@ use resil_retry::{Interval, MAX_INTERVAL, RetryConfig, RetryError};
 use std::alloc::Global;
 use std::marker::Model;
 
-// The fault of an interval that a retry refuses for this.
+// The fault of an interval that a retry refuses for this reason.
 fn refused_interval(said: IntervalSpec, why: RetryError) -> HeadFault
     ensures { result ≡ HeadError.Retry why }
 {
@@ -28,8 +28,7 @@ fn refused_interval(said: IntervalSpec, why: RetryError) -> HeadFault
     }
 }
 
-// The interval, where a retry takes it.
-// Errors: `IntervalTooLong`, `BadMultiplier`, `CapBelowInitial`.
+// The interval, if a retry takes it. Errors: `IntervalTooLong`, `BadMultiplier`, `CapBelowInitial`.
 fn build_interval(said: IntervalSpec) -> Result<Interval, HeadFault>
     ensures { result ≡ build_interval said }
 {
@@ -63,8 +62,8 @@ fn build_retry(said: RetrySpec) -> Result<RetryConfig, HeadFault>
     Ok(retry.map_err(HeadError::Retry)?)
 }
 
-// The layer that is requested; a bulkhead has the id that the registry gives it.
-// Errors: of a retry those of its parts; of a bulkhead `BadName`, `NoSuchConfig`, `Memory`, in this order.
+// The layer that a head asks for; a bulkhead has the id that the registry gives it. Errors: for a retry those of its parts;
+// for a bulkhead `BadName`, `NoSuchConfig`, `Memory`, in this order.
 fn build_layer(registry: &mut Registry<u16>, said: LayerSpec) -> Result<Layer, HeadFault>
     ensures { GivesBy (λ layer. record { layer = layer; lists = registry.new }) result (build_layer registry.old said.entry) }
 {
@@ -72,7 +71,7 @@ fn build_layer(registry: &mut Registry<u16>, said: LayerSpec) -> Result<Layer, H
         LayerSpec::Retry(retry) => Ok(Layer::Retry(build_retry(retry)?)),
         LayerSpec::Bulkhead { name, config } => {
             let id = obtained(registry, name, config)?;
-            // No chain has so many layers that an id doesn't fit.
+            // Every chain has so few layers that each id fits.
             Ok(Layer::Bulkhead(u16::try_from(id).unwrap_or(u16::MAX)))
         }
         LayerSpec::Fallback { catch, value } => Ok(Layer::Fallback { catch, value }),

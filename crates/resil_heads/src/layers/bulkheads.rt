@@ -19,7 +19,7 @@ use resil_registry::{Registry, RegistryError};
 use std::alloc::Global;
 use toml::{Table, Value};
 
-/// The permits of a bulkhead where a head names no number (Resilience4j user guide, Bulkhead, `maxConcurrentCalls`).
+/// The permits of a bulkhead if a head names no number (Resilience4j user guide, Bulkhead, `maxConcurrentCalls`).
 pub const DEFAULT_PERMITS: u16 = 25;
 
 /// What a head says of a configuration.
@@ -31,7 +31,7 @@ pub(crate) struct ConfigSpec<'a> {
     pub permits: u16,
 }
 
-/// The table of configurations, if there is one. Errors: `BadValue` where it isn't a table.
+/// The table of configurations, if there is one. Errors: `BadValue` if it isn't a table.
 pub(crate) fn permits_in<'a>(head: &'a Table) -> Result<Option<&'a Table>, HeadFault>
     ensures { GivesBy (λ permits. option_map_or (λ table. table_view table.now) permits no_members) result (permits_in (table_view head.now)) }
 {
@@ -48,8 +48,8 @@ fn parse_permits(value: &Value) -> Result<u16, HeadError>
     u16::try_from(parse_integer(value)?).map_err(|_| HeadError::BadValue)
 }
 
-/// The configurations of a head, in byte order of their names. Errors: `BadValue` for the first
-/// value that is no number of permits; `Memory`.
+/// The configurations of a head, in byte order of their names. Errors: `BadValue` for the first value that isn't a number of permits;
+/// `Memory`.
 #[tactic(auto, using(crate::proofs::LayerLaws::each_turn))]
 pub(crate) fn parse_configs<'a>(
     alloc: Global,
@@ -73,7 +73,7 @@ pub(crate) fn parse_configs<'a>(
     Ok(said)
 }
 
-/// The error of a head of which a registry refuses a part.
+/// The error of a head if a registry refuses a part of it.
 pub fn registry_error(why: RegistryError) -> HeadError
     ensures { result ≡ registry_error why }
 {
@@ -129,7 +129,7 @@ pub(crate) fn obtained(
     }
 }
 
-/// The law of byte order: a table has its members in byte order of their keys. Its contract is what it is for.
+/// The law of byte order: a table has its members in byte order of their keys. Only its contract is used.
 pub fn byte_order_is_of_members(table: &Table)
     ensures { AreInByteOrder (table_view table.now) }
 {

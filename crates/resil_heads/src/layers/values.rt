@@ -1,8 +1,8 @@
 //! What the layers of a head say: the kind of each, the keys that it may have and those that it needs, and the values at them, each
 //! of its kind and in its range. Nothing is built of the layers yet.
 //!
-//! Each stage goes over all layers before the next one begins: first their kinds, then the backoffs of the retries, then keys that
-//! aren't known, then required keys that are missing, then values.
+//! Each stage goes over all layers before the next one begins: first their kinds, then the backoffs of the retries, then unknown
+//! keys, then required keys that are missing, then values.
 
 ghost use Rattle.std.specs.Prelude.{◌≡◌, codes, map};
 ghost use Rattle.toml.specs.View.{table_view};
@@ -43,7 +43,7 @@ const RETRY_RESULT: Key = Key::Optional("retry_result", Form::ResultTest);
 
 const FAIL_AFTER_MAX: Key = Key::Optional("fail_after_max", Form::Flag);
 
-// The keys of a layer of no kind that is known.
+// The keys of a layer of unknown kind.
 const LAYER_KEYS: &[Key] = &[KIND];
 
 // The keys of a retry whose waits don't grow.
@@ -87,13 +87,13 @@ const FALLBACK_KEYS: &[Key] = &[
     IGNORE,
 ];
 
-// The attempts of a retry where a head names none (Resilience4j user guide, Retry, `maxAttempts`).
+// The attempts of a retry if a head names none (Resilience4j user guide, Retry, `maxAttempts`).
 const DEFAULT_ATTEMPTS: u32 = 3;
 
-// The first wait of a retry where a head names none, in milliseconds (Resilience4j user guide, Retry, `waitDuration`).
+// The first wait of a retry if a head names none, in milliseconds (Resilience4j user guide, Retry, `waitDuration`).
 const DEFAULT_INTERVAL: u64 = 500;
 
-// The multiplier of an exponential interval where a head names none: three halves (Resilience4j user guide, Retry, interval functions).
+// The multiplier of an exponential interval if a head names none: three halves (Resilience4j user guide, Retry, interval functions).
 const DEFAULT_MULTIPLIER: (u32, u32) = (3, 2);
 
 /// The kind of a layer.
@@ -132,7 +132,7 @@ pub(crate) enum IntervalSpec {
 /// What a head says of a retry.
 #[derive(Drop)]
 pub(crate) struct RetrySpec {
-    /// The greatest number of attempts. The first call is one of them.
+    /// The maximum number of attempts. The first call is one of them.
     pub attempts: u32,
     /// How long to wait after each attempt.
     pub interval: IntervalSpec,
@@ -161,20 +161,20 @@ pub(crate) enum LayerSpec<'a> {
     },
 }
 
-/// A stage of the checks of layers, in their order. Values come behind them.
+/// A stage of the checks of layers, in their order. The values come after these stages.
 #[derive(Clone, Copy)]
 pub(crate) enum Stage {
-    /// Each layer has a kind that is known.
+    /// Each layer has a known kind.
     Kind,
-    /// Each retry has a backoff that is known, or none.
+    /// Each retry has a known backoff, or none.
     Backoff,
-    /// Each key is one that such a layer may have.
+    /// Each layer has only keys that one of its kind may have.
     Known,
-    /// Each key is there that such a layer needs.
+    /// Each layer has the keys that one of its kind needs.
     Required,
 }
 
-// The kind of a layer. Errors: `MissingKey` where it has none, `BadValue` where it is unknown.
+// The kind of a layer. Errors: `MissingKey` if it has none, `BadValue` if it is unknown.
 fn kind_in(layer: &Table) -> Result<LayerKind, HeadFault>
     ensures { result ≡ kind_in (table_view layer.now) }
 {
@@ -186,7 +186,7 @@ fn kind_in(layer: &Table) -> Result<LayerKind, HeadFault>
     }
 }
 
-// The backoff of a retry, `Fixed` where it names none. Errors: `BadValue`.
+// The backoff of a retry, `Fixed` if it names none. Errors: `BadValue`.
 fn backoff_in(layer: &Table) -> Result<BackoffKind, HeadFault>
     ensures { result ≡ backoff_in (table_view layer.now) }
 {
@@ -214,7 +214,7 @@ fn keys_in(layer: &Table) -> Result<&'static [Key], HeadFault>
     })
 }
 
-/// What a layer is called, with its article, or nothing where its kind isn't known; and which keys it may have.
+/// What a layer is called, with its article, or nothing if its kind is unknown; and which keys it may have.
 pub fn title_and_keys(layer: &Table) -> (&'static str, &'static [Key]) {
     match (kind_in(layer), backoff_in(layer)) {
         (Ok(LayerKind::Retry), Ok(BackoffKind::Exponential)) => ("a retry", EXPONENTIAL_RETRY_KEYS),
@@ -284,7 +284,8 @@ fn parse_interval(backoff: BackoffKind, layer: &Table) -> Result<IntervalSpec, H
     }
 }
 
-// The kinds of error that a layer acts on: those at the key that lists them, but none that is ignored. Errors: `BadValue`, `Memory`.
+// The kinds of error that a layer acts on: those at the key that lists them, without those that are ignored. Errors: `BadValue`,
+// `Memory`.
 #[tactic(auto, unfolding(crate::specs::LayerValues::parse_error_test))]
 fn parse_error_test(
     alloc: Global,
@@ -317,7 +318,7 @@ fn parse_retry(alloc: Global, backoff: BackoffKind, layer: &Table) -> Result<Ret
     })
 }
 
-// The values of a bulkhead. Errors: `MissingKey` where it has no name, `BadValue`.
+// The values of a bulkhead. Errors: `MissingKey` if it has no name, `BadValue`.
 #[tactic(auto, unfolding(crate::specs::LayerValues::parse_bulkhead))]
 fn parse_bulkhead<'a>(layer: &'a Table) -> Result<LayerSpec<'a>, HeadFault>
     ensures { result ≡ parse_bulkhead (table_view layer.now) }
@@ -327,7 +328,7 @@ fn parse_bulkhead<'a>(layer: &'a Table) -> Result<LayerSpec<'a>, HeadFault>
     Ok(LayerSpec::Bulkhead { name, config })
 }
 
-// The values of a fallback. Errors: `MissingKey` where it has no value, `BadValue`, `Memory`.
+// The values of a fallback. Errors: `MissingKey` if it has no value, `BadValue`, `Memory`.
 #[tactic(auto, unfolding(crate::specs::LayerValues::parse_fallback))]
 fn parse_fallback<'a>(alloc: Global, layer: &'a Table) -> Result<LayerSpec<'a>, HeadFault>
     ensures { Gives result (parse_fallback (table_view layer.now)) }
@@ -348,7 +349,7 @@ fn parse_layer<'a>(alloc: Global, layer: &'a Table) -> Result<LayerSpec<'a>, Hea
     }
 }
 
-// What all layers say. Errors: that of the first layer that has one; `Memory`.
+// What all layers say. Errors: that of the first layer with an error; `Memory`.
 #[tactic(auto, using(crate::proofs::LayerLaws::after_none, crate::proofs::LayerLaws::each_map, crate::proofs::LayerLaws::each_next))]
 fn parse_layers<'a>(alloc: Global, layers: &[&'a Table]) -> Result<Vec<LayerSpec<'a>>, HeadFault>
     ensures { GivesBy (λ said. said.items) result (each parse_layer (map (λ layer. table_view layer.now) layers.now)) }
@@ -363,11 +364,11 @@ fn parse_layers<'a>(alloc: Global, layers: &[&'a Table]) -> Result<Vec<LayerSpec
     Ok(said)
 }
 
-/// The layers that a head of these keys requests, innermost first.
+/// The layers that a head of these keys asks for, innermost first.
 ///
 /// # Errors
 ///
-/// `BadValue` where `layer` isn't an array of tables; then as the stages go. `Memory` may come at any step.
+/// `BadValue` if `layer` isn't an array of tables; then in the order of the stages. `Memory` may come at any step.
 pub(crate) fn requested_layers<'a>(
     alloc: Global,
     keys: &[Key],

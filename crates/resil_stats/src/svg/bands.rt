@@ -107,7 +107,7 @@ fn write_refused(draft: &mut Draft, sheet: &Sheet) {
 }
 
 /// The top of the scale of the jobs that wait, and whether the capacity is in sight. A capacity above four times the most jobs that wait is
-/// out of sight, and the scale then goes up to twice that number. If a height is asked for, a capacity above it is out of sight.
+/// out of sight, and the scale then goes up to twice that number. If a height is given, a capacity above it is out of sight.
 pub(crate) fn waiting_scale(picture: &Picture) -> (usize, bool) {
     let (capacity, most) = (picture.limits.queue() as usize, picture.stats.most.waiting);
     match picture.heights.waiting {
@@ -118,7 +118,7 @@ pub(crate) fn waiting_scale(picture: &Picture) -> (usize, bool) {
 }
 
 /// The top of the scale of the workers, and whether the maximum size is in sight. One above 64 and above four times the most workers is out
-/// of sight, and the scale then goes up to twice that number. If a height is asked for, one above it is out of sight.
+/// of sight, and the scale then goes up to twice that number. If a height is given, one above it is out of sight.
 pub(crate) fn workers_scale(picture: &Picture) -> (usize, bool) {
     let (_, greatest) = greatest_sizes(picture);
     let most = picture.stats.most.workers;

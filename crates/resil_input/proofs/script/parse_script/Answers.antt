@@ -6,7 +6,7 @@ use Rattle.resil_input.specs.OutcomeText.{parse_outcome}
 use Rattle.resil_input.specs.Script.{all_some, split_items}
 use Rattle.resil_input.proofs.script.parse_script.Goals as goal
 
--- the script of one outcome, where there is one
+-- the script of one outcome, if there is one
 script-of_one : (outcome : Option Outcome) (script : Option (List Outcome)) → MatchOption outcome (script ≡ None) (λ only. IsSomeAnd script (λ outcomes. outcomes ≡ only ∷ [])) → script ≡ all_some (outcome ∷ [])
 script-of_one None script h = h
 script-of_one (Some only) None h = absurd h

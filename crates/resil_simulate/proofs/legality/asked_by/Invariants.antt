@@ -3,7 +3,7 @@ use Rattle.resil_jdk.specs.Admission.{IsLegal}
 use Rattle.resil_jdk.specs.Limits.{AreJdkLimits}
 use Rattle.resil_simulate.proofs.legality.asked_by.Given as goal
 
--- what the events so far ask for, which any pool has that has all of them
+-- the sizes that the events so far need; any pool that has all these events has them
 abbrev pub invariant-loop-event : goal.invariant-loop-event
 invariant-loop-event l = record {
   tally : AreTallied (take l.event-index l.events) l.tally;

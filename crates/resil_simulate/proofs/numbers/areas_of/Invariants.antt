@@ -3,7 +3,7 @@ use Rattle.resil_jdk.specs.History.{workers}
 use Rattle.resil_stats.specs.Stats.{IsJdkLoadAfter}
 use Rattle.resil_simulate.proofs.numbers.areas_of.Given as goal
 
--- the load after the events so far, and what ran and was there up to the last one, and up to the last finish
+-- the load after the events so far, and the time of jobs and workers up to the last one, and up to the last finish
 abbrev pub invariant-loop-index : goal.invariant-loop-index
 invariant-loop-index l = record {
   load : IsJdkLoadAfter (take l.index l.events) l.load;
