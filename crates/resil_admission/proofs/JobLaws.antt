@@ -50,7 +50,7 @@ pub jobs-kept : (rows : List Row) (later : List KeptView) → jobs_of (map kept_
 jobs-kept [] later = refl
 jobs-kept (row ∷ rows) later = ap (λ (jobs : List Accepted). job_of_row row ∷ jobs) (jobs-kept rows later)
 
--- which jobs weren't picked yet: with more behind them, with others behind the same, and with one of an id in the place of another of that id
+-- which jobs weren't picked yet: with more after them, with others after the same, and with a job of an id instead of another of that id
 pub unpicked-push : (kept more : List KeptView) (x : Id) → unpicked_in kept x ≡ true → unpicked_in (kept ++ more) x ≡ true
 unpicked-push [] more x is = absurd (cc is)
 unpicked-push (k ∷ kept) more x is = grind (arith, unpicked-push kept more x, is)
@@ -250,7 +250,7 @@ among-at id (x ∷ ids) = grind (arith, among-at id ids)
 pub nowhere : (id : Id) (ids : List Id) → position (is_same_id id) ids ≡ None → is_among id ids ≡ false
 nowhere id ids none = among-at id ids ∙ grind (arith, common_steps, none)
 
--- a new id stands behind the others
+-- a new id is after the others
 pub position-last : (id x : Id) (ids : List Id) → is_among id ids ≡ false → position (is_same_id x) (ids ++ id ∷ []) ≡ cond (is_same_id id x) (Some (length ids)) (position (is_same_id x) ids)
 position-last id x ids new = go (is_same_id x id) refl
   where

@@ -1,4 +1,4 @@
--- Where there are no permits none is ever free, so no try takes one and none is contended.
+-- If there are no permits, none is ever free, so no try takes one and none is contended.
 use Rattle.std.proofs.Common.{◌≡◌, ◌≢◌, ℕ, ◌<◌, List, [], ◌∷◌, length, ap, sym, ◌∙◌, subst, arith}
 use mathlib.Core.List.{IsPrefix}
 use Rattle.resil_permit.specs.declared.event.PermitEvent.{PermitEvent}

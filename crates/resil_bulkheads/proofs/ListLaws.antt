@@ -24,7 +24,7 @@ AllZip-by R S by [] (y ∷ ys) all = absurd all
 AllZip-by R S by (x ∷ xs) [] all = absurd all
 AllZip-by R S by (x ∷ xs) (y ∷ ys) all = (by x y all.0, AllZip-by R S by xs ys all.1)
 
--- one item more on both sides, of which the left one is the next of a list
+-- one more item on both sides; the left one is the next of a list
 pub AllZip-next : {A B C : Type 0} (R : A → B → Type 0) (f : C → A) (xs : List C) (i : ℕ) (x : C) (ys new : List B) (y : B) → i < length xs → x ≡ get_or xs i x
     → new ≡ ys ++ y ∷ [] → AllZip R (map f (take i xs)) ys → R (f x) y → AllZip R (map f (take (i + 1) xs)) new
 AllZip-next R f xs i x ys new y within is last all one =

@@ -22,7 +22,7 @@ module _ {T S : Type 0} (CanCall : S → Type 0) (IsAnswer : S → T → S → T
   unfolding CanTry
   CanTry-more left s can = can
 
-  -- the tries to come, from what is asked at each of them
+  -- the tries to come, by what holds at each of them
   pub CanTry-by : (J : ℕ → S → Type 0) → ((left : ℕ) (s : S) → J (suc left) s → CanCall s)
       → ((left : ℕ) (s : S) (answer : T) (next : S) → J (suc (suc left)) s → IsAnswer s answer next → (more : ℕ) × HasRoom next (1 + more))
       → ((left : ℕ) (s : S) (answer : T) (next : S) (wait : ℕ) (later : S) → J (suc (suc left)) s → IsAnswer s answer next → IsPaused next wait later → J (suc left) later)

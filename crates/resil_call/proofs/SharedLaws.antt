@@ -39,7 +39,7 @@ module _ {T C P : Type 0} (CanCall : C → Type 0) (IsAnswer : C → T → C →
       let left_over : suc (suc n) - 1 + j.1.0 ≡ 1 + (n + j.1.0) = omega arith in
       subst (λ p. HasRoom p (1 + (n + j.1.0))) (sym (called x answer y answered).2) (subst (HasRoom x.pause.now) left_over j.1.1)
 
-  -- so many tries are possible where the call can be made and there is room for the pauses
+  -- this many tries are possible if the call can be made and there is room for the pauses
   pub CanTry-of_both : (left : ℕ) (x : CallAndPause C P) → CanCall x.call.now → (more : ℕ) × HasRoom x.pause.now (left - 1 + more)
       → CanTry (CanCallAt (λ (lent : MutBor (CallAndPause C P)). CanCall lent.now.call.now)) (IsAnswerAt AnswersBoth) (λ x more. HasRoom x.pause.now more) PausesBoth left x
   CanTry-of_both left x can some =

@@ -14,7 +14,7 @@ Unlimited = λ _ _ allowed _. IsTrue allowed
 abbrev pub IsSpent : WaitBudget → ℕ → Bool → WaitBudget → Type 0
 IsSpent x milliseconds allowed y = (IsTrue allowed ↔ (milliseconds ≤ x.0)) × (y.0 ≡ cond allowed (x.0 - milliseconds) x.0)
 
--- by what the clock said a wait of so many milliseconds may begin exactly if it ends in time, and none if the clock couldn't be read
+-- by what the clock said, a wait of `milliseconds` may begin exactly if it ends in time, and none if the clock couldn't be read
 abbrev pub IsInTimeBy : ℕ → Instant → ℕ → Option Instant → Bool → Type 0
 IsInTimeBy length start milliseconds None allowed = allowed ≡ false
 IsInTimeBy length start milliseconds (Some now) allowed = IsTrue allowed ↔ (instant_nanos now - instant_nanos start + milliseconds * 1000000 ≤ length)

@@ -8,7 +8,7 @@ use Rattle.resil_input.specs.CsvTable.{ArePlain, IsPlain}
 use Rattle.resil_input.proofs.PlainLaws.{IsPlain-append, IsPlain-outcome_text, IsPlain_number}
 use Rattle.resil_chain.specs.RunFields.{answer_letter, asked_item, items_text, run_fields}
 
--- the text of items, of which each but the first has a semicolon before it
+-- the text of items; each but the first has a semicolon before it
 pub items_text_flat : {X : Type 0} (text_of : X → List ℕ) (x : X) (xs : List X) → items_text (map text_of (x ∷ xs)) ≡ text_of x ++ flat_map (λ y. 59 ∷ text_of y) xs
 items_text_flat text_of x [] = sym (append-nil (text_of x))
 items_text_flat text_of x (y ∷ ys) = ap (λ (rest : List ℕ). text_of x ++ 59 ∷ rest) (items_text_flat text_of y ys)

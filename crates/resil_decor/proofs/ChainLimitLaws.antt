@@ -47,7 +47,7 @@ max_calls-reverse [] = refl
 max_calls-reverse (x ∷ xs) =
     ap max_calls (reverse-append (x ∷ []) xs) ∙ max_calls-last (reverse xs) x ∙ rw (max_calls-reverse xs) refl
 
--- no bulkhead is asked more often than all calls are made
+-- a bulkhead gets at most as many requests as there are calls
 pub max_permit_requests-le : (layers : List Layer) → 1 ≤ max_calls layers → max_permit_requests layers ≤ length layers * max_calls layers
 unfolding max_calls max_permit_requests
 max_permit_requests-le [] h = omega arith
@@ -95,7 +95,7 @@ pub max_permit_requests-fallback : (catch : ErrorTestView) (value : ℤ) (inside
 unfolding max_permit_requests
 max_permit_requests-fallback catch value inside = refl
 
--- so bulkheads are asked few times through a chain
+-- so bulkheads get few requests through a chain
 pub few_asked : (layers : List Layer) → IsChain layers → max_permit_requests (reverse layers) ≤ 8000
 few_asked layers chain =
     let same = max_calls-reverse layers in

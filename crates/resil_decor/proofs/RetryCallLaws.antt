@@ -20,7 +20,7 @@ use Rattle.resil_decor.proofs.ChainLimitLaws.{max_calls-cons, max_permit_request
 use Rattle.resil_decor.proofs.LayerCallLaws.{SoFar, SoFar-start, SoFar-again, IsCallThrough-stopped, IsCallThrough-exhausted}
 use Rattle.resil_decor.proofs.RunLogLaws.{HasWritten-none, HasWritten-both}
 
--- there is room for so many attempts around a call through layers
+-- there is room for this many attempts around a call through layers
 pub record RoomFor (inside : List Layer) (left : ℕ) (w : RunLogView) : Type 0 where
   pub some_call : 1 ≤ max_calls inside
   pub calls : w.calls + left * max_calls inside ≤ call_limit

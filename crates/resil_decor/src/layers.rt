@@ -14,7 +14,7 @@ use std::alloc::Global;
 use std::marker::Model;
 use std::sync::Arc;
 
-// Where layers are.
+// The place of layers.
 #[derive(Debug, Drop)]
 enum Place {
     // Nowhere: there are none.

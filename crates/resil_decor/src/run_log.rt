@@ -17,7 +17,7 @@ pub(crate) struct RunLog {
     written: Written,
 }
 
-// Where a run writes.
+// The place to which a run writes.
 #[derive(Drop)]
 enum Written {
     // If there is no room for a wait or an answer: the calls alone.

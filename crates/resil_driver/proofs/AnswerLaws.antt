@@ -27,7 +27,7 @@ refused-short : (words : RunOptions) (input : List ℕ) (why : Refusal) → Fits
 refused-short words input refusal.TooLong short h = absurd h
 refused-short words input why short h = (short, h)
 
--- What is put out for an error of `run` is an answer. Its input has these bytes, where the reader tells its own.
+-- The output for an error of `run` is an answer. Its input has these bytes, if the reader says which bytes it has.
 pub run_stopped : (words : RunOptions) (input : Option (List ℕ)) (bytes : List ℕ) (s : CommandError) (out : Output) → IfSome input (λ told. (bytes ≡ told) × FitsLimit told)
     → IsRunError (HasRun MayAnswerOnThreads words bytes (Err run_error.NoThread)) (IsRunRefusal MayAnswerOnThreads words bytes) s → IsErrorOutput s out → IsAnswerTo (Some (request.Run words)) input out
 run_stopped words input bytes error.Memory out whole h is = rw is refl

@@ -18,7 +18,7 @@ impl Answers for CountOf {
     type Output = u32;
 }
 
-/// What its worker lends it: the runtime, to sleep by, and the neighbour's bulkhead.
+/// What its worker lends it: the runtime, to sleep by, and the bulkhead of the dependency.
 impl<R: Wait + Clock> WorkAt<(&R, &Bulkhead)> for CountOf {
     fn run(self, (rt, bulkhead): &mut (&R, &Bulkhead)) -> u32 {
         let CountOf(item, after) = self;

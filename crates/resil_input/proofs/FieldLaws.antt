@@ -11,7 +11,7 @@ field-or_empty (field ∷ fields) (suc i) o d none e = field-or_empty fields i o
 field-or_empty fields i None d none e = cc (none, e)
 field-or_empty fields i (Some f) d none e = cc e
 
--- so many fields, from an index on
+-- this many fields, from an index on
 abbrev pub fields_from : ℕ → ℕ → List (List ℕ) → List (List ℕ)
 fields_from i zero fields = []
 fields_from i (suc n) fields = get_or fields i [] ∷ fields_from (suc i) n fields

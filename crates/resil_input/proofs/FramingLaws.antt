@@ -6,7 +6,7 @@ use Rattle.std.proofs.Math.Seq.{take-add}
 use Rattle.std.specs.List.{concat, IsFirstMatchOrLen}
 use Rattle.resil_input.specs.Framing.{cut_at_separator, is_separator, lines_of, onto_first, parts_of, with_prefix}
 
--- one more byte before the lines of a text, of which the first ends after `index`
+-- one more byte before the lines of a text; the first line ends after `index`
 longer : (byte : ℕ) (rest : List ℕ) (index : ℕ) → (0 < length rest → lines_of rest ≡ take (suc index) rest ∷ lines_of (drop (suc index) rest))
     → onto_first byte (lines_of rest) ≡ (byte ∷ take (suc index) rest) ∷ lines_of (drop (suc index) rest)
 unfolding lines_of

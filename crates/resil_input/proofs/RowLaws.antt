@@ -71,7 +71,7 @@ module _ {A Row : Type 0} (f : A → Option Row) where
   rows_before-none (x ∷ front) bad rest [] e none = cc e
   rows_before-none (x ∷ front) bad rest (row ∷ rows) e none = let row_of : f x ≡ Some row = cc e in rw row_of (ap (λ n. 1 + n) (rows_before-none front bad rest rows (cc e) none) ∙ omega arith)
 
--- a body with rows has no error but that memory runs out
+-- a body with rows has no error but being out of memory
 pub rows-exclude_errors : {Row : Type 0} (header : List (List ℕ)) (row_of : List (List ℕ) → Option Row) (body : List ℕ) (rows : List Row) (why : BodyError)
     → IsBody header row_of body rows → IsBodyError header row_of body why → why ≡ error.Memory
 rows-exclude_errors header row_of body rows error.Memory a h = refl
@@ -83,7 +83,7 @@ rows-exclude_errors header row_of body rows (error.BadRow position) a h =
     let some = rows_before-none (row_under header row_of) h.0 h.1 h.2 h.3 h.5 h.6 in
     absurd (omega (arith, length-append h.0 (h.1 ∷ h.2)))
 
--- a body has one error at most, beside that memory runs out
+-- a body has at most one error, besides being out of memory
 pub errors-unique : {Row : Type 0} (header : List (List ℕ)) (row_of : List (List ℕ) → Option Row) (body : List ℕ) (why other : BodyError)
     → IsBodyError header row_of body why → IsBodyError header row_of body other → why ≢ error.Memory → other ≢ error.Memory → why ≡ other
 errors-unique header row_of body error.BadHeader error.BadHeader a b m n = refl

@@ -12,12 +12,12 @@ use Rattle.resil_input.specs.OutcomeText.{parse_outcome}
 use Rattle.resil_input.proofs.OutcomeLaws.{option_map-some}
 use Rattle.resil_input.specs.Script.{all_some, split_items, parse_script}
 
--- the parts that a split has yet to give, of which it gave all once it is done
+-- the parts that a split has yet to give; it has given all once it is done
 abbrev pub parts_left : {X : Type 0} → (X → Bool) → Bool → List X → List (List X)
 parts_left p true rest = []
 parts_left p false rest = slice_split p rest
 
--- values, if they are all there, behind others
+-- values, if they are all there, after others
 abbrev pub behind : {A : Type 0} → List A → Option (List A) → Option (List A)
 behind front values = option_map (λ more. front ++ more) values
 
@@ -52,7 +52,7 @@ all_some-length (None ∷ values) all e = cc e
 all_some-length (Some value ∷ values) all e =
     option_map-some (λ rest. value ∷ rest) (all_some values) all e (λ rest some whole. omega (arith, all_some-length values rest some, ap length whole))
 
--- a script of all outcomes of a text, of which there is at least one
+-- a script of all outcomes of a text, which has at least one
 pub script-made : {E : Type 0} (made : Result (List Outcome) E) (outcomes : List Outcome) (text : List ℕ) → OkIff made (0 < length outcomes) outcomes
     → parse_script text ≡ Some outcomes → result_ok made ≡ parse_script text
 script-made (Ok script) outcomes text h e = ap Some h.1 ∙ sym e

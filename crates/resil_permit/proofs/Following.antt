@@ -18,7 +18,7 @@ use Rattle.resil_permit.proofs.Machines.{sound_start, sound_step, shown_refused,
 
 module _ (max c : ℕ) (m : Machine) {word : ℕ} {callers : List Caller} {x : Caller} (f : Follows max m word callers)
     (inside : c < 65536) (read : x ≡ get_or callers c x) where
-  -- what was read at a place is what stands there
+  -- what was read at a place is what is there
   here : Matches m c x
   here =
       let all = f.all_there in

@@ -18,7 +18,7 @@ events_of_seat-other s events e apart = grind (arith, events_of_seat-append s ev
 pub copies_of-cons : (s x : ℕ) (multiset : List ℕ) → copies_of s (x ∷ multiset) ≡ cond (x == s) 1 0 + copies_of s multiset
 copies_of-cons s x multiset = sum_by-append (λ y. cond (y == s) 1 0) (x ∷ []) multiset ∙ ap (λ n. n + copies_of s multiset) (zero-add (cond (x == s) 1 0))
 
--- with one of a seat less, that seat stands there once less often, and each other one as often
+-- without one entry of a seat, that seat is there once less, and each other seat as often
 pub copies_of-without_one : (s t : ℕ) (multiset : List ℕ) → 0 < copies_of t multiset → copies_of s (without_one t multiset) + cond (t == s) 1 0 ≡ copies_of s multiset
 copies_of-without_one s t [] h = absurd (omega arith)
 copies_of-without_one s t (x ∷ xs) h =

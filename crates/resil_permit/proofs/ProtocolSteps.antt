@@ -1,4 +1,4 @@
--- Each kind of step on the permit word keeps the rule, and tells what it says.
+-- Each kind of step on the permit word keeps the rule, and shows what it says.
 use Rattle.std.proofs.Common.{◌≡◌, ◌≢◌, ℕ, ◌+◌, ◌-◌, ◌%◌, ◌^◌, ◌<◌, ◌≤◌, eqb, true, List, [], ◌∷◌, ◌++◌, length, get_or, refl, sym, ap, ◌∙◌, subst, arith, eq-eqb, ne_eqb}
 use mathlib.Core.Option.{none, some}
 use mathlib.Core.Logic.{dite}
@@ -33,8 +33,8 @@ use Rattle.resil_permit.proofs.ProtocolRules.{live_at, counts_of_live, same, mov
 unfoldable pub opens : (max : ℕ) → max ≤ 65535 → Rule max (opening (max ∷ []) [] (first_pass_view max))
 opens max few = record { log = []; few = few; one_word = refl; counts = omega arith; shared = log_opens (Fits max []) (first_pass_view max) refl tt (live_whole [] refl refl) }
 
--- The step of the pass at this index, which leaves this word, keeps the rule and tells this. The machine that the table stood for can make these steps, and
--- after them it is the one that the table stands for
+-- The step of the pass at this index, which leaves this word, keeps the rule and shows this. The machine that the table represented can
+-- make these steps, and after them it is the one that the table represents
 abbrev pub Goes : (max : ℕ) (s : Table) → Rule max s → ℕ → PassSeat → ℕ → (PassSeat → Type 0) → List Step → Type 0
 Goes max s k id me left Told next =
     CanMakeAll (machine_of k.log s) next × (w : View) × (after : Rule max (stepped s 0 left id me.1 w keeps)) × Told (w, me.1) × (machine_of after.log (stepped s 0 left id me.1 w keeps) ≡ after_steps (machine_of k.log s) next)
@@ -81,7 +81,7 @@ ending_join max slots id me number mine other joining = seeing max id me (AfterP
           ((sees_more IsLegal fits.live mine k.shared.legal fits.begins fits.all_own, fits.other_begins), fits.apart);
     })
 
--- the caller of a pass in the machine stands as the pass does
+-- the caller of a pass in the machine is in the state of the pass
 stood : (s : Table) (id : ℕ) (v : View) (p : Phase) → get_elem? s.views id ≡ some v → v.phase ≡ p → state_at (get_elem? s.views id) ≡ state_of p
 stood s id v p at is = ap state_at at ∙ ap state_of is
 
@@ -272,7 +272,7 @@ joins max id v other u idle idle' even clear s k at apart there =
       }) (record { nothing_seen = refl; even = omega arith; none_retired = omega arith });
     }
 
--- a pass that comes in has seen the whole log, of which no event is its own
+-- a pass that comes in has seen the whole log, and no event of the log is its own
 unfoldable pub entering : (max slots : ℕ) (s : Table) → Rule max s
     → (w : View) × Rule max (record { words = s.words; homes = s.homes; views = s.views ++ w ∷ [] }) × AfterNewPass (step slots 0 0 0 none) (first_pass_view max, []) (get_or s.words 0 0) (w, [])
 entering max slots s k =

@@ -25,7 +25,7 @@ pub same_machine : (word word' : ℕ) (callers callers' : ℕ → CallerState) (
 same_machine word word' callers callers' events words each = λ i. machine (words i) (λ c. each c i) events
 
 module _ (views : List View) (id : ℕ) (v w : View) (at : get_elem? views id ≡ some v) where
-  -- the pass stands as it stood
+  -- the pass is as it was
   pub callers_still : state_of w.phase ≡ state_of v.phase → (c : ℕ) → callers_of (set views id w) c ≡ callers_of views c
   callers_still same c =
       let here = set_here views id w (place_within views id v at) in dite (ℕ_discrete c id) (λ is. cc) (λ not. ap state_at (set_else views id c w not))

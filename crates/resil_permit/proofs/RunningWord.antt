@@ -12,7 +12,7 @@ use Rattle.resil_permit.proofs.BetweenSteps.{log_is_history, history_is_log}
 use Rattle.resil_permit.proofs.ProtocolSteps.{Advances, opens, splits, joins, entering}
 use Rattle.resil_permit.proofs.RunningMachines.{callers_of, same_machine, callers_still, callers_longer}
 
--- a table stands after these steps if it does so by the rule's log
+-- a table represents a state after these steps if it does so by the rule's log
 stands_after : (max : ℕ) (s : Table) (steps : List Step) (k : Rule max s) → CanMakeAll (start max) steps → machine_of k.log s ≡ after_steps (start max) steps → StandsAfter Rule max s steps
 stands_after max s steps k can is = record { rule = k; history = k.log; longest = log_is_history max s.words s.views k; can_make = can; machine = is }
 

@@ -62,7 +62,7 @@ module _ (max : ℕ) (log : List PermitEvent) (keeping : List ℕ) (all : IsTall
   pass_has v Splitting k = no_events_has k.no_events
   pass_has v Joined k = none_has k.even k.none_retired
 
--- what all passes have of a multiset of seats is the multiset, if no other seat stands in it
+-- what all passes have of a multiset of seats is the multiset, if it has no other seat
 summed_up : (views : List View) (part : View → ℕ) (multiset : List ℕ) → ((i : ℕ) (v : View) → get_elem? views i ≡ some v → part v ≡ copies_of i multiset)
     → ((i : ℕ) → length views ≤ i → 0 ≡ copies_of i multiset) → sum_by part views ≡ length multiset
 summed_up views part multiset each others =

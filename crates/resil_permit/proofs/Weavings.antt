@@ -33,7 +33,7 @@ events_after_shown m c show.Loaded = sym (append-nil m.events)
 events_after_shown m c show.Lost = sym (append-nil m.events)
 events_after_shown m c s = refl
 
--- the first n steps were made, and the running machine and the lists stand as they leave them
+-- the first n steps were made, and the running machine and the lists are as these steps leave them
 pub record IsWovenSoFar (max : ℕ) (steps : List Step) (n word : ℕ) (callers : List Caller) (shown : List Shown) (events : List PermitEvent) : Type 0 where
   pub made : CanMakeAll (start max) (take n steps)
   pub follows : Follows max (after_steps (start max) (take n steps)) word callers
@@ -92,7 +92,7 @@ not_both m step why can is = is
 none_stuck : (max : ℕ) (steps : List Step) (why : StepError) (place : ℕ) → CanMakeAll (start max) steps → IsFirstStuck max steps (λ m step. IsStuck m step why) place → ⊥
 none_stuck max steps why place all f = not_both (after_steps (start max) f.front) f.step why (can_make_there (start max) f.front f.step f.back (subst (CanMakeAll (start max)) f.parts all)) f.is_stuck
 
--- if all steps can be made, memory alone is wanting
+-- if all steps can be made, only memory can be lacking
 pub memory_alone : (max : ℕ) (steps : List Step) (e : WeaveError) → max ≤ 65535 → CanMakeAll (start max) steps → IsRefusedFor max steps e → e ≡ Memory
 memory_alone max steps Memory few all is = refl
 memory_alone max steps TooManyPermits few all is = absurd (omega arith)

@@ -30,7 +30,7 @@ is_refused Taken = false
 is_refused Full = true
 is_refused Contended = true
 
--- Before a last try that came to this, of permits that are so many, the pass has waited by a clock: as long as some of the time was left,
--- and no longer. If there are no permits at all, a wait would be in vain.
+-- Before a last try with this result, of this number of permits, the pass has waited by a clock: as long as some of the time was left, and
+-- no longer. If there are no permits at all, a wait would be in vain.
 abbrev pub HasWaitedBy : Readings → ℕ → ℕ → PassView → PassView → Attempt → Type 0
 HasWaitedBy HasSaid longest max p waited attempt = clock.HasWaited HasSaid longest IsRefusedTry (max ≡ 0) p waited (is_refused attempt)

@@ -109,8 +109,8 @@ event_shown c show.Gave = Some (Gave c)
 event_shown c show.Retired = Some (Retired c)
 event_shown c show.Raised = Some (Raised c)
 
--- in whatever order the steps of any callers come, the history is legal, the word and the holders add up to the permits in use, and no more than max
--- are in use
+-- in any order of the steps of any callers, the history is legal, the word and the holders add up to the permits in use, and no more than
+-- max are in use
 abbrev pub EveryInterleaving : Type 0
 EveryInterleaving = (max : ℕ) (steps : List Step) → CanMakeAll (start max) steps
     → let m = after_steps (start max) steps in IsLegal max m.events × (m.word + length (holders m.events) ≡ in_use_count max m.events) × (in_use_count max m.events ≤ max)

@@ -1,4 +1,4 @@
--- What callers were told agrees with the history and the results of their pool's machine.
+-- The answers to callers agree with the history and the results of their pool's machine.
 use Rattle.std.proofs.Common.{◌≡◌, ◌-◌, ℕ, Bool, cond, List, [], ◌∷◌, ◌++◌, map, length, refl, sym, ap, ◌∙◌, subst, arith, append_assoc, append-nil, eq-eqb, Option, Some}
 use Rattle.std.specs.Prelude.{All, Contains, option_map, slice_get}
 use Rattle.std.specs.List.{cons_option}
@@ -17,12 +17,12 @@ use Rattle.resil_pool.proofs.MachineCalls.{filed-with_run}
 use Rattle.resil_pool.proofs.Submissions.{submissions_of_entries}
 use Rattle.resil_pool.proofs.JoinedCallers.{still_submissions}
 
--- the plan of an accepted job stands on the receipt of its submission
+-- the plan of an accepted job is on the receipt of its submission
 record EntryHasReceipt (lists : List (List Receipt)) (entry : Id × Option PlanView) : Type 0 where
   pub numbered : HasNumberedReceipt lists entry.0
   pub plan : entry.1 ≡ Some numbered.receipt.plan
 
--- what stands in a log after these is the submission of the receipt after theirs
+-- what is in a log after these is the submission of the receipt after theirs
 record IsReceiptAfter (caller : ℕ) (receipts : List Receipt) (front : List LoggedEvent) (n : LoggedEvent) : Type 0 where
   pub first : List Receipt
   pub receipt : Receipt
@@ -50,7 +50,7 @@ number_of (note.Event (Submit id reply)) = id.number
 number_of _ = 0
 
 module _ (limits : Sizes) (callers : ℕ) (log : List LoggedEvent) (lists : List (List Receipt)) (many : length lists ≡ callers) (logged : AreLogged log lists) (legal : IsLegal limits (events_in log)) (names : AllNameCallers callers (events_in log)) where
-  -- a submission in the log stands on a receipt of the caller that it names, at its number
+  -- a submission in the log is on a receipt of the caller that it names, at its number
   one_entry : (before after : List LoggedEvent) (n : LoggedEvent) (id : Id) (reply : Reply) → log ≡ before ++ n ∷ after → n.note ≡ note.Event (Submit id reply) → EntryHasReceipt lists (id, n.payload.plan)
   one_entry before after n id reply is event =
       let events : events_in log ≡ events_in before ++ Submit id reply ∷ events_in after =

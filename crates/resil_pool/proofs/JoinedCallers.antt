@@ -27,7 +27,7 @@ pub record IsJoined (seen : List LoggedEvent) (c : CallerView) : Type 0 where
   pub begins : IsPrefix c.seen seen
   pub own : own_in c.number seen ≡ map (submission_of c.number) c.receipts
 
--- the callers with the numbers from 1 to so many are out, in order
+-- the callers with the numbers from 1 to this one are out, in order
 pub record SoFar (initial callers : List CallerView) (below : ℕ) (seen : List LoggedEvent) (lists : List (List Receipt)) : Type 0 where
   pub done : List CallerView
   pub same : IsPermutation initial (callers ++ done)

@@ -1,4 +1,4 @@
--- Lemmas on logs, and what the lock's log tells a seat of the jobs that its own turns picked and ended.
+-- Lemmas on logs, and what the lock's log shows a seat of the jobs that its own turns picked and ended.
 use Rattle.std.proofs.Common.{◌≡◌, ◌+◌, ℕ, List, ◌++◌, ap, ◌∙◌, arith, ◌≤◌, ◌<◌, zero, suc, Bool, true, cond, [], ◌∷◌, take, drop, sym, subst, Some}
 use Rattle.std.proofs.lemmas.List.Elements.{filter-append, filter_map-append}
 use Rattle.std.specs.Prelude.{slice_get}

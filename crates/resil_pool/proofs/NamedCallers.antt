@@ -27,7 +27,7 @@ module _ (callers : ℕ) where
   closers_event_names count number (Submit id reply) first own = absurd (own.1 first)
   closers_event_names count number _ first own = tt
 
-  -- what a seat may write in a pool with so many callers names one of them, if it is a submission
+  -- what a seat may write in a pool with this many callers names one of them, if it is a submission
   pub written_names : (number : ℕ) (e : Event) → MayWrite callers number e → NamesCaller callers e
   written_names number (Submit id reply) own = let same = own.0 in let apart = own.1 in let high = own.2 in (positive id.caller (λ zero. apart (sym same ∙ zero)), omega arith)
     where

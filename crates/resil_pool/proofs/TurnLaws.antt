@@ -59,7 +59,7 @@ pub record Turned (old : LockSeatState) (m : MachineView) (entries : List Logged
 pub either : {entries a b : List LoggedEvent} (P : List LoggedEvent → Type 0) → P a → P b → (entries ≡ a) ⊎ (entries ≡ b) → P entries
 either P one other is = ⊎_elim (λ e. subst P (sym e) one) (λ e. subst P (sym e) other) is
 
--- what the lock tells a seat that takes it
+-- what the lock shows a seat that takes it
 abbrev pub Took : TableId → TableId → LockSeatState → LockSeatState → PoolState → Type 0
 Took table table' old me state = record {
   source : table' ≡ table;
@@ -189,7 +189,7 @@ gives {old} {me} {m} {m'} {entries} source a =
       own = subst (λ (v : View). IsNumbering MayHaveWritten → (j : ℕ) → j ≢ v.number → filter (is_own j) entries ≡ []) same (λ _ j apart. others-own old.0.key.callers old.0.number j apart entries a.wrote.may);
     }
 
--- what it tells
+-- what it shows
 pub turned : {old me new : LockSeatState} {m m' : MachineView} {entries : List LoggedEvent} {table table' : TableId} → Acted old m me entries m' → record { source : table' ≡ table; slot : new.1 ≡ []; seen : new.0 ≡ left_view me.0 entries } → Turned old m entries m' new
 turned a r = record { me = _; acted = a; slot = r.slot; left = r.seen }
 

@@ -1,4 +1,4 @@
--- What a worker's turns tell of the log that its seat has seen, and what all its rounds leave.
+-- What a worker's turns show of the log that its seat has seen, and what all its rounds leave.
 use Rattle.std.proofs.Common.{◌≡◌, ⊎_elim, inl, inr, ℕ, get_or, Bool, true, false, not, cond, List, [], ◌∷◌, ◌++◌, map, filter, refl, sym, ap, ◌∙◌, subst, append-nil, append_assoc, arith, Option, Some, None}
 use Rattle.std.specs.Prelude.{option_map, find, All, Contains}
 use Rattle.std.specs.Option.{option_or}

@@ -20,8 +20,8 @@ pub struct Script {
     outcomes: Outcomes,
 }
 
-// Where the outcomes of a script are. Most scripts have one outcome, which is stored inline, so copying such a script doesn't allocate.
-// Copying any other allocates memory for all outcomes, which several owners can then share; a copy of that copy is one more owner.
+// The outcomes of a script. Most scripts have one outcome, which is stored inline, so copying such a script doesn't allocate. Copying any
+// other allocates memory for all outcomes, which several owners can then share; a copy of that copy is one more owner.
 #[derive(Debug, Drop)]
 enum Outcomes {
     // The only one.

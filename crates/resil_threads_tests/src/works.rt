@@ -18,7 +18,7 @@ use std::thread::Threads;
 #[derive(Drop)]
 struct Again(u32);
 
-/// Where jobs find their own pool.
+/// The place in which jobs find their own pool.
 #[derive(Drop)]
 struct Own<'a, R> {
     rt: &'a R,

@@ -131,8 +131,8 @@ behind_run rest = request_of (codes "resil" ∷ codes "run" ∷ rest)
 abbrev pub run_request : Bool → ℕ → Option Request
 run_request hold callers = Some (request.Run (record { hold = hold; callers = callers }))
 
--- The flag and the option of `run`: in either order, the number as a word of its own or behind `=`,
--- each at most once, and a number from 1 to 64.
+-- The flag and the option of `run`: in either order, the number as a word of its own or after `=`, each at most once, and a number from 1
+-- to 64.
 abbrev pub RunExamples : Type 0
 RunExamples = (behind_run [] ≡ run_request false 1)
     × (behind_run (codes "--hold" ∷ codes "--" ∷ []) ≡ run_request true 1)

@@ -1,4 +1,4 @@
--- The parts of a run: its callers at the start, what its report tells of its rows, and why it has none.
+-- The parts of a run: its callers at the start, what its report says of its rows, and why it has none.
 use Rattle.std.proofs.Common.{◌≡◌, ℕ, ◌+◌, ◌-◌, ◌<◌, List, [], map, length, get_or, refl, sym, ap, ◌∙◌, subst, arith}
 use Rattle.std.specs.Prelude.{All, Result}
 use Rattle.std.specs.List.{range_with_len}
@@ -27,7 +27,7 @@ use Rattle.resil_workers.proofs.RowLaws.{number_at}
 pub length-new_callers : (source : PoolId) (count : ℕ) → length (new_callers source count) ≡ count
 length-new_callers source count = length-map (range_with_len 1 count) (new_caller source) ∙ length-range_with_len 1 count
 
--- new callers are numbered, and have been told of nothing
+-- new callers are numbered, and have got no answer
 pub are-new : (source : PoolId) (count : ℕ) → AreCallers source (new_callers source count)
 are-new source count = record {
   sources = All-map (λ c. c.source ≡ source) (new_caller source) (range_with_len 1 count) (λ k d within. refl);
@@ -51,7 +51,7 @@ are-numbered source callers count are many = record {
 pub length-receipts : (callers : List CallerView) (receipts : List (List Receipt)) → AreReceiptsOf callers receipts → length receipts ≡ length callers
 length-receipts callers receipts of = ap length of.handed_in ∙ (length-map of.in_order (λ c. c.receipts) ∙ length_permutation callers of.in_order of.same)
 
--- what the callers were told of their rows stands on the receipts that they handed in
+-- the answers to the callers about their rows are on the receipts that they handed in
 pub are-plans : (rows : List JobRow) (callers : List CallerView) (receipts : List (List Receipt)) → ReceiptsMatchRows rows callers → AreReceiptsOf callers receipts → ArePlansOf rows receipts
 are-plans rows callers receipts told of caller low high =
     let many : length receipts ≡ length of.in_order = ap length of.handed_in ∙ length-map of.in_order (λ c. c.receipts) in

@@ -1,4 +1,4 @@
--- Rows that are submitted one after the other, and what their callers have been told.
+-- Rows that are submitted one after the other, and the answers that their callers have got.
 use Rattle.std.proofs.Common.{◌≡◌, ◌≢◌, ℕ, ◌+◌, ◌<◌, ◌≤◌, Bool, true, false, cond, List, [], ◌∷◌, ◌++◌, map, length, get_or, take, sym, ap, ◌∙◌, subst, arith, eq-eqb, ne_eqb, append-nil}
 use Rattle.std.specs.Prelude.{All, ◌==◌, filter}
 use Rattle.std.specs.List.{range_with_len}
@@ -36,7 +36,7 @@ callers-set source callers place old new are within here same = record {
       ∙ (are.numbered ∙ ap (range_with_len 1) (sym (length-set callers place new)));
 }
 
--- each caller has been told of its rows among the first so many
+-- each caller has the answers to its rows among these
 abbrev pub HaveToldOf : List JobRow → List CallerView → Type 0
 HaveToldOf rows callers = (place : ℕ) (d : CallerView) → place < length callers → plans_on_receipts (get_or callers place d) ≡ plans_of rows (place + 1)
 
@@ -64,7 +64,7 @@ number_at source callers place d are within =
     sym (get_or-map (λ (c : CallerView). c.number) callers place d) ∙ (ap (λ (ns : List ℕ). get_or ns place d.number) are.numbered
     ∙ (get_or-range_with_len 1 (length callers) place d.number within ∙ omega arith))
 
--- at the end each has been told of its rows among all
+-- at the end each has the answers to its rows among all
 pub all-told : (rows : List JobRow) (source : PoolId) (callers : List CallerView) (i : ℕ) → HaveToldOf (take i rows) callers → length rows ≤ i → AreCallers source callers → All (λ c. plans_on_receipts c ≡ plans_of rows c.number) callers
 all-told rows source callers i told end are place d within =
     let whole : take i rows ≡ rows = take_all i rows end in

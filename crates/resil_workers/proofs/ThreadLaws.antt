@@ -38,7 +38,7 @@ when_all X (Ok u) fine x = x
 when_all X (Err e) bad x =
     let no : true ≡ false = bad in absurd cc
 
--- a caller that had been told of nothing has been told of its rows
+-- a caller that had got no answer has the answers to its rows
 pub told-own : (rows given : List JobRow) (source : PoolId) (caller : CallerView) (sent : Submitted) → PromisesRowsOf rows source given caller → HasSubmitted given caller sent → is_err sent.outcome ≡ false
     → plans_on_receipts sent.caller ≡ plans_of rows sent.caller.number
 told-own rows given source caller sent from is fine =

@@ -32,7 +32,7 @@ module _ {E K : Type 0} {is_own : ℕ → E → Bool} {key : K} {index number : 
   }
 
   module _ (IsLegal : K → List E → Type 0) {log seen : List E} (live : IsLive is_own key log index number known seen) where
-    -- the number and the key that the seat has, in place of the rule's
+    -- the number and the key that the seat has, instead of the rule's
     in_own_words : (P : K → ℕ → Type 0) → P key index → P known number
     in_own_words P h = subst (λ (y : K × ℕ). P y.0 y.1) (λ i. (sym live.keyed i, sym live.numbered i)) h
 
@@ -128,7 +128,7 @@ module _ {E V : Type 0} {seen : V → List E} {IsLegal : List E → Type 0} {is_
             let far : j ≢ index = λ e. absurd (omega arith) in others j far ∙ k.no_others j (omega arith);
       }
 
-  -- a seat comes in behind all others
+  -- a seat comes in after all others
   pub log_enters : {Fits : ℕ → V → Type 0} {log : List E} {views : List V} → IsLogOf seen IsLegal is_own Fits log views → (new : V) → Fits (length views) new → IsLogOf seen IsLegal is_own Fits log (views ++ new ∷ [])
   log_enters {Fits} {log} {views} k new fits =
       let more : length (views ++ new ∷ []) ≡ length views + 1 = length-append views (new ∷ []) in
@@ -143,7 +143,7 @@ module _ {E V : Type 0} {seen : V → List E} {IsLegal : List E → Type 0} {is_
         no_others = λ j le. k.no_others j (omega arith);
       }
 
-  -- one seat is cut in two, of which the left one has seen what it had seen
+  -- one seat is cut in two; the left one has seen what it had seen
   pub log_splits : {Fits : ℕ → V → Type 0} {log : List E} {views : List V} → IsLogOf seen IsLegal is_own Fits log views → (index : ℕ) (v left right : V) → get_elem? views index ≡ some v → seen left ≡ seen v
       → Fits index left → Fits (length views) right → IsLogOf seen IsLegal is_own Fits log (set views index left ++ right ∷ [])
   log_splits {Fits} {log} {views} k index v left right at same mine new =

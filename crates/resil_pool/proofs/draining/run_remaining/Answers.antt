@@ -1,4 +1,4 @@
--- A run that is accepted is kept, and one more finish stands in the history.
+-- A run that is accepted is kept, and the history has one more finish.
 use Rattle.std.proofs.Common.{◌≡◌, true, false, refl, ◌∙◌, rules}
 use Rattle.resil_pool.proofs.RemainingLaws.{left_by_pick, ran_on, ran_one_more, is_out, picked_out, finished_out}
 use Rattle.resil_pool.proofs.draining.run_remaining.Goals as goal

@@ -10,7 +10,7 @@ use Rattle.resil_admission.specs.JobsInvariant.{jobs_of, jobs_kept, job_of_row, 
 use Rattle.resil_admission.proofs.JobLaws.{jobs-kept, kept-push, runs-push, position-last, unpicked-push, unpicked-new}
 use Rattle.resil_admission.proofs.jobs.Jobs.push.Goals as goal
 
--- the jobs that have no row yet, and the new one behind them
+-- the jobs that have no row yet, and the new one after them
 module _ (c : goal.After-push_back_reserved) where
   abbrev rows : List Row
   rows = c.self.inside.rows.items

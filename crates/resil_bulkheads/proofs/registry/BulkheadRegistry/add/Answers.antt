@@ -1,4 +1,4 @@
--- The bulkhead stands at the end of the one list, and its name at the end of the other.
+-- The bulkhead is at the end of the one list, and its name at the end of the other.
 use Rattle.std.proofs.Common.{List, ◌∷◌, [], ◌++◌, map, length, ap, sym, ◌∙◌, subst}
 use Rattle.std.proofs.lemmas.List.{map-append}
 use Rattle.std.specs.Arc.{arc_value}

@@ -3,7 +3,7 @@ use Rattle.resil_input.specs.CsvRows.{AnswersRows, ParseAs}
 use Rattle.resil_input.specs.ReaderState.{IsInBody, header_of, records_left}
 use Rattle.resil_input.proofs.csv_rows.OpenBody.rows.Given as goal
 
--- the records of the rows so far and those left are all records behind the header
+-- the records of the rows so far and those left are all records after the header
 abbrev pub invariant-rows : goal.invariant-rows
 invariant-rows g l =
     let header = header_of l.fn.self in

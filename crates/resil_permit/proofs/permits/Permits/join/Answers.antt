@@ -1,4 +1,4 @@
--- A pass that holds nothing and has no retired permit may be joined away, and the load after it tells what either had seen.
+-- A pass that holds nothing and has no retired permit may be joined away, and the load after it shows what either had seen.
 use Rattle.std.proofs.Common.{◌≡◌, sym, ap, ◌∙◌, subst, arith}
 use Rattle.resil_permit.specs.Passes.{PassView, held_by, retired_by}
 use Rattle.resil_permit.proofs.ProtocolSteps.{allows, joins, ending_join}

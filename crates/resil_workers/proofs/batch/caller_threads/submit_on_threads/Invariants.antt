@@ -1,4 +1,4 @@
--- The callers so far are back, and each has been told of its rows.
+-- The callers so far are back, and each has the answers to its rows.
 use Rattle.std.proofs.Common.{◌≡◌, ◌++◌, false, length, map, vec_capacity}
 use Rattle.std.specs.Prelude.{All}
 use Rattle.std.specs.Vec.Iter.{into_iter_items, into_iter_len}

@@ -1,4 +1,4 @@
--- All parts are there, what the callers were told of their rows stands in the report, and if there is none, the drain says why.
+-- All parts are there, the callers' answers about their rows are in the report, and if there is no report, the drain says why.
 use Rattle.std.proofs.Common.{List, map, sym, ◌∙◌, subst}
 use Rattle.std.proofs.lemmas.List.{length-map}
 use Rattle.resil_pool.specs.declared.hold.JobRow.{JobRow}

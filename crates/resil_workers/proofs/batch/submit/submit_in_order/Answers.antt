@@ -1,4 +1,4 @@
--- Each row finds its caller, and is told to it alone.
+-- Each row finds its caller, and only that caller gets its answer.
 use Rattle.std.proofs.Common.{◌≡◌, ◌+◌, ◌-◌, ◌<◌, length, ◌∙◌, rules}
 use Rattle.std.proofs.lemmas.List.{length-set}
 use Rattle.resil_workers.proofs.RowLaws.{callers-set, told-set, all-told}

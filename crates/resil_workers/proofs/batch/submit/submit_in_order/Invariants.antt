@@ -1,4 +1,4 @@
--- Each caller has been told of its rows so far.
+-- Each caller has the answers to its rows so far.
 use Rattle.std.proofs.Common.{◌≡◌, ◌+◌, ◌<◌, ℕ, length, take, get_or}
 use Rattle.resil_pool.specs.Parts.{CallerView}
 use Rattle.resil_workers.specs.Batch.Submit.{AreCallers, plans_of, plans_on_receipts}

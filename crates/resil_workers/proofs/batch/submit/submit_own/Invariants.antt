@@ -1,4 +1,4 @@
--- The caller has been told of its rows so far.
+-- The caller has the answers to its rows so far.
 use Rattle.std.proofs.Common.{◌≡◌, ◌++◌, take}
 use Rattle.resil_pool.specs.Parts.{IsSameCaller}
 use Rattle.resil_workers.specs.Batch.Submit.{plans_of, plans_on_receipts}
