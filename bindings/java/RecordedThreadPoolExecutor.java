@@ -179,12 +179,12 @@ public class RecordedThreadPoolExecutor extends ThreadPoolExecutor {
     /** What is kept for a thread that submits: its number, a file, and its last submission in it. Plain numbers keep no class alive. */
     private static final int ID = 0, FILE = 1, NUMBER = 2;
 
-    /** A task on its way through the pool. A job without a task is the seat of an idle thread that waits for a job to be handed to it. */
+    /** A task on its way through the pool. A job without a task is the seat of an idle thread that waits for another thread's job. */
     private static final class Job implements Runnable {
         final Runnable task;
         final long[] caller;
         long number;
-        Job before, next, given; // links in its list; what was handed to this seat
+        Job before, next, given; // links in its list; the job that this seat got
         Jobs list;
         Condition isGiven;
         Job(Runnable task, long[] caller) { this.task = task; this.caller = caller; }
@@ -642,7 +642,7 @@ public class RecordedThreadPoolExecutor extends ThreadPoolExecutor {
             return jobs.first();
         }
 
-        /** A thread that is interrupted keeps a job that has been handed to it. */
+        /** A thread that is interrupted keeps a job that it already got. */
         private Job awaitJob(boolean timed, long nanos) throws InterruptedException {
             if (Thread.interrupted()) throw new InterruptedException();
             Job seat = new Job(null, null);

@@ -5,7 +5,7 @@ use std::path::Path;
 fn main() {
     let lib = Path::new(env!("CARGO_MANIFEST_DIR")).join("lib");
     let target = env::var("TARGET").expect("cargo sets it");
-    // Of the C library it uses only malloc, realloc, free and memset, which musl has too.
+    // It uses only malloc, realloc, free and memset of the C library, which musl has too.
     let folder = lib.join(target.replace("-musl", "-gnu"));
     println!("cargo::rerun-if-changed={}", lib.display());
     if !folder.is_dir() {

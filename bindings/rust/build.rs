@@ -8,7 +8,7 @@ fn main() {
     println!("cargo::rerun-if-env-changed=RESIL_LIBRARIES");
     println!("cargo::rerun-if-env-changed=PATH");
     let target = env::var("TARGET").expect("cargo sets it");
-    // Of the C library they use only malloc, realloc, free and memset, which musl has too.
+    // They use only malloc, realloc, free and memset of the C library, which musl has too.
     let target = target.replace("-musl", "-gnu");
     if target == "x86_64-unknown-linux-gnu" {
         link_two();

@@ -14,7 +14,7 @@ use std::task::{Context, Poll};
 use std::time::Duration;
 use tower::{BoxError, Layer, Service, ServiceBuilder, ServiceExt, service_fn};
 
-// Where the inner service panics.
+// The point at which the inner service panics.
 #[derive(Clone, Copy, PartialEq, Eq)]
 enum Panics {
     Never,

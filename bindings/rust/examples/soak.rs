@@ -107,7 +107,7 @@ async fn sleep(time: Duration) {
     poll_fn(is_over).await;
 }
 
-// Where calls with permits go.
+// The place that calls with permits go into.
 fn go_in(permits: u32) {
     let inside = INSIDE.fetch_add(permits, SeqCst) + permits;
     assert!(inside <= MAX, "{inside} are inside");

@@ -298,7 +298,7 @@ fn few_may_wait_for_many() -> Checked {
     Ok(())
 }
 
-// A caller that finds too few gives back what it has: one permit comes and goes while all are asked for.
+// A caller that finds too few gives back what it has: one permit comes and goes while another caller wants all of them.
 #[test]
 fn nothing_is_lost_where_two_race() -> Checked {
     const MAX: u32 = 64;

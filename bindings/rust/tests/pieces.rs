@@ -72,7 +72,7 @@ fn gaps_of_a_queue_are_closed_while_others_wait() {
     assert_eq!(queue.pop_first(), Some((0, [0; 8])));
 }
 
-// How long a thread spins without finding anything is bounded: by a few microseconds, enough for only so many checks.
+// How long a thread spins without finding anything is bounded: by a few microseconds, enough for only a few checks.
 #[test]
 fn a_thread_that_finds_nothing_looks_a_few_times() {
     let count = Cell::new(0);

@@ -38,8 +38,8 @@ pub record AddsWait (old : List Duration) (keys : Members) (new : List Duration)
   pub last : new ≡ old ++ wait ∷ []
   pub said : IsWaitSaid keys wait
 
--- a text is read: it has no keys but these two, its configurations are those of its table `permits` beside `default`, and each table of its array
--- `bulkhead` says one bulkhead and its wait, in order
+-- a text is read: it has no keys but these two, its configurations are those of its table `permits` besides `default`, and each table of
+-- its array `bulkhead` says one bulkhead and its wait, in order
 pub record AreSaid (text : List ℕ) (bulkheads : List BulkheadView) (waits : List Duration) : Type 0 where
   pub said : Members
   pub parsed : parse_document text ≡ Some said

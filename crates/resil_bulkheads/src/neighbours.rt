@@ -37,9 +37,9 @@ pub struct Neighbours {
 }
 
 impl Neighbours {
-    /// Makes the bulkheads that a text names: `[permits]` has configurations, each a name and a
-    /// number of permits from 0 to 65,535, beside `default`, which is 25; each `[[bulkhead]]` has a
-    /// `name`, and may have a `config` and a `wait`, the longest wait for a permit in milliseconds.
+    /// Makes the bulkheads that a text names: `[permits]` has configurations, each a name and a number of permits from
+    /// 0 to 65,535, besides `default`, which is 25; each `[[bulkhead]]` has a `name`, and may have a `config` and a
+    /// `wait`, the longest wait for a permit in milliseconds.
     ///
     /// # Errors
     ///

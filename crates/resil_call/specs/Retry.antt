@@ -51,7 +51,7 @@ module _ {T C P L : Type 0} (IsAnswer : C → T → C → Type 0) (IsVerdict : T
     pub ended : HasEnded IsVerdict max tried tried.end
     pub left : LeavesLimit IsWait IsAllowed tried last.limit rest tried.end
 
--- the same without a limit, where the wait follows from the attempt alone
+-- the same without a limit, if the wait follows from the attempt alone
 abbrev pub Round : Type 0 → Type 0 → Type 0
 Round C P = RoundWithin C P NoLimit
 

@@ -56,7 +56,7 @@ module _ {T S L : Type 0} (IsAnswer : S → T → S → Type 0) (IsVerdict : T �
     pub ended : HasEnded IsVerdict max tried tried.end
     pub left : LeavesLimit IsWait IsAllowed tried last.limit rest tried.end
 
--- the same without a limit, where the wait follows from the attempt alone
+-- the same without a limit, if the wait follows from the attempt alone
 abbrev pub IsRetriedSharing : {T S : Type 0} → (S → T → S → Type 0) → (T → Bool → Type 0) → (ℕ → ℕ → Type 0) → (S → ℕ → S → Type 0) → ℕ → S → S → Tried T → Type 0
 IsRetriedSharing IsAnswer IsVerdict IsWait IsPaused max old new tried =
     IsRetriedSharingWithin IsAnswer IsVerdict (λ attempt _ wait. IsWait attempt wait) IsPaused Unlimited max old new (record {}) (record {}) tried

@@ -109,8 +109,8 @@ pub fn retry_in_budget<B: BackoffFor<C::Output>, A: RetryTest<C::Output>, C: Cal
     retry_within(policy, budget, call, pause)
 }
 
-/// `retry` for calls that use the value that pauses between them, as calls do that record their own
-/// waits where the pauses are recorded: that value is lent to each call and to each pause in turn.
+/// `retry` for calls that use the value that pauses between them, such as calls that record their own waits together
+/// with the pauses: that value is lent to each call and to each pause in turn.
 ///
 /// ```
 /// let tried = retry_sharing(&policy, |log: &mut Log| read_and_note(log), &mut log);

@@ -88,7 +88,7 @@ fn parse_chain_row(alloc: Global, fields: &ByteRecord) -> Result<Option<ChainRow
 /// # Errors
 ///
 /// The first that occurs: `Memory` if out of memory; `BadHeader` if the first record is missing or
-/// isn't the header; `BadRow` with the position of the first record that is no row.
+/// isn't the header; `BadRow` with the position of the first record that isn't a row.
 pub fn read_rows(alloc: Global, body: &[u8]) -> Result<Vec<ChainRow>, BodyError>
     ensures { MatchResult result (λ rows. IsChainBody body.now rows.items) (IsChainBodyError body.now) }
 {

@@ -8,7 +8,7 @@ use Rattle.resil_decor.specs.declared.permitter.Asked.{Asked}
 use Rattle.resil_decor.specs.Permitter.{PermitterAnswers, AreAnswered}
 
 -- the answer of an event: yes if a permit was taken, no if it was refused; giving one back, retiring
--- or raising one is no answer
+-- or raising one isn't an answer
 abbrev pub answer_in : PermitEvent → Option Bool
 answer_in (Took seat) = Some true
 answer_in (Refused seat) = Some false

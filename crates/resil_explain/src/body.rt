@@ -132,7 +132,7 @@ fn used(body: Body, record: &ByteRecord) -> Option<&'static [usize]> {
     Some(row_of(body, record)?.1)
 }
 
-// What is wrong with a record that has as many fields as the header, if it is no row. There are `callers` callers.
+// What is wrong with a record that has as many fields as the header, if it isn't a row. There are `callers` callers.
 fn field_fault(body: Body, record: &ByteRecord, callers: u16) -> Option<RowFault> {
     let Some(used) = used(body, record) else {
         return Some(RowFault::Word(body.header.first()?, body.rows));
@@ -159,7 +159,7 @@ pub(crate) fn body_under<S: Subject>(subject: S, header: &ByteRecord) -> Body {
     }
 }
 
-/// What is wrong with a record that is no row under a header of these bodies.
+/// What is wrong with a record that isn't a row under a header of these bodies.
 pub(crate) fn row_fault(
     bodies: Body,
     record: &ByteRecord,

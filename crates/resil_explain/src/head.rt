@@ -38,7 +38,7 @@ enum Fault<'a> {
     Value(Form),
     // The item at this place of its value names no kind of error.
     Kind(usize),
-    // This, its value or the key itself, is no name.
+    // This, its value or the key itself, isn't a name.
     Name(&'a str),
     // The core size: the least and the greatest allowed.
     Core(i64, i64),

@@ -216,7 +216,7 @@ fn result_test_from_name(text: &[u8]) -> Option<ResultTest>
     }
 }
 
-// A test of values, by its string. Errors: `BadValue` if the value is no test.
+// A test of values, by its string. Errors: `BadValue` if the value isn't a test.
 fn parse_result_test(value: &Value) -> Result<ResultTest, HeadError>
     ensures { result ≡ parse_named result_test_from_name (view value.now) }
 {

@@ -1,4 +1,4 @@
--- The rows read so far, one more row, and the first record that is no row.
+-- The rows read so far, one more row, and the first record that isn't a row.
 use Rattle.std.proofs.Common.{◌≡◌, ◌≢◌, ◌∷◌, ◌++◌, ◌∙◌, ◌+◌, ℕ, suc, List, [], Option, Some, None, Result, Ok, Err, length, map, refl, sym, ap, append_assoc, arith, MatchResult}
 use Rattle.std.specs.Result.{IsErrAnd}
 use Rattle.std.proofs.lemmas.List.{length-append, length-map, map_push}
@@ -23,7 +23,7 @@ pub append-next : (all : List (List (List ℕ))) (fields : List (List ℕ)) (rec
     → all ≡ records ++ left → left ≡ fields ∷ more → all ≡ (records ++ fields ∷ []) ++ more
 append-next all fields records left more e next = e ∙ rw next (sym (append_assoc records (fields ∷ []) more))
 
--- the first record that is no row
+-- the first record that isn't a row
 pub bad-row : {Row : Type 0} (header : List (List ℕ)) (row_of : List (List ℕ) → Option Row) (body : List ℕ) (records left more : List (List (List ℕ))) (bad : List (List ℕ)) (rows : List Row) (position : ℕ)
     → records_of body ≡ header ∷ (records ++ left) → left ≡ bad ∷ more → ParseAs header row_of records rows → row_under header row_of bad ≡ None → position ≡ length rows + 1
     → IsBodyError header row_of body (error.BadRow position)

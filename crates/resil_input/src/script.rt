@@ -1,6 +1,6 @@
 //! The script of a job, as one field of a row writes it: one or more outcomes, separated by semicolons.
 //!
-//! An empty field is no script, since an empty text is no outcome.
+//! An empty field isn't a script, since an empty text isn't an outcome.
 
 ghost use Rattle.std.specs.Prelude.{◌≡◌, Contains, IfErr, IfOk};
 ghost use Rattle.resil_input.specs.Script.{parse_script};

@@ -204,7 +204,7 @@ step-follows v e after may step h state = let allowed = may-allowed v h state e 
 pub not-barred : (v : JdkView) (e : JdkEvent) → ¬ May v e → IsBarred v e
 not-barred v e bars h state allowed = bars (allowed-may v h state e allowed)
 
--- room that is given back or taken is no event
+-- room that is given back or taken isn't an event
 pub tidied-stays : (v after : JdkView) → IsTidied v after → StaysAt v after
 tidied-stays v after tidied h state = rw tidied.rest (record {
   legal = state.legal;

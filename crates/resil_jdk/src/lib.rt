@@ -1,4 +1,4 @@
-//! The whole rule of the JDK's `ThreadPoolExecutor`, beside that of `resil_rule`.
+//! The whole rule of the JDK's `ThreadPoolExecutor`, next to that of `resil_rule`.
 //!
 //! `resil_rule` has the rule of our own pools: a core size from 1, a queue with a bound, at most 64 workers. A pool of the JDK may
 //! have no core worker, hand jobs over without a queue, have more workers, begin and cull workers without a job, time out core

@@ -101,7 +101,7 @@ pub struct OwnCounts {
     pub called: u64,
     /// How many returned a value.
     pub values: u64,
-    /// How many returned an error that is no refusal.
+    /// How many returned an error that isn't a refusal.
     pub errors: u64,
     /// How many were refused.
     pub refused: u64,

@@ -13,7 +13,7 @@ pub enum Counted {
     Called,
     /// It returned a value.
     Value,
-    /// It returned an error that is no refusal.
+    /// It returned an error that isn't a refusal.
     Error,
     /// It returned an error that is the refusal of a permit.
     Refused,

@@ -10,7 +10,7 @@ use resil_call::{BackoffFor, Call, Pause, RetryPolicy, RetryTest, Tried, WaitLim
 use std::marker::PhantomData;
 
 /// Observes each retry: once before each wait, and once at the end (Resilience4j user guide, Retry: `onRetry`, `onSuccess`,
-/// `onError`). The first attempt is no retry.
+/// `onError`). The first attempt isn't a retry.
 ///
 /// ```
 /// impl<T> RetryObserver<T> for LongestWait {

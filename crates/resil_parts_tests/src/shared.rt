@@ -210,7 +210,7 @@ pub fn part<'a>(text: &'a str, mark: &str, place: usize) -> &'a str {
     text.split(mark).nth(place).unwrap_or("")
 }
 
-/// The id of a string such as `1-2`, which is submission 2 of caller 1. Anything that is no number is read as the maximum value.
+/// The id of a string such as `1-2`, which is submission 2 of caller 1. Anything that isn't a number is read as the maximum value.
 pub fn id(text: &str) -> Id {
     Id {
         caller: part(text, "-", 0).parse().unwrap_or(u16::MAX),

@@ -45,9 +45,9 @@ pub record StandsAfter (holds : ℕ → Table → Type 0) (max : ℕ) (s : Table
   pub can_make : CanMakeAll (start max) steps
   pub machine : machine_of history s ≡ after_steps (start max) steps
 
--- The pass `me` at this index makes a step on the word, which becomes `left` of what it was, and the step shows `Tells` of the number found and of
--- the pass after it. Whatever steps the table represents, there is a pass after the step of which that is true, and with it the table represents
--- `then` of these steps
+-- The pass `me` at this index makes a step on the word, which becomes `left` of what it was, and the step shows `Tells` of the number found
+-- and of the pass after it. Whatever steps the table represents, there is a pass after the step for which that is true, and with it the
+-- table represents `then` of these steps
 abbrev pub IsMove : (ℕ → Table → Type 0) → ℕ → ℕ → PassSeat → (ℕ → ℕ) → (ℕ → PassSeat → Type 0) → (List Step → List Step) → Type 0
 IsMove holds max index me left Tells then =
     (s : Table) (steps : List Step) → StandsAfter holds max s steps → IsPassAt s.views index me.0

@@ -8,7 +8,7 @@ use Rattle.resil_permit.specs.Passes.{PassView, IsSamePass}
 use Rattle.resil_permit.specs.TryAcquire.{IsTry}
 
 -- p became q by this number of tries. Each was refused: exactly the permits in use were held at that point. After each of them
--- less than the longest wait was spent, both in nanoseconds. What a clock reads is no part of it
+-- less than the longest wait was spent, both in nanoseconds. What a clock reads isn't a part of it
 abbrev pub IsRefusedTimes : ℕ → ℕ → PassView → PassView → Type 0
 IsRefusedTimes longest zero p q = q ≡ p
 IsRefusedTimes longest (suc n) p q = (between : PassView) × (spent : ℕ) × IsRefusedTimes longest n p between × IsSamePass between q × IsTry between q Full × (spent < longest)

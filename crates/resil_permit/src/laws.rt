@@ -13,7 +13,7 @@ use crate::protocol::{
 };
 use atomic_table::{Join, Play, Split, TableRule};
 
-/// In whatever order any number of callers load, exchange, add, retire and raise, their events are a legal permit
+/// Any number of callers may load, exchange, add, retire and raise in any order: their events are a legal permit
 /// history. The word and the permits held add up to the permits in use, and these are never more than at the start.
 #[tactic(auto, using(crate::proofs::Machines::every_interleaving))]
 pub fn every_interleaving()

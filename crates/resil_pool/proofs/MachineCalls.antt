@@ -34,7 +34,7 @@ pub submission-step : (old new : MachineView) (id : Id) (reply : Reply) (plan : 
 submission-step old new id reply plan allowed is =
     appends (Some plan) old new (Submit id reply) _ allowed (map-append plan_entry old.jobs (newly_accepted id reply plan) ∙ ap (λ (xs : List (Id × Option PlanView)). map plan_entry old.jobs ++ xs) (filed-accepted reply id plan)) is
 
--- an event that is no submission
+-- an event that isn't a submission
 pub event-step : (old new : MachineView) (event : Event) → plans_in (log_event None event ∷ []) ≡ [] → IsAllowed old.limits old.history event → new ≡ with_event old event → IsStep None old (note.Event event) new
 event-step old new event none allowed is =
     appends None old new event old.jobs allowed (sym (append-nil (map plan_entry old.jobs)) ∙ ap (λ (xs : List (Id × Option PlanView)). map plan_entry old.jobs ++ xs) (sym none)) is
@@ -68,7 +68,7 @@ finish_with id kept = record { note = note.Event (Finish id); payload = record {
 pub finish-told : (jobs : List Accepted) (id : Id) (run : RunView) (last : Option Written) → last ≡ Some (plain (note.Event (Finish id))) → run_of jobs id ≡ Some run → entries_of jobs last ≡ finish_of id run ∷ []
 finish-told jobs id run last is kept = ap (entries_of jobs) is ∙ ap (finish_with id) kept
 
--- an event that is no submission and no finish was written, and noted, or neither
+-- an event that is neither a submission nor a finish was written, and noted, or neither
 pub record Noted (event : Event) (old new : MachineView) (last : Option Written) : Type 0 where
   pub wrote : IsMoved old (entries_of new.jobs last) new
   pub most : WritesAtMost event (entries_of new.jobs last)

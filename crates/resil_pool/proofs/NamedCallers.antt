@@ -22,7 +22,7 @@ module _ (callers : ℕ) where
   callers_event_names count number (Submit id reply) is own = let low = is.0 in let high = is.1 in let same = own.0 in (omega arith, omega arith)
   callers_event_names count number _ is own = tt
 
-  -- what the closer's seat may write is no submission
+  -- what the closer's seat may write isn't a submission
   closers_event_names : (count number : ℕ) (e : Event) → number ≡ closer_number → MayWrite count number e → NamesCaller callers e
   closers_event_names count number (Submit id reply) first own = absurd (own.1 first)
   closers_event_names count number _ first own = tt

@@ -193,7 +193,7 @@ gives {old} {me} {m} {m'} {entries} source a =
 pub turned : {old me new : LockSeatState} {m m' : MachineView} {entries : List LoggedEvent} {table table' : TableId} → Acted old m me entries m' → record { source : table' ≡ table; slot : new.1 ≡ []; seen : new.0 ≡ left_view me.0 entries } → Turned old m entries m' new
 turned a r = record { me = _; acted = a; slot = r.slot; left = r.seen }
 
--- what was written is no event of the seat's own, and ends no job
+-- what was written isn't an event of the seat's own, and ends no job
 pub record IsQuiet (callers number : ℕ) (entries : List LoggedEvent) : Type 0 where
   pub may : MayWriteEach callers number entries
   pub own : own_in number entries ≡ []

@@ -55,7 +55,7 @@ pub on_over : (look : Look (Id × PlanView)) (P Q : Type 0) → (P → Q) → On
 on_over Over P Q f p = f p
 on_over _ P Q f p = tt
 
--- whether a look found a job or not, it ended none
+-- whether a poll found a job or not, it ended none
 pub look-quiet : (callers number : ℕ) (look : Look (Id × PlanView)) (entries : List LoggedEvent) → OnFound look (λ picked. Takes picked.0 entries) → OnNothing look (WritesAtMost IdleEnd entries) → IsQuiet callers number entries
 look-quiet callers number (Found picked) entries takes rests = either (IsQuiet callers number) (record { may = (tt, tt); own = refl; ends = refl; runs = refl }) (record { may = (tt, tt); own = refl; ends = refl; runs = refl }) takes
 look-quiet callers number _ entries takes rests = either (IsQuiet callers number) (record { may = tt; own = refl; ends = refl; runs = refl }) (record { may = (tt, tt); own = refl; ends = refl; runs = refl }) rests

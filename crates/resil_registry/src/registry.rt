@@ -166,7 +166,7 @@ impl<C: Drop> Registry<C> {
         }
     }
 
-    // The id of the instance with that name, if there is one. Errors: `BadName` if the string is no name.
+    // The id of the instance with that name, if there is one. Errors: `BadName` if the string isn't a name.
     fn instance_id(&self, name: &str) -> Result<Option<usize>, RegistryError>
         ensures found { IfOk result (λ id. id ≡ instance_id self.now name.now) }
         ensures good { OnOk result (IsName name.now) }

@@ -57,7 +57,7 @@ parse_event fields = parse_event_fields (get_or fields 0 []) (get_or fields 1 []
 abbrev pub IsAuditBody : List ℕ → List Event → Type 0
 IsAuditBody body history = (version : Version) × IsBody (history_header version) parse_event body history
 
--- why a body is no history
+-- why a body isn't a history
 abbrev pub IsAuditBodyError : List ℕ → BodyError → Type 0
 IsAuditBodyError body why = IsVersionsError history_header parse_event body why
 

@@ -36,8 +36,8 @@ abbrev pub IsHistoryBody : List ℕ → List Event → Option (List ℕ) → Typ
 IsHistoryBody body events None = IsAuditBody body events
 IsHistoryBody body events (Some times) = (history : List Timed) × IsTimedBody body history × (events ≡ events_in history) × (times ≡ times_in history)
 
--- Why a body is no history in any of the three versions: out of memory; its first record is the header of none; or a record under
--- the header of one of them is no row.
+-- Why a body isn't a history in any of the three versions: out of memory; its first record is the header of none; or a record under
+-- the header of one of them isn't a row.
 abbrev pub IsHistoryBodyError : List ℕ → BodyError → Type 0
 IsHistoryBodyError body error.Memory = ⊤
 IsHistoryBodyError body error.BadHeader = IsAuditBodyError body error.BadHeader × IsBodyError timed_header parse_timed body error.BadHeader

@@ -8,7 +8,7 @@ use Rattle.resil_input.specs.declared.csv_rows.BodyError.TheVariants as error
 -- given the header of each version, and the row that a record is read as
 module _ {Row : Type 0} (header : Version → List (List ℕ)) (row_of : List (List ℕ) → Option Row) where
   -- Why a body has no rows: out of memory; its first record is the header of no version; or a record under the header of
-  -- one of them is no row.
+  -- one of them isn't a row.
   abbrev pub IsVersionsError : List ℕ → BodyError → Type 0
   IsVersionsError body error.Memory = ⊤
   IsVersionsError body error.BadHeader = (version : Version) → IsBodyError (header version) row_of body error.BadHeader

@@ -80,7 +80,7 @@ pub(crate) fn parse_event(fields: &ByteRecord) -> Option<Event>
 ///
 /// # Errors
 ///
-/// The first that occurs: `Memory` if out of memory; `BadRow` with the position of the first record that is no event.
+/// The first that occurs: `Memory` if out of memory; `BadRow` with the position of the first record that isn't an event.
 pub(crate) fn read_opened(alloc: Global, opened: OpenBody<'_>) -> Result<Vec<Event>, BodyError>
     requires opened { (body : List ℕ) × IsOpened body opened }
     requires version { (version : Version) × (header_of opened ≡ history_header version) }
@@ -94,7 +94,7 @@ pub(crate) fn read_opened(alloc: Global, opened: OpenBody<'_>) -> Result<Vec<Eve
 /// # Errors
 ///
 /// The first that occurs: `Memory` if out of memory; `BadHeader` if the first record is missing or isn't the header of
-/// a version; `BadRow` with the position of the first record that is no event in that version.
+/// a version; `BadRow` with the position of the first record that isn't an event in that version.
 pub fn read_rows(alloc: Global, body: &[u8]) -> Result<Vec<Event>, BodyError>
     ensures { MatchResult result (λ history. IsAuditBody body.now history.items) (IsAuditBodyError body.now) }
 {

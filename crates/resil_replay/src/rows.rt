@@ -111,7 +111,7 @@ fn read_under(alloc: Global, header: &[&str], body: &[u8]) -> Result<Vec<ReplayR
 /// # Errors
 ///
 /// The first that occurs: `Memory` if out of memory; `BadHeader` if the first record is missing or is
-/// neither header; `BadRow` with the position of the first record that is no row under that header.
+/// neither header; `BadRow` with the position of the first record that isn't a row under that header.
 pub fn read_rows(alloc: Global, body: &[u8]) -> Result<ReplayBody, BodyError>
     ensures { MatchResult result (λ read. IsReplayBody body.now read.version read.rows.items) (IsReplayBodyError body.now) }
 {

@@ -79,7 +79,7 @@ fn parse_timed(fields: &ByteRecord) -> Option<Timed>
 /// # Errors
 ///
 /// The first that occurs: `BadHeader` if the first record isn't the header; `Memory` if out of memory; `BadRow` with the position of
-/// the first record that is no event, or has no time.
+/// the first record that isn't an event, or has no time.
 pub fn read_opened(alloc: Global, opened: OpenBody<'_>) -> Result<Vec<Timed>, BodyError>
     requires { (body : List ℕ) × IsOpened body opened }
     ensures { (body : List ℕ) → IsOpened body opened.entry → MatchResult result (λ rows. IsTimedBody body rows.items) (IsBodyError timed_header parse_timed body) }
@@ -95,7 +95,7 @@ pub fn read_opened(alloc: Global, opened: OpenBody<'_>) -> Result<Vec<Timed>, Bo
 /// # Errors
 ///
 /// The first that occurs: `Memory` if out of memory; `BadHeader` if the first record is missing or isn't the header of a version;
-/// `BadRow` with the position of the first record that is no event, or has no time, in that version.
+/// `BadRow` with the position of the first record that isn't an event, or has no time, in that version.
 pub fn read_history(alloc: Global, body: &[u8]) -> Result<History, BodyError>
     ensures { MatchResult result (λ read. IsHistoryBody body.now read.events read.times) (IsHistoryBodyError body.now) }
 {

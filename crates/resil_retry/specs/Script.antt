@@ -11,7 +11,7 @@ outcomes_at (One outcome) = outcome ∷ []
 outcomes_at (Many outcomes) = outcomes.items
 outcomes_at (Shared outcomes) = (arc_value outcomes).items
 
--- the first outcome; a list without one is no script
+-- the first outcome; a list without one isn't a script
 abbrev pub first : List Outcome → Option Outcome
 first [] = None
 first (outcome ∷ _) = Some outcome

@@ -1,4 +1,4 @@
-//! `simulate`: reads an input, and makes the text of what its load comes to: the numbers of each pool, or the history of one.
+//! `simulate`: reads an input, and makes the text of its load's result: the numbers of each pool, or the history of one.
 
 ghost use Rattle.std.specs.Prelude.{◌≡◌, ◌↔◌, All, IfOk, IsTrue, MatchResult, length, map};
 ghost use Rattle.resil_heads.specs.CommandError.{IsError};

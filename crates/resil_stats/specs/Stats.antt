@@ -125,7 +125,7 @@ pub record AreAnswersOf (before events : List JdkEvent) (answers : JdkAnswers) :
   pub refused_idle : answers.refused_idle ≡ length (made_after refused_idle before events)
   pub extra_idle : answers.extra_idle ≡ length (made_after extra_idle before events)
 
--- How often each event happened that is no submission.
+-- How often each event happened that isn't a submission.
 pub record AreJdkCountsOf (history : List JdkEvent) (counts : JdkCounts) : Type 0 where
   pub taken : counts.taken ≡ length (taken history)
   pub finished : counts.finished ≡ length (finished history)

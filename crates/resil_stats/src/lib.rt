@@ -1,4 +1,4 @@
-//! What a history of any pool of the JDK comes to: its numbers, and its chart, as data and as text.
+//! The numbers and the chart of a history of any pool of the JDK, as data and as text.
 //!
 //! `stats` counts the events of a history, up to its first illegal one: how often each kind happened, how full the pool got, and what each
 //! caller submitted. `specs/Stats.antt` says what each number means: a filter over the events, or the greatest of a number over their

@@ -140,7 +140,7 @@ fn parse_result(fields: &ByteRecord) -> Option<JobResult>
 /// # Errors
 ///
 /// The first that is met: `Memory` when out of memory; `BadHeader` if the first record is missing or isn't the header;
-/// `BadRow` with the position of the first record that is no result.
+/// `BadRow` with the position of the first record that isn't a result.
 pub fn read_results(alloc: Global, text: &[u8]) -> Result<Vec<JobResult>, BodyError>
     ensures { MatchResult result (λ rows. AreResults text.now rows.items) (IsResultsError text.now) }
 {

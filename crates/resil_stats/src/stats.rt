@@ -70,7 +70,7 @@ impl JdkAnswers {
     }
 }
 
-/// How often each event happened that is no submission.
+/// How often each event happened that isn't a submission.
 #[derive(Clone, Copy, Default)]
 pub struct JdkCounts {
     /// The jobs that a worker took from the queue.

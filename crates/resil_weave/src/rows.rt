@@ -66,7 +66,7 @@ fn parse_step(fields: &ByteRecord) -> Option<Step>
 /// # Errors
 ///
 /// The first that occurs: `Memory` if out of memory; `BadHeader` if the first record is missing or
-/// isn't the header; `BadRow` with the position of the first record that is no step.
+/// isn't the header; `BadRow` with the position of the first record that isn't a step.
 pub fn read_rows(alloc: Global, body: &[u8]) -> Result<Vec<Step>, BodyError>
     ensures { MatchResult result (λ steps. IsWeaveBody body.now steps.items) (IsWeaveBodyError body.now) }
 {

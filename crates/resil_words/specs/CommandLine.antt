@@ -82,7 +82,7 @@ request_of (name ∷ command ∷ rest) =
     else if is_end rest then option_map request.Single (single_from_name command)
     else None
 
--- where the request is `run`, its number of callers is from 1 to 64
+-- if the request is `run`, its number of callers is from 1 to 64
 abbrev pub HasFewCallers : Request → Type 0
 HasFewCallers (request.Single command) = Unit {0}
 HasFewCallers (request.Run words) = (1 ≤ words.callers) × (words.callers ≤ 64)
@@ -123,7 +123,7 @@ request_of_match p =
     if is_same (codes "run") p.0 then option_map request.Run (run_options p.1)
     else option_map request.Single (single_from_name p.0)
 
--- what the words request where these come after `run`
+-- what the words ask for if they come after `run`
 abbrev pub behind_run : List Text → Option Request
 behind_run rest = request_of (codes "resil" ∷ codes "run" ∷ rest)
 

@@ -69,7 +69,7 @@ fn parse_job(
 /// # Errors
 ///
 /// The first that occurs: `Memory` if out of memory; `BadHeader` if the first record is missing or
-/// isn't the header; `BadRow` with the position of the first record that is no job.
+/// isn't the header; `BadRow` with the position of the first record that isn't a job.
 pub fn read_rows(alloc: Global, callers: u16, body: &[u8]) -> Result<Vec<ScriptedJob>, BodyError>
     ensures { MatchResult result (λ jobs. IsRunBody callers body.now jobs.items) (IsRunBodyError callers body.now) }
 {

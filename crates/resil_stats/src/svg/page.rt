@@ -55,7 +55,7 @@ impl Pixels {
         Pixels(self.0.saturating_sub(pixels.saturating_mul(100)))
     }
 
-    /// How far it is from another one, which is no further.
+    /// How far it is beyond another one.
     pub(crate) fn behind(self, other: Pixels) -> Pixels {
         Pixels(self.0.saturating_sub(other.0))
     }
@@ -134,7 +134,7 @@ fn share(length: u32, parts: usize, all: usize) -> u32 {
     u32::try_from(share.unwrap_or(0)).unwrap_or(length)
 }
 
-/// The page of a picture.
+/// The page of a chart.
 #[derive(Clone, Copy)]
 pub(crate) struct Page<'a> {
     /// How many events the history has that can be drawn, at least 1.

@@ -193,7 +193,8 @@ fn submit_then_work<'a, R: Threads + Wait + Sync, H: Hook + Sync>(
     Ok((closer, callers, ends))
 }
 
-// The result of a batch with `hold`: a row was refused for want of memory, or else a thread is missing, or else the rows are out of order.
+// The result of a batch with `hold`: a row was refused because it was out of memory, or else a thread is missing, or else the rows are out
+// of order.
 fn answer_held(
     submitted: Result<(), SubmitError>,
     worked: Result<Vec<WorkerEnd>, BatchError>,

@@ -1,4 +1,4 @@
--- The turn of a look.
+-- The turn of a poll.
 use Rattle.std.proofs.Common.{List, map, sym, ap, ◌∙◌, subst, rules}
 use Rattle.resil_pool.specs.Words.{Sizes, Event}
 use Rattle.resil_pool.specs.Lock.{plan_entry}
