@@ -35,7 +35,7 @@ pub enum HeadError {
     /// There are more permits than a word can count.
     #[error("there are more than 65535 permits")]
     TooManyPermits,
-    /// A bulkhead of a text has the name of an earlier one. This is the number of that one, from 1.
+    /// A bulkhead of a text has the name of an earlier one, whose number this is, from 1.
     #[error("bulkhead {0} already has that name")]
     SameName(usize),
     /// The registry refuses a configuration or a bulkhead.

@@ -118,7 +118,7 @@ impl<'a> RetryCounts<'a> {
         self.word(kind).load(SeqCst)
     }
 
-    /// Returns how many attempts were made after first ones.
+    /// Returns how many attempts were made, without the first of each retry.
     pub fn retried(&self) -> u64 {
         self.retried.load(SeqCst)
     }

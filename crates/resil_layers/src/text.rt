@@ -115,7 +115,7 @@ impl fmt::Display for CallsText<'_> {
     }
 }
 
-/// Counts of retries: their outcomes, their attempts after first ones, why no more were made, and the waits that the observer saw.
+/// Counts of retries: their outcomes, their attempts after the first, why no more were made, and the waits that the observer saw.
 ///
 /// ```
 /// let counts = [RetryCounts::new("prices")];

@@ -7,8 +7,8 @@ use std::sync::atomic::Ordering::SeqCst;
 use std::sync::atomic::{AtomicIsize, AtomicU64};
 use std::time::{Clock, Duration};
 
-/// How long calls took, the sum and the longest, in words that threads add to and any thread may read: whole microseconds.
-/// No clause says what a word holds.
+/// The sum of the times that calls took, and the longest, in whole microseconds: words that threads add to and any thread
+/// may read. No clause says what a word holds.
 ///
 /// ```
 /// let times = CallTimes::new("prices");

@@ -78,7 +78,7 @@ impl Script {
         }
     }
 
-    /// Returns a copy. Copying a script of one outcome doesn't allocate, and a copy of any other's copy shares its outcomes.
+    /// Returns a copy. Copying a script of one outcome doesn't allocate. The first copy of any other allocates, and copies of that copy share its outcomes.
     ///
     /// # Errors
     ///

@@ -121,8 +121,8 @@ fn note(begun: &mut HashMap<(u16, u64), Start>, job: Option<(Id, Start)>) -> Res
     }
 }
 
-/// How many jobs run after each event, by how they started: those that started in this way, less those of them that are finished. Errors:
-/// `AllocError` when out of memory.
+/// How many jobs run after each event, by how they started: those that started in this way, less those of them that are finished.
+/// Errors: `AllocError` when out of memory.
 pub(crate) fn areas_of(alloc: Global, events: &[JdkEvent]) -> Result<Vec<Running>, AllocError>
     ensures { IfOk result (λ areas. AreAreasOf events.now areas.items) }
 {

@@ -1,8 +1,8 @@
 //! How long the jobs of a history of any version waited and ran, and how long idle workers took to come, by the times of its events.
 //!
-//! A span of a job begins at one event and ends at another. A wait goes from its submission to its start, a run from its start to its
-//! finish, and a wake from a submission that was queued while more workers were idle than jobs waited to its take. So a table of where
-//! each job's span began gives the span at the event that ends it. Jobs may leave the queue from anywhere in it.
+//! A span of a job begins at one event and ends at another. A wait goes from the submission to the start, and a run from the start to the
+//! finish. A wake goes from the submission to the take, for a job that was queued while more workers were idle than jobs waited. So a table
+//! of where each job's span began gives the span at the event that ends it. Jobs may leave the queue from anywhere in it.
 
 ghost use Rattle.std.specs.Prelude.{◌≡◌, ◌-◌, ◌++◌, ◌∷◌, [], ℕ, List, IfOk, OnOk, length, nat_lt, option_and_then, slice_get, slice_index};
 ghost use Rattle.std.specs.List.{cons_option};
@@ -39,7 +39,7 @@ pub struct JdkSpans {
     pub waits: Ranks,
     /// From a job's start to its finish, of all jobs that are finished.
     pub runs: Ranks,
-    /// From a submission that was queued while more workers were idle than jobs waited to its job's take.
+    /// From submission to take, of the jobs that were queued while more workers were idle than jobs waited.
     pub wakes: Ranks,
 }
 
@@ -50,7 +50,7 @@ pub(crate) enum Measure {
     Wait,
     /// From a job's start to its finish.
     Run,
-    /// From a submission that is queued while more workers are idle than jobs wait to its job's take.
+    /// From submission to take, of a job that is queued while more workers are idle than jobs wait.
     Wake,
 }
 

@@ -180,7 +180,7 @@ fn push_numbers(
 
 /// The text of the numbers of a history: first the header `name,caller,value`. Then comes a record for each number of the whole
 /// history, with an empty caller; seven more if it is in version 4; and eight spans of time, in microseconds, if they are known.
-/// Three for each caller that submitted follow, by its number ascending. The last record is `verdict,,` with `legal`, or
+/// Then come three records for each caller that submitted, by its number ascending. The last record is `verdict,,` with `legal`, or
 /// `illegal` and the position of the first illegal event, from 1.
 ///
 /// # Errors

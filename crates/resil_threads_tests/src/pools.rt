@@ -97,7 +97,7 @@ struct Load {
     at_once: u32,
 }
 
-/// Submits jobs with this many numbers from this one on.
+/// Submits `count` jobs, with the numbers from `first` on.
 fn submit_part<H: Record, R: Abort + Wait>(
     rt: &R,
     alloc: Global,
@@ -111,7 +111,7 @@ fn submit_part<H: Record, R: Abort + Wait>(
     Ok(())
 }
 
-/// Submits jobs with this many numbers from this one on. Asserts that the answer of each accepted one is its double.
+/// Submits `count` jobs, with the numbers from `first` on. Asserts that the answer of each accepted one is its double.
 fn ask_part<H: Record, R: Abort + Wait>(
     rt: &R,
     alloc: Global,

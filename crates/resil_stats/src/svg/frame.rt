@@ -64,7 +64,8 @@ pub(crate) fn ground_text(sheet: &Sheet, picture: &Picture) -> Result<String, Al
     draft.finish()
 }
 
-/// Adds the style: a dark colour for each of `page`, for readers who prefer a dark background. Errors: `AllocError` when out of memory.
+/// Adds the style: a dark colour for each colour of `page`, for readers who prefer a dark background. Errors: `AllocError` when out of
+/// memory.
 pub(crate) fn push_style(text: &mut String) -> Result<(), AllocError>
     ensures { OnOk result (string_bytes text.new ≡ string_bytes text.old ++ style) }
 {
