@@ -25,8 +25,8 @@ arrival_at placed = record { id = record { caller = 1; number = placed.0 }; at =
 abbrev pub arrivals_of : List Row → List Arrival
 arrivals_of rows = map arrival_at (enumerate_from 1 rows)
 
--- the time of the job at an index, or the latest of the earliest ends up to it, its own too, if that is later; all runs up to it, its own too, a time
--- to wake for each of these, and the time after which an idle worker may end, together
+-- for the job at an index, the sum of: its time, or the latest of the earliest ends up to and with its own, if that is later; all runs up
+-- to and with its own; a time to wake for each of these; and the time after which an idle worker may end
 abbrev pub end_of : Ways → List Arrival → ℕ → ℕ
 end_of ways arrivals index =
     max (slice_index (times_of arrivals) index) (latest (earliest_ends_of (take (suc index) arrivals))) + sum (runs_of (take (suc index) arrivals)) + ways.wakes * suc index + ways.idle_for
