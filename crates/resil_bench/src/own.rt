@@ -9,7 +9,7 @@ use anyhow::anyhow;
 use resil_executor::by_hand::Visitor;
 use resil_executor::{Ended, Executor, ExecutorCloser, work_while};
 use resil_rule::{NoRecord, Sizes};
-use resil_task::by_hand::Run;
+use resil_task::by_hand::RunOnce;
 use std::alloc::Global;
 use std::sync::Wait;
 use std::thread::Threads;
@@ -19,7 +19,7 @@ use std::time::Clock;
 #[derive(Drop)]
 struct Tick<'a>(&'a Started);
 
-impl Run<()> for Tick<'_> {
+impl RunOnce<()> for Tick<'_> {
     type Output = ();
 
     fn run(self, _context: &mut ()) {

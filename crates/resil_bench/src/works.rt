@@ -7,7 +7,7 @@ use crate::round::Round;
 use anyhow::anyhow;
 use resil_executor::{Ended, Executor, ExecutorCloser, work_while};
 use resil_rule::{NoRecord, Sizes};
-use resil_task::by_hand::Run;
+use resil_task::by_hand::RunOnce;
 use std::alloc::Global;
 use std::sync::Wait;
 use std::thread;
@@ -17,7 +17,7 @@ use std::thread::Threads;
 #[derive(Drop)]
 struct Nothing;
 
-impl Run<()> for Nothing {
+impl RunOnce<()> for Nothing {
     type Output = ();
 
     fn run(self, _context: &mut ()) {}

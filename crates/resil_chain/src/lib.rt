@@ -16,7 +16,7 @@ pub mod subject;
 mod worked_heads;
 
 use head::read_head;
-use resil_heads::{CommandError, Refusal};
+use resil_heads::{CommandError, InputRefusal};
 use resil_input::framing::split_input;
 use rows::read_rows;
 use runs::run_chain;
@@ -31,7 +31,7 @@ pub use worked_heads::worked_chain_heads;
 pub fn text(alloc: Global, input: &[u8]) -> Result<Vec<u8>, CommandError>
     ensures { MatchResult result (λ text. IsChainText input.now text.items) (IsError (IsChainRefusal input.now)) }
 {
-    let (head, body) = split_input(input).ok_or(Refusal::NoBody)?;
+    let (head, body) = split_input(input).ok_or(InputRefusal::NoBody)?;
     let chain = read_head(alloc, head)?;
     let rows = read_rows(alloc, body)?;
     Ok(run_chain(alloc, &chain, rows)?)

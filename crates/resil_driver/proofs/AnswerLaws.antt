@@ -10,8 +10,8 @@ use Rattle.resil_words.specs.declared.command_line.Request.TheVariants as reques
 use Rattle.resil_words.specs.declared.command_line.RunOptions.{RunOptions}
 use Rattle.resil_heads.specs.declared.command_error.CommandError.{CommandError}
 use Rattle.resil_heads.specs.declared.command_error.CommandError.TheVariants as error
-use Rattle.resil_heads.specs.declared.refusal.Refusal.{Refusal}
-use Rattle.resil_heads.specs.declared.refusal.Refusal.TheVariants as refusal
+use Rattle.resil_heads.specs.declared.refusal.InputRefusal.{InputRefusal}
+use Rattle.resil_heads.specs.declared.refusal.InputRefusal.TheVariants as refusal
 use Rattle.resil_driver.specs.Run.{HasRun, IsRunRefusal}
 use Rattle.resil_driver.specs.Run.Play.{MayAnswerOnThreads}
 use Rattle.resil_driver.specs.Answer.{IsRefusedFor, LacksThread}
@@ -19,11 +19,11 @@ use Rattle.resil_driver.specs.Program.{IsAnswerTo}
 
 module _ (what : Request) (input : Option (List ℕ)) where
   -- the line of a refusal is an answer
-  pub refusal_answers : (why : Refusal) (out : Output) → IfSome input (λ bytes. IsRefusedFor what bytes why) → IsErrorOutput (error.Refused why) out → IsAnswerTo (Some what) input out
+  pub refusal_answers : (why : InputRefusal) (out : Output) → IfSome input (λ bytes. IsRefusedFor what bytes why) → IsErrorOutput (error.Refused why) out → IsAnswerTo (Some what) input out
   refusal_answers why out refused (inl memory) = rw memory refl
   refusal_answers why out refused (inr (status, line)) = rw status (what, refl, why, line, refused)
 
-refused-short : (words : RunOptions) (input : List ℕ) (why : Refusal) → FitsLimit input → IsRunRefusal MayAnswerOnThreads words input why → IsRefusedFor (request.Run words) input why
+refused-short : (words : RunOptions) (input : List ℕ) (why : InputRefusal) → FitsLimit input → IsRunRefusal MayAnswerOnThreads words input why → IsRefusedFor (request.Run words) input why
 refused-short words input refusal.TooLong short h = absurd h
 refused-short words input why short h = (short, h)
 

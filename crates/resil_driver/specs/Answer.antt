@@ -9,8 +9,8 @@ use Rattle.resil_heads.specs.Parts.{FitsLimit}
 use Rattle.resil_words.specs.declared.command_line.Request.{Request}
 use Rattle.resil_words.specs.declared.command_line.Request.TheVariants as request
 use Rattle.resil_words.specs.declared.command_line.RunOptions.{RunOptions}
-use Rattle.resil_heads.specs.declared.refusal.Refusal.{Refusal}
-use Rattle.resil_heads.specs.declared.refusal.Refusal.TheVariants as refusal
+use Rattle.resil_heads.specs.declared.refusal.InputRefusal.{InputRefusal}
+use Rattle.resil_heads.specs.declared.refusal.InputRefusal.TheVariants as refusal
 use Rattle.resil_driver.specs.Run.{HasRun, IsRunText, IsRunRefusal}
 use Rattle.resil_driver.specs.Run.Play.{MayAnswerOnThreads}
 use Rattle.resil_driver.specs.Command.{IsTextOf, IsRefusalOf}
@@ -21,7 +21,7 @@ IsTextFor (request.Single single) input text = IsTextOf single input text
 IsTextFor (request.Run words) input text = IsRunText MayAnswerOnThreads words input text
 
 -- a refusal of an input within the limit by any command
-abbrev pub IsRefusalFor : Request → List ℕ → Refusal → Type 0
+abbrev pub IsRefusalFor : Request → List ℕ → InputRefusal → Type 0
 IsRefusalFor (request.Single single) input why = IsRefusalOf single input why
 IsRefusalFor (request.Run words) input why = IsRunRefusal MayAnswerOnThreads words input why
 
@@ -30,7 +30,7 @@ abbrev pub IsAnswerOf : Request → List ℕ → List ℕ → Type 0
 IsAnswerOf requested input text = FitsLimit input × IsTextFor requested input text
 
 -- a refusal of an input of any length: the length is checked first
-abbrev pub IsRefusedFor : Request → List ℕ → Refusal → Type 0
+abbrev pub IsRefusedFor : Request → List ℕ → InputRefusal → Type 0
 IsRefusedFor requested input refusal.TooLong = input_limit < length input
 IsRefusedFor requested input why = FitsLimit input × IsRefusalFor requested input why
 

@@ -8,7 +8,7 @@ use Rattle.resil_replay.specs.Replay.{IsReplayText, IsReplayRefusal}
 use Rattle.resil_weave.specs.Weave.{IsWeaveText, IsWeaveRefusal}
 use Rattle.resil_words.specs.declared.command_line.Single.{Single}
 use Rattle.resil_words.specs.declared.command_line.Single.TheVariants.{Replay, Audit, Chain, Weave}
-use Rattle.resil_heads.specs.declared.refusal.Refusal.{Refusal}
+use Rattle.resil_heads.specs.declared.refusal.InputRefusal.{InputRefusal}
 
 -- a text of a command
 abbrev pub IsTextOf : Single → List ℕ → List ℕ → Type 0
@@ -18,7 +18,7 @@ IsTextOf Chain input text = IsChainText input text
 IsTextOf Weave input text = IsWeaveText input text
 
 -- a refusal of an input by a command
-abbrev pub IsRefusalOf : Single → List ℕ → Refusal → Type 0
+abbrev pub IsRefusalOf : Single → List ℕ → InputRefusal → Type 0
 IsRefusalOf Replay input why = IsReplayRefusal input why
 IsRefusalOf Audit input why = IsAuditRefusal input why
 IsRefusalOf Chain input why = IsChainRefusal input why

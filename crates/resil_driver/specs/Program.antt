@@ -10,7 +10,7 @@ use Rattle.resil_heads.specs.Refusal.{refusal_line}
 use Rattle.resil_words.specs.declared.command_line.Request.{Request}
 use Rattle.resil_words.specs.declared.command_line.Request.TheVariants as request
 use Rattle.resil_words.specs.declared.command_line.RunOptions.{RunOptions}
-use Rattle.resil_heads.specs.declared.refusal.Refusal.{Refusal}
+use Rattle.resil_heads.specs.declared.refusal.InputRefusal.{InputRefusal}
 use Rattle.resil_driver.specs.Answer.{IsAnswerOf, IsRefusedFor, LacksThread}
 
 -- A status and a text that the program may return for what the words request and an input: the text
@@ -20,7 +20,7 @@ use Rattle.resil_driver.specs.Answer.{IsAnswerOf, IsRefusedFor, LacksThread}
 -- the refusal or of the thread.
 abbrev pub IsAnswer : Option Request → Option (List ℕ) → Status → List ℕ → Type 0
 IsAnswer requested input status.Done text = (what : Request) × (requested ≡ Some what) × IfSome input (λ bytes. IsAnswerOf what bytes text)
-IsAnswer requested input status.Refused text = (what : Request) × (requested ≡ Some what) × (why : Refusal) × (text ≡ refusal_line why)
+IsAnswer requested input status.Refused text = (what : Request) × (requested ≡ Some what) × (why : InputRefusal) × (text ≡ refusal_line why)
     × IfSome input (λ bytes. IsRefusedFor what bytes why)
 IsAnswer requested input status.Usage text = (requested ≡ None) × (text ≡ usage_line)
 IsAnswer requested input status.NoMemory text = text ≡ memory_line

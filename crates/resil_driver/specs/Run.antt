@@ -20,8 +20,8 @@ use Rattle.resil_heads.specs.Parts.{SplitsInto, IsPartRefusal}
 use Rattle.resil_heads.specs.declared.command_error.CommandError.{CommandError}
 use Rattle.resil_driver.specs.Run.Play.{HasPlayed}
 use Rattle.resil_words.specs.declared.command_line.RunOptions.{RunOptions}
-use Rattle.resil_heads.specs.declared.refusal.Refusal.{Refusal}
-use Rattle.resil_heads.specs.declared.refusal.Refusal.TheVariants as refusal
+use Rattle.resil_heads.specs.declared.refusal.InputRefusal.{InputRefusal}
+use Rattle.resil_heads.specs.declared.refusal.InputRefusal.TheVariants as refusal
 use Rattle.resil_heads.specs.declared.refusal.RunRefusal.TheVariants as run
 use Rattle.resil_driver.specs.declared.run.runner.RunSettings.{RunSettings}
 
@@ -40,7 +40,7 @@ module _ (MayAnswer : RunSettings → List BulkheadView → List JobRow → Resu
 
   -- The refusal of the first step that refuses the input: its parts, its head, its body. Once the
   -- rows are read, the run may be refused instead of a report.
-  abbrev pub IsRunRefusal : RunOptions → List ℕ → Refusal → Type 0
+  abbrev pub IsRunRefusal : RunOptions → List ℕ → InputRefusal → Type 0
   IsRunRefusal words input (refusal.Run run.Stranger) = HasRun words input (Err run_error.Stranger)
   IsRunRefusal words input (refusal.Run run.ReceiptsDiffer) = HasRun words input (Err run_error.ReceiptsDiffer)
   IsRunRefusal words input why = IsPartRefusal run_head_of (IsRunBodyError words.callers) input why

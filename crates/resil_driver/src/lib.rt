@@ -12,7 +12,7 @@ mod program;
 pub mod run;
 
 pub use program::{drive, drive_single};
-pub use resil_heads::{CommandError, Refusal, RunRefusal, StepRefusal, refusal_line};
+pub use resil_heads::{CommandError, InputRefusal, RunRefusal, StepRefusal, refusal_line};
 pub use resil_input::output::{Output, Status, write_output};
 pub use resil_replay::text_reads_back;
 pub use resil_words::{Request, RunOptions, Single, UsageError, parse_args, worked_run_options};

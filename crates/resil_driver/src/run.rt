@@ -28,7 +28,7 @@ use crate::run::report::report_text;
 use crate::run::rows::read_rows;
 pub use crate::run::runner::{JobRunner, RunBatch, RunSettings, ThreadRunner};
 pub use crate::run::worked_heads::worked_run_heads;
-use resil_heads::{CommandError, Refusal};
+use resil_heads::{CommandError, InputRefusal};
 use resil_input::framing::split_input;
 use resil_words::RunOptions;
 use resil_workers::RunError;
@@ -55,7 +55,7 @@ pub fn text<J: JobRunner, R: Threads + Wait + Sync>(
     requires { words.callers ≤ 64 }
     ensures { MatchResult result (λ text. IsRunText J.MayAnswer words input.now text.items) (IsRunError (HasRun J.MayAnswer words input.now (Err RunError.NoThread)) (IsRunRefusal J.MayAnswer words input.now)) }
 {
-    let (head, body) = split_input(input).ok_or(Refusal::NoBody)?;
+    let (head, body) = split_input(input).ok_or(InputRefusal::NoBody)?;
     let head = read_head(alloc, head)?;
     text_for(runner, rt, alloc, RunRequest { head: &head, words }, body)
 }

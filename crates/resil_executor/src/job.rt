@@ -2,7 +2,7 @@
 ghost use Rattle.std.specs.Prelude.{◌≡◌};
 
 use resil_rule::{Id, Slot};
-use resil_task::by_hand::Run;
+use resil_task::by_hand::RunOnce;
 
 /// A job that a worker picked, and hasn't run yet.
 #[derive(Drop)]
@@ -29,7 +29,7 @@ impl<W> PickedJob<W> {
     /// Runs it, in one of the worker's contexts.
     pub fn run<C>(self, context: &mut C) -> RanJob<W::Output>
     where
-        W: Run<C>,
+        W: RunOnce<C>,
         ensures slot { result.slot ≡ self.slot }
         ensures ran { W.HasRun context.old self.work result.output context.new }
     {

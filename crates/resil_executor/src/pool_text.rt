@@ -7,9 +7,9 @@ use std::fmt;
 
 // A name as the value of a label: a backslash, a quote and a newline each get a backslash before them.
 #[derive(Drop)]
-struct Label<'a>(&'a str);
+struct PoolLabel<'a>(&'a str);
 
-impl fmt::Display for Label<'_> {
+impl fmt::Display for PoolLabel<'_> {
     fn fmt<W: fmt::Write>(&self, f: &mut fmt::Formatter<W>) -> fmt::Result {
         for letter in self.0.chars() {
             match letter {
@@ -48,7 +48,7 @@ impl fmt::Display for PoolText<'_> {
             ("core_thread_pool_size", u64::from(numbers.core)),
             ("max_thread_pool_size", u64::from(numbers.max)),
         ];
-        let name = Label(self.name);
+        let name = PoolLabel(self.name);
         for (what, value) in gauges {
             write!(f, "# TYPE resilience4j_bulkhead_{what} gauge\n")?;
             write!(

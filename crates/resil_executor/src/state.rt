@@ -22,7 +22,7 @@ use crate::log::Entry;
 use crate::opening::Opening;
 use resil_lock::{Guarded, Look, Note};
 use resil_rule::{AdmitError, Event, Id, Origin, Record, Refusal, Reply, Rule, Sizes, Slot};
-use resil_task::by_hand::Run;
+use resil_task::by_hand::RunOnce;
 use std::alloc::{AllocError, Global};
 
 // The caller of all submissions of a pool. A text of events numbers its callers from 1.
@@ -347,7 +347,7 @@ impl<W: Drop, H: Record> State<W, H> {
     /// A turn that ends a job that is out and was run. `_output` is what its run returned.
     pub fn finish<C>(&mut self, slot: Slot, _output: &W::Output)
     where
-        W: Run<C>,
+        W: RunOnce<C>,
         requires ran { (from : C) × (work : W) × (to : C) × W.HasRun from work _output.now to }
         requires out { is_among slot.id (ids_out self.old.rule.out) ≡ true }
         requires room { H.HasRoom (owed self.old.rule) self.old.kept }

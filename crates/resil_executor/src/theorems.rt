@@ -14,7 +14,7 @@ use crate::state::BoxedState;
 use atomic_table::TableRule;
 use resil_lock::{LockRule, View};
 use resil_rule::Record;
-use resil_task::by_hand::Run;
+use resil_task::by_hand::RunOnce;
 
 /// A worker that picked a job and wrote nothing more hasn't worked. So a body of `Executor::work` that drops a job that it took,
 /// or runs it and never ends it, can't meet `worked`.
@@ -22,7 +22,7 @@ use resil_task::by_hand::Run;
 /// ```
 /// picked_is_ended::<(), Errand, NoRecord>(); // From here on a proof has PickedIsEnded.
 /// ```
-pub fn picked_is_ended<C, W: Run<C>, H>()
+pub fn picked_is_ended<C, W: RunOnce<C>, H>()
     ensures { PickedIsEnded (Opening H) W.HasRun }
 {}
 
@@ -31,7 +31,7 @@ pub fn picked_is_ended<C, W: Run<C>, H>()
 /// ```
 /// ended_was_picked::<(), Errand, NoRecord>(); // From here on a proof has EndedWasPicked.
 /// ```
-pub fn ended_was_picked<C, W: Run<C>, H>()
+pub fn ended_was_picked<C, W: RunOnce<C>, H>()
     ensures { EndedWasPicked (Opening H) W.HasRun }
 {}
 

@@ -6,7 +6,7 @@ ghost use Rattle.resil_executor.specs.Seats.{limits_of, IsOf, HasLeft, known_to}
 
 use crate::executor::{Executor, ExecutorCloser, ExecutorWorker};
 use resil_rule::Record;
-use resil_task::by_hand::Run;
+use resil_task::by_hand::RunOnce;
 use std::alloc::{AllocError, Global};
 use std::marker::PhantomData;
 use std::snapshot::Snapshot;
@@ -31,7 +31,7 @@ impl<W: Drop, H: Record> Executor<W, H> {
         context: &mut C,
     ) -> ExecutorWorker<W, H>
     where
-        W: Run<C>,
+        W: RunOnce<C>,
         requires mine { IsOf self.now closer.old.seat }
         ensures mine { IsOf self.now result.seat }
         ensures closer { IsOf self.now closer.new.seat }
@@ -49,7 +49,7 @@ impl<W: Drop, H: Record> Executor<W, H> {
 /// A job that the threads of a pool run, each in its own context. The job may go to another thread.
 ///
 /// ```
-/// let ended = work_while(&rt, &pool, closer, 20, || ask(&rt, &pool)); // `Executor<W>`, where `W: Run<()> + Drop + Send`
+/// let ended = work_while(&rt, &pool, closer, 20, || ask(&rt, &pool)); // `Executor<W>`, where `W: RunOnce<()> + Drop + Send`
 /// ```
 pub trait ThreadWork<C>: Drop + Send + Sized {
     ghost use Rattle.resil_executor.specs.Turn.{HasWorkedBy, SeesOver};
@@ -73,7 +73,7 @@ pub trait ThreadWork<C>: Drop + Send + Sized {
         ensures over { SeesOver (limits_of pool.now) (known_to result.seat) };
 }
 
-impl<C: Drop, W: Run<C> + Drop + Send> ThreadWork<C> for W {
+impl<C: Drop, W: RunOnce<C> + Drop + Send> ThreadWork<C> for W {
     ghost WasRunThere = { WasRun W.HasRun };
 
     fn work_at<H: Record + Send, R: Wait>(
@@ -118,7 +118,7 @@ pub struct Ended<T, F, W: Drop, H: Record> {
 ///
 /// ```
 /// let workers = Workers { contexts: connections, own: connection, keep_alive: 20 };
-/// let ended = work_while_with(&rt, &pool, closer, workers, || ask(&rt, &pool)); // `Executor<W>`, where `W: Run<Connection> + Drop + Send`
+/// let ended = work_while_with(&rt, &pool, closer, workers, || ask(&rt, &pool)); // `Executor<W>`, where `W: RunOnce<Connection> + Drop + Send`
 /// ```
 #[derive(Drop)]
 pub struct Workers<C> {
@@ -312,7 +312,7 @@ fn lone_workers(alloc: Global, threads: u32, keep_alive: u32) -> Workers<()>
 /// let answer = work_while(&rt, &pool, closer, 20, || ask(&rt, &pool)).answer;
 /// ```
 pub fn work_while<
-    W: Run<()> + ThreadWork<()>,
+    W: RunOnce<()> + ThreadWork<()>,
     H: Record + Send,
     T,
     R: Threads + Wait + Sync,
@@ -345,7 +345,7 @@ pub fn work_while<
 /// to each job that it runs. A context is dropped when its thread ends. The pool is ended in the context `own`.
 pub fn work_while_with<
     C: Drop + Send,
-    W: Run<C> + ThreadWork<C>,
+    W: RunOnce<C> + ThreadWork<C>,
     H: Record + Send,
     T,
     R: Threads + Wait + Sync,

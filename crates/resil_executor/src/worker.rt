@@ -13,7 +13,7 @@ use crate::executor::{Executor, ExecutorWorker};
 use crate::job::{PickedJob, RanJob};
 use resil_lock::{Look, Looks, Round, Rounds};
 use resil_rule::Record;
-use resil_task::by_hand::Run;
+use resil_task::by_hand::RunOnce;
 use std::sync::Wait;
 
 impl<W: Drop, H: Record> Executor<W, H> {
@@ -53,7 +53,7 @@ impl<W: Drop, H: Record> Executor<W, H> {
         ran: RanJob<W::Output>,
     ) -> W::Output
     where
-        W: Run<C>,
+        W: RunOnce<C>,
         requires ran { IsOfItsRun W.HasRun (accepted_in (known_to worker.old.seat).seen) ran.slot.id ran.output }
         requires mine { IsOf self.now worker.old.seat }
         requires due { IsDue ran.slot.id (known_to worker.old.seat).own }
@@ -84,7 +84,7 @@ impl<W: Drop, H: Record> Executor<W, H> {
         context: &mut C,
     ) -> Round
     where
-        W: Run<C>,
+        W: RunOnce<C>,
         requires mine { IsOf self.now worker.old.seat }
         ensures mine { IsOf self.now worker.new.seat }
         ensures worked { HasWorked (limits_of self.now) W.HasRun (known_to worker.old.seat) (known_to worker.new.seat) }
@@ -121,7 +121,7 @@ impl<W: Drop, H: Record> Executor<W, H> {
         keep_alive: u32,
     )
     where
-        W: Run<C>,
+        W: RunOnce<C>,
         requires mine { IsOf self.now worker.old.seat }
         ensures mine { IsOf self.now worker.new.seat }
         ensures worked { HasWorked (limits_of self.now) W.HasRun (known_to worker.old.seat) (known_to worker.new.seat) }
@@ -144,7 +144,7 @@ struct AtWork<'a, W: Drop, H: Record, C> {
     context: &'a mut C,
 }
 
-impl<C, W: Run<C> + Drop, H: Record> Rounds for AtWork<'_, W, H, C> {
+impl<C, W: RunOnce<C> + Drop, H: Record> Rounds for AtWork<'_, W, H, C> {
     ghost use Rattle.resil_executor.specs.Turn.{HasWorked, SeesOver};
     ghost use Rattle.resil_executor.specs.Seats.{limits_of, IsOf, known_to};
 

@@ -7,14 +7,14 @@ use Rattle.resil_heads.specs.Output.{IsLineFor, IsOutputFor, IsRefusalLine}
 use Rattle.resil_heads.specs.Refusal.{refusal_line}
 use Rattle.resil_heads.specs.declared.command_error.CommandError.{CommandError}
 use Rattle.resil_heads.specs.declared.command_error.CommandError.TheVariants as error
-use Rattle.resil_heads.specs.declared.refusal.Refusal.{Refusal}
-use Rattle.resil_heads.specs.declared.refusal.Refusal.TheVariants as refusal
+use Rattle.resil_heads.specs.declared.refusal.InputRefusal.{InputRefusal}
+use Rattle.resil_heads.specs.declared.refusal.InputRefusal.TheVariants as refusal
 use Rattle.resil_input.specs.declared.output.Output.{Output}
 use Rattle.resil_input.specs.declared.output.Output.TheVariants as output
 
-module _ (limit : ℕ) (IsText : List ℕ → List ℕ → Type 0) (IsWhy : List ℕ → Refusal → Type 0) (input : List ℕ) where
+module _ (limit : ℕ) (IsText : List ℕ → List ℕ → Type 0) (IsWhy : List ℕ → InputRefusal → Type 0) (input : List ℕ) where
   -- what is put out for a line that refuses the input
-  line-output : (out : Output) (why : Refusal) → IsLineFor limit (IsRefusalLine IsWhy) input (refusal_line why) → IsErrorOutput (error.Refused why) out → IsOutputFor limit IsText (IsRefusalLine IsWhy) input out
+  line-output : (out : Output) (why : InputRefusal) → IsLineFor limit (IsRefusalLine IsWhy) input (refusal_line why) → IsErrorOutput (error.Refused why) out → IsOutputFor limit IsText (IsRefusalLine IsWhy) input out
   line-output out why is (inl none) = rw none tt
   line-output (output.Line l) why is (inr told) = subst (IsLineFor limit (IsRefusalLine IsWhy) input) (sym told.1) is
   line-output output.NoMemory why is (inr told) = tt

@@ -14,18 +14,18 @@ use Rattle.resil_permit.specs.declared.interleaving.WeaveError.TheVariants as we
 use Rattle.resil_heads.specs.Refusal.{refusal_line}
 use Rattle.resil_heads.specs.declared.command_error.CommandError.{CommandError}
 use Rattle.resil_heads.specs.declared.command_error.CommandError.TheVariants as error
-use Rattle.resil_heads.specs.declared.refusal.Refusal.{Refusal}
-use Rattle.resil_heads.specs.declared.refusal.Refusal.TheVariants as refusal
+use Rattle.resil_heads.specs.declared.refusal.InputRefusal.{InputRefusal}
+use Rattle.resil_heads.specs.declared.refusal.InputRefusal.TheVariants as refusal
 use Rattle.resil_heads.specs.declared.refusal.StepRefusal.TheVariants as step
 
 -- an error of a command of one thread: memory, or a refusal that is one of those given
-abbrev pub IsError : (Refusal → Type 0) → CommandError → Type 0
+abbrev pub IsError : (InputRefusal → Type 0) → CommandError → Type 0
 IsError IsWhy error.Memory = Unit {0}
 IsError IsWhy error.NoThread = ⊥
 IsError IsWhy (error.Refused why) = IsWhy why
 
 -- an error of `run`: memory, a thread that can't be started if this is given, or a refusal that is one of those given
-abbrev pub IsRunError : Type 0 → (Refusal → Type 0) → CommandError → Type 0
+abbrev pub IsRunError : Type 0 → (InputRefusal → Type 0) → CommandError → Type 0
 IsRunError LacksThread IsWhy error.Memory = Unit {0}
 IsRunError LacksThread IsWhy error.NoThread = LacksThread
 IsRunError LacksThread IsWhy (error.Refused why) = IsWhy why

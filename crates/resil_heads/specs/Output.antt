@@ -2,8 +2,8 @@
 use Rattle.std.specs.Prelude.{ℕ, ◌≡◌, ◌⊎◌, false, true, List, string_bytes}
 use Rattle.resil_heads.specs.Length.{is_too_long}
 use Rattle.resil_heads.specs.Refusal.{refusal_line}
-use Rattle.resil_heads.specs.declared.refusal.Refusal.{Refusal}
-use Rattle.resil_heads.specs.declared.refusal.Refusal.TheVariants as refusal
+use Rattle.resil_heads.specs.declared.refusal.InputRefusal.{InputRefusal}
+use Rattle.resil_heads.specs.declared.refusal.InputRefusal.TheVariants as refusal
 use Rattle.resil_input.specs.declared.output.Output.{Output}
 use Rattle.resil_input.specs.declared.output.Output.TheVariants as output
 
@@ -21,5 +21,5 @@ IsOutputFor limit IsText IsLine input output.NoMemory = Unit {0}
 IsOutputFor limit IsText IsLine input output.NoThread = ⊥
 
 -- the line of one of these refusals of an input
-abbrev pub IsRefusalLine : (List ℕ → Refusal → Type 0) → List ℕ → List ℕ → Type 0
-IsRefusalLine IsWhy input line = (why : Refusal) × IsWhy input why × (line ≡ refusal_line why)
+abbrev pub IsRefusalLine : (List ℕ → InputRefusal → Type 0) → List ℕ → List ℕ → Type 0
+IsRefusalLine IsWhy input line = (why : InputRefusal) × IsWhy input why × (line ≡ refusal_line why)

@@ -5,8 +5,8 @@ use Rattle.resil_input.specs.Framing.{parts_of}
 use Rattle.resil_input.specs.declared.csv_rows.BodyError.{BodyError}
 use Rattle.resil_input.specs.declared.csv_rows.BodyError.TheVariants as body_error
 use Rattle.resil_heads.specs.declared.error.HeadError.{HeadError}
-use Rattle.resil_heads.specs.declared.refusal.Refusal.{Refusal}
-use Rattle.resil_heads.specs.declared.refusal.Refusal.TheVariants as refusal
+use Rattle.resil_heads.specs.declared.refusal.InputRefusal.{InputRefusal}
+use Rattle.resil_heads.specs.declared.refusal.InputRefusal.TheVariants as refusal
 
 -- the input is within the limit of its length
 abbrev pub FitsLimit : List ℕ → Type 0
@@ -17,7 +17,7 @@ abbrev pub SplitsInto : {Head : Type 0} → (List ℕ → Result Head HeadError)
 SplitsInto head_of input said body = (head : List ℕ) × (parts_of input ≡ Some (head, body)) × (head_of head ≡ Ok said)
 
 -- The refusal of the first step that refuses an input: its parts, its head, its body. Each step uses what the steps before it gave.
-abbrev pub IsPartRefusal : {Head : Type 0} → (List ℕ → Result Head HeadError) → (List ℕ → BodyError → Type 0) → List ℕ → Refusal → Type 0
+abbrev pub IsPartRefusal : {Head : Type 0} → (List ℕ → Result Head HeadError) → (List ℕ → BodyError → Type 0) → List ℕ → InputRefusal → Type 0
 IsPartRefusal head_of IsBad input refusal.NoBody = parts_of input ≡ None
 IsPartRefusal head_of IsBad input (refusal.Head why) = (head : List ℕ) × (body : List ℕ) × (parts_of input ≡ Some (head, body)) × (head_of head ≡ Err why)
 IsPartRefusal {Head} head_of IsBad input refusal.BadHeader = (said : Head) × (body : List ℕ) × SplitsInto head_of input said body × IsBad body body_error.BadHeader

@@ -15,8 +15,8 @@ use Rattle.resil_heads.specs.declared.refusal.LoadRefusal.{LoadRefusal}
 use Rattle.resil_heads.specs.declared.refusal.LoadRefusal.TheVariants as load
 use Rattle.resil_heads.specs.declared.refusal.RowRefusal.{RowRefusal}
 use Rattle.resil_heads.specs.declared.refusal.RowRefusal.TheVariants as row
-use Rattle.resil_heads.specs.declared.refusal.Refusal.{Refusal}
-use Rattle.resil_heads.specs.declared.refusal.Refusal.TheVariants as refusal
+use Rattle.resil_heads.specs.declared.refusal.InputRefusal.{InputRefusal}
+use Rattle.resil_heads.specs.declared.refusal.InputRefusal.TheVariants as refusal
 use Rattle.resil_heads.specs.declared.refusal.StepRefusal.{StepRefusal}
 use Rattle.resil_heads.specs.declared.refusal.StepRefusal.TheVariants as step
 use Rattle.resil_heads.specs.declared.refusal.RunRefusal.{RunRefusal}
@@ -107,7 +107,7 @@ abbrev pub row_line : ℕ → List ℕ → List ℕ
 row_line position name = codes "refused " ++ (decimal position ++ (codes " " ++ (name ++ codes "\n")))
 
 -- the line of a refusal: the place, and its name
-abbrev pub refusal_line : Refusal → List ℕ
+abbrev pub refusal_line : InputRefusal → List ℕ
 refusal_line refusal.TooLong = part_line (codes "input") (codes "TooLong")
 refusal_line refusal.NoBody = part_line (codes "input") (codes "NoBody")
 refusal_line (refusal.Head why) = part_line (codes "head") (head_name why)

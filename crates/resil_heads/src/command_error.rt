@@ -6,11 +6,11 @@
 ghost use Rattle.std.specs.Prelude.{◌≡◌, MatchResult};
 ghost use Rattle.resil_heads.specs.CommandError.{IsErrorOutput, from_body_error, from_head_error, from_weave_error};
 ghost use Rattle.resil_heads.specs.declared.command_error.CommandError.TheVariants.{Memory, Refused};
-ghost use Rattle.resil_heads.specs.declared.refusal.Refusal.TheVariants.{TooLong};
+ghost use Rattle.resil_heads.specs.declared.refusal.InputRefusal.TheVariants.{TooLong};
 ghost use Rattle.resil_input.specs.declared.output.Output.{Output};
 
 use crate::error::{HeadError, HeadFault};
-use crate::refusal::{Refusal, StepRefusal, refusal_line};
+use crate::refusal::{InputRefusal, StepRefusal, refusal_line};
 use resil_input::csv_rows::BodyError;
 use resil_input::output::Output;
 use resil_permit::WeaveError;
@@ -28,7 +28,7 @@ pub enum CommandError {
     NoThread,
     /// The input is refused.
     #[error("the input is refused")]
-    Refused(Refusal),
+    Refused(InputRefusal),
 }
 
 impl From<AllocError> for CommandError {
@@ -39,10 +39,10 @@ impl From<AllocError> for CommandError {
     }
 }
 
-impl From<Refusal> for CommandError {
+impl From<InputRefusal> for CommandError {
     ghost from_gives = { λ why error. error ≡ Refused why };
 
-    fn from(why: Refusal) -> CommandError {
+    fn from(why: InputRefusal) -> CommandError {
         CommandError::Refused(why)
     }
 }
@@ -53,7 +53,7 @@ impl From<HeadFault> for CommandError {
     fn from(fault: HeadFault) -> CommandError {
         match fault.why() {
             HeadError::Memory => CommandError::Memory,
-            other => CommandError::Refused(Refusal::Head(other)),
+            other => CommandError::Refused(InputRefusal::Head(other)),
         }
     }
 }
@@ -64,8 +64,8 @@ impl From<BodyError> for CommandError {
     fn from(why: BodyError) -> CommandError {
         match why {
             BodyError::Memory => CommandError::Memory,
-            BodyError::BadHeader => CommandError::Refused(Refusal::BadHeader),
-            BodyError::BadRow(position) => CommandError::Refused(Refusal::BadRow(position)),
+            BodyError::BadHeader => CommandError::Refused(InputRefusal::BadHeader),
+            BodyError::BadRow(position) => CommandError::Refused(InputRefusal::BadRow(position)),
         }
     }
 }
@@ -77,14 +77,14 @@ impl From<WeaveError> for CommandError {
         let (position, step) = match why {
             WeaveError::Memory => return CommandError::Memory,
             WeaveError::TooManyPermits => {
-                return CommandError::Refused(Refusal::Head(HeadError::TooManyPermits));
+                return CommandError::Refused(InputRefusal::Head(HeadError::TooManyPermits));
             }
             WeaveError::NotLoaded(position) => (position, StepRefusal::NotLoaded),
             WeaveError::NotHolding(position) => (position, StepRefusal::NotHolding),
             WeaveError::StillLoaded(position) => (position, StepRefusal::StillLoaded),
             WeaveError::NotRetired(position) => (position, StepRefusal::NotRetired),
         };
-        CommandError::Refused(Refusal::Step(position, step))
+        CommandError::Refused(InputRefusal::Step(position, step))
     }
 }
 
@@ -92,7 +92,7 @@ impl From<WeaveError> for CommandError {
 pub fn too_long_output(alloc: Global) -> Output
     ensures { IsErrorOutput (Refused TooLong) result }
 {
-    error_output(alloc, CommandError::Refused(Refusal::TooLong))
+    error_output(alloc, CommandError::Refused(InputRefusal::TooLong))
 }
 
 /// The output of a command's result: its text, or that of `error_output`.

@@ -27,4 +27,4 @@ pub mod subject;
 pub use command_error::{CommandError, error_output, made_output, too_long_output};
 pub use error::{FaultyKey, HeadError, HeadFault, Part, at_key};
 pub use layers::byte_order_is_of_members;
-pub use refusal::{LoadRefusal, Refusal, RowRefusal, RunRefusal, StepRefusal, refusal_line};
+pub use refusal::{InputRefusal, LoadRefusal, RowRefusal, RunRefusal, StepRefusal, refusal_line};

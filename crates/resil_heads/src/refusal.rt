@@ -15,7 +15,7 @@ use std::alloc::{AllocError, Global};
 
 /// Why an input is refused, in the order of the steps.
 #[derive(Clone, Copy, Debug)]
-pub enum Refusal {
+pub enum InputRefusal {
     /// It has more bytes than an input may have.
     TooLong,
     /// It has no separator line.
@@ -231,20 +231,20 @@ fn row_line(alloc: Global, position: usize, name: &str) -> Result<String, AllocE
 /// # Errors
 ///
 /// `AllocError` when out of memory.
-pub fn refusal_line(alloc: Global, why: Refusal) -> Result<String, AllocError>
+pub fn refusal_line(alloc: Global, why: InputRefusal) -> Result<String, AllocError>
     ensures { IfOk result (λ line. string_bytes line ≡ refusal_line why) }
 {
     match why {
-        Refusal::TooLong => part_line(alloc, "input", "TooLong"),
-        Refusal::NoBody => part_line(alloc, "input", "NoBody"),
-        Refusal::Head(why) => part_line(alloc, "head", head_name(why)),
-        Refusal::ManyPools => part_line(alloc, "head", "ManyPools"),
-        Refusal::BadHeader => part_line(alloc, "body", "BadHeader"),
-        Refusal::BadRow(position) => row_line(alloc, position, "BadRow"),
-        Refusal::Row(position, why) => row_line(alloc, position, row_name(why)),
-        Refusal::Step(position, why) => row_line(alloc, position, step_name(why)),
-        Refusal::Load(position, why) => row_line(alloc, position, load_name(why)),
-        Refusal::BadResult => part_line(alloc, "results", "BadRow"),
-        Refusal::Run(why) => part_line(alloc, "run", run_name(why)),
+        InputRefusal::TooLong => part_line(alloc, "input", "TooLong"),
+        InputRefusal::NoBody => part_line(alloc, "input", "NoBody"),
+        InputRefusal::Head(why) => part_line(alloc, "head", head_name(why)),
+        InputRefusal::ManyPools => part_line(alloc, "head", "ManyPools"),
+        InputRefusal::BadHeader => part_line(alloc, "body", "BadHeader"),
+        InputRefusal::BadRow(position) => row_line(alloc, position, "BadRow"),
+        InputRefusal::Row(position, why) => row_line(alloc, position, row_name(why)),
+        InputRefusal::Step(position, why) => row_line(alloc, position, step_name(why)),
+        InputRefusal::Load(position, why) => row_line(alloc, position, load_name(why)),
+        InputRefusal::BadResult => part_line(alloc, "results", "BadRow"),
+        InputRefusal::Run(why) => part_line(alloc, "run", run_name(why)),
     }
 }

@@ -27,7 +27,7 @@ const MAX_LOAD_LEN: usize = 4_194_304;
 
 /// What the arguments ask for.
 #[derive(Clone, Copy, Debug, PartialEq, Eq)]
-pub(crate) enum Request {
+pub(crate) enum LookRequest {
     /// A view of a history.
     View(View),
     /// The outcome of a load.
@@ -35,27 +35,27 @@ pub(crate) enum Request {
 }
 
 /// What the arguments ask for. The first of them is the program's name.
-pub(crate) fn requested(words: &[&str]) -> Option<Request>
+pub(crate) fn requested(words: &[&str]) -> Option<LookRequest>
     ensures { result ≡ requested (map (λ word. word.now) words.now) }
 {
     match *words {
         [_, word] => request_named(word),
         [_, word, option] if word == "simulate" && option == "--history" => {
-            Some(Request::Simulate(LoadView::History))
+            Some(LookRequest::Simulate(LoadView::History))
         }
         _ => None,
     }
 }
 
 // What a single word asks for.
-fn request_named(word: &str) -> Option<Request>
+fn request_named(word: &str) -> Option<LookRequest>
     ensures { result ≡ request_named word.now }
 {
     if word == "simulate" {
-        return Some(Request::Simulate(LoadView::Numbers));
+        return Some(LookRequest::Simulate(LoadView::Numbers));
     }
     let view = view_named(word)?;
-    Some(Request::View(view))
+    Some(LookRequest::View(view))
 }
 
 /// The view that a word asks for.
@@ -74,33 +74,38 @@ pub(crate) fn view_named(word: &str) -> Option<View>
 }
 
 /// The maximum length of an input for this request, in bytes.
-pub(crate) fn limit_of(request: Request) -> usize
+pub(crate) fn limit_of(request: LookRequest) -> usize
     ensures { result ≡ limit_of request }
 {
     match request {
-        Request::View(_) => MAX_HISTORY_LEN,
-        Request::Simulate(_) => MAX_LOAD_LEN,
+        LookRequest::View(_) => MAX_HISTORY_LEN,
+        LookRequest::Simulate(_) => MAX_LOAD_LEN,
     }
 }
 
 // The text that answers a request about an input. Errors: those of a view, or of `simulate`.
 fn request_text<P: Progress>(
     alloc: Global,
-    request: Request,
+    request: LookRequest,
     input: &[u8],
     told: &mut P,
 ) -> Result<Vec<u8>, CommandError>
     ensures { MatchResult result (λ text. IsRequestText request input.now text.items) (IsError (IsRequestRefusal request input.now)) }
 {
     match request {
-        Request::View(view) => view_text(alloc, view, input),
-        Request::Simulate(shown) => command::text(alloc, shown, input, told),
+        LookRequest::View(view) => view_text(alloc, view, input),
+        LookRequest::Simulate(shown) => command::text(alloc, shown, input, told),
     }
 }
 
 // The output that answers a request about an input. An input that is too long, or whose head is, is refused first.
 #[tactic(auto, using(resil_heads::proofs::OutputLaws::error_answers, resil_heads::proofs::OutputLaws::too_long_answers))]
-fn whole_output<P: Progress>(alloc: Global, request: Request, input: &[u8], told: &mut P) -> Output
+fn whole_output<P: Progress>(
+    alloc: Global,
+    request: LookRequest,
+    input: &[u8],
+    told: &mut P,
+) -> Output
     ensures { IsRequestOutput request input.now result }
 {
     if is_too_long(limit_of(request), input) {
@@ -113,7 +118,7 @@ fn whole_output<P: Progress>(alloc: Global, request: Request, input: &[u8], told
 #[tactic(auto, using(resil_heads::proofs::OutputLaws::longer_than, resil_heads::proofs::OutputLaws::too_long_answers))]
 fn request_output<P: Progress>(
     alloc: Global,
-    request: Request,
+    request: LookRequest,
     input: &Input,
     told: &mut P,
 ) -> Output
@@ -128,7 +133,7 @@ fn request_output<P: Progress>(
 // The output that answers a request about what a reader reads. Errors: a read failed.
 fn read_output<R: InputReader, P: Progress>(
     alloc: Global,
-    request: Request,
+    request: LookRequest,
     reader: &mut R,
     told: &mut P,
 ) -> Result<Output, ReadError>

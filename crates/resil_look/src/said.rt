@@ -1,6 +1,6 @@
 //! What `resil_look` reports on standard error about its arguments, and about an output by what they ask for.
 
-use crate::look::{Request, limit_of, requested, view_named};
+use crate::look::{LookRequest, limit_of, requested, view_named};
 use resil_explain::{explain_input, say_commands, say_words};
 use resil_input::io::MAX_INPUT_LEN;
 
@@ -24,7 +24,7 @@ fn explain_words<R: Eprint>(rt: &R, words: &[&str]) {
 }
 
 // Reports on standard error how long an input for this request may be.
-fn explain_length<R: Eprint>(rt: &R, request: Request) {
+fn explain_length<R: Eprint>(rt: &R, request: LookRequest) {
     let limit = limit_of(request);
     let head = MAX_INPUT_LEN;
     drop(eprintln!(rt;
@@ -46,8 +46,8 @@ pub(crate) fn explain_look<R: Eprint + AllocGlobal>(
         Some(request) if line == b"refused input TooLong\n".as_slice() => {
             explain_length(rt, request)
         }
-        Some(Request::View(view)) => explain_input(rt, view, code, line, input),
-        Some(Request::Simulate(shown)) => explain_input(rt, shown, code, line, input),
+        Some(LookRequest::View(view)) => explain_input(rt, view, code, line, input),
+        Some(LookRequest::Simulate(shown)) => explain_input(rt, shown, code, line, input),
         None => explain_words(rt, words),
     }
 }

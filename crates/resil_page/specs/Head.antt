@@ -3,7 +3,7 @@ use Rattle.std.specs.Prelude.{ℕ, ◌≡◌, ◌++◌, ◌∷◌, [], Bool, tru
 use Rattle.std.specs.Fmt.{decimal}
 use Rattle.resil_heads.specs.Parts.{IsPartRefusal, SplitsInto}
 use Rattle.resil_heads.specs.PoolHead.{PoolHeadView, pool_head_of}
-use Rattle.resil_heads.specs.declared.refusal.Refusal.{Refusal}
+use Rattle.resil_heads.specs.declared.refusal.InputRefusal.{InputRefusal}
 use Rattle.resil_input.specs.CsvTable.{record_text, table_text}
 use Rattle.resil_page.specs.declared.head.HeadOf.{HeadOf}
 use Rattle.resil_page.specs.declared.head.HeadOf.TheVariants as head_of
@@ -55,6 +55,6 @@ IsHeadText head_of.History input text = (said : PoolHeadView) × IsHistoryHead i
 IsHeadText head_of.Load input text = (plan : LoadPlan) × IsLoadHead input plan × (text ≡ load_text plan.ways plan.terms plan.pools)
 
 -- why there is none: the input has no head, or its head is refused
-abbrev pub IsHeadRefusal : HeadOf → List ℕ → Refusal → Type 0
+abbrev pub IsHeadRefusal : HeadOf → List ℕ → InputRefusal → Type 0
 IsHeadRefusal head_of.History input why = IsPartRefusal (pool_head_of drawn_uses) (λ _ _. ⊥) input why
 IsHeadRefusal head_of.Load input why = IsPartRefusal load_head_of (λ _ _. ⊥) input why

@@ -1,7 +1,7 @@
 -- What a page is answered: the output of a command for an input, and where its bytes are.
 use Rattle.std.specs.Prelude.{ℕ, ◌≡◌, ◌≤◌, ◌<◌, ◌++◌, ◌⊎◌, ◌==◌, if◌then◌else◌, List, Option, Some, None, length, drop}
 use Rattle.resil_heads.specs.Output.{IsOutputFor, IsRefusalLine}
-use Rattle.resil_heads.specs.declared.refusal.Refusal.{Refusal}
+use Rattle.resil_heads.specs.declared.refusal.InputRefusal.{InputRefusal}
 use Rattle.resil_input.specs.Io.{input_limit}
 use Rattle.resil_input.specs.Output.{bytes_of, code_of, status_of}
 use Rattle.resil_input.specs.declared.output.Output.{Output}
@@ -39,7 +39,7 @@ IsCommandText (View view) = IsViewText view
 IsCommandText (Simulate shown) = text_of shown
 IsCommandText (Head whose) = IsHeadText whose
 
-abbrev pub IsCommandRefusal : Command → List ℕ → Refusal → Type 0
+abbrev pub IsCommandRefusal : Command → List ℕ → InputRefusal → Type 0
 IsCommandRefusal Replay = IsReplayRefusal
 IsCommandRefusal Audit = IsAuditRefusal
 IsCommandRefusal (View view) = IsViewRefusal view

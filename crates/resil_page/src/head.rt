@@ -8,7 +8,7 @@ ghost use Rattle.resil_page.specs.Head.{IsHeadRefusal, IsHeadText, IsHistoryHead
 ghost use Rattle.resil_simulate.specs.Head.{plan_of};
 
 use resil_heads::pool_head::{PoolHead, read_pool_head};
-use resil_heads::{CommandError, Refusal};
+use resil_heads::{CommandError, InputRefusal};
 use resil_input::framing::split_input;
 use resil_jdk::JdkLimits;
 use resil_simulate::head::{LoadHead, Terms, Unfinished, Ways, read_load_head};
@@ -95,7 +95,7 @@ fn load_text(
 fn read_history_head(alloc: Global, input: &[u8]) -> Result<PoolHead, CommandError>
     ensures { MatchResult result (λ head. IsHistoryHead input.now (said_of head)) (IsError (IsHeadRefusal HeadOf.History input.now)) }
 {
-    let (head, _) = split_input(input).ok_or(Refusal::NoBody)?;
+    let (head, _) = split_input(input).ok_or(InputRefusal::NoBody)?;
     let said = read_pool_head(alloc, DRAWN_USES, head)?;
     Ok(said)
 }
@@ -104,7 +104,7 @@ fn read_history_head(alloc: Global, input: &[u8]) -> Result<PoolHead, CommandErr
 fn read_head_of_load(alloc: Global, input: &[u8]) -> Result<LoadHead, CommandError>
     ensures { MatchResult result (λ head. IsLoadHead input.now (plan_of head)) (IsError (IsHeadRefusal HeadOf.Load input.now)) }
 {
-    let (head, _) = split_input(input).ok_or(Refusal::NoBody)?;
+    let (head, _) = split_input(input).ok_or(InputRefusal::NoBody)?;
     let said = read_load_head(alloc, head)?;
     Ok(said)
 }

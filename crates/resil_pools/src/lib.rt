@@ -34,7 +34,7 @@
 //!
 //! By hand:
 //! - `by_hand`: turns at a pool, with a `Visitor` or an `ExecutorWorker`
-//! - `tasks`: the layer below `Work`: `Run`, repliers, the two ends of an answer
+//! - `tasks`: the layer below `Work`: `RunOnce`, repliers, the two ends of an answer
 #![tactic(auto)]
 
 pub use resil_executor::{

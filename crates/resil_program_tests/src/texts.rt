@@ -5,7 +5,7 @@ use resil_chain::head::read_head;
 use resil_chain::runs::run_row;
 use resil_decor::{DecorError, Run};
 use resil_driver::run::report::report_text;
-use resil_driver::{CommandError, Refusal, RunRefusal, UsageError, refusal_line};
+use resil_driver::{CommandError, InputRefusal, RunRefusal, UsageError, refusal_line};
 use resil_heads::HeadError;
 use resil_input::csv_rows::BodyError;
 use resil_input::io::{ReadError, ReadFailure, WriteError};
@@ -86,7 +86,7 @@ fn lines_of_refused_runs(rt: HostRuntime) {
         (RunRefusal::Stranger, "refused run Stranger\n"),
         (RunRefusal::ReceiptsDiffer, "refused run ReceiptsDiffer\n"),
     ] {
-        let line = refusal_line(rt.alloc(), Refusal::Run(why)).expect(&rt, "a line");
+        let line = refusal_line(rt.alloc(), InputRefusal::Run(why)).expect(&rt, "a line");
         assert!(rt; line.as_str() == wanted, "{wanted}");
     }
 }

@@ -8,7 +8,7 @@ use Rattle.resil_rule.specs.declared.verdict.Verdict.TheVariants.{Legal, FirstIl
 use Rattle.resil_replay.specs.Head.{pool_head_of}
 use Rattle.resil_replay.specs.Events.{IsAuditBody, IsAuditBodyError}
 use Rattle.resil_heads.specs.Parts.{SplitsInto, IsPartRefusal}
-use Rattle.resil_heads.specs.declared.refusal.Refusal.{Refusal}
+use Rattle.resil_heads.specs.declared.refusal.InputRefusal.{InputRefusal}
 
 -- one line: `legal`, or `illegal` and the position of the first illegal event, from 1
 abbrev pub verdict_text : Verdict → List ℕ
@@ -22,5 +22,5 @@ IsAuditText input text = (limits : Sizes) × (body : List ℕ) × (history : Lis
     × SplitsInto pool_head_of input limits body × IsAuditBody body history × IsVerdict limits history verdict × (text ≡ verdict_text verdict)
 
 -- the refusal of the first step that refuses the input: its parts, its head, its body
-abbrev pub IsAuditRefusal : List ℕ → Refusal → Type 0
+abbrev pub IsAuditRefusal : List ℕ → InputRefusal → Type 0
 IsAuditRefusal input why = IsPartRefusal pool_head_of IsAuditBodyError input why

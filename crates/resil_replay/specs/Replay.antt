@@ -13,8 +13,8 @@ use Rattle.resil_replay.specs.History.{history_text}
 use Rattle.resil_heads.specs.Parts.{SplitsInto, IsPartRefusal}
 use Rattle.resil_heads.specs.declared.command_error.CommandError.{CommandError}
 use Rattle.resil_heads.specs.declared.command_error.CommandError.TheVariants as error
-use Rattle.resil_heads.specs.declared.refusal.Refusal.{Refusal}
-use Rattle.resil_heads.specs.declared.refusal.Refusal.TheVariants as refusal
+use Rattle.resil_heads.specs.declared.refusal.InputRefusal.{InputRefusal}
+use Rattle.resil_heads.specs.declared.refusal.InputRefusal.TheVariants as refusal
 
 -- The input splits into a head of a pool and a body of rows, and the text is that of the one legal
 -- history that the rows give under the limits of the head.
@@ -24,7 +24,7 @@ IsReplayText input text = (limits : Sizes) × (body : List ℕ) × (version : Ve
 
 -- the refusal of the first step that refuses the input: its parts, its head, its body, and then a
 -- row that can't be carried out after those before it
-abbrev pub IsReplayRefusal : List ℕ → Refusal → Type 0
+abbrev pub IsReplayRefusal : List ℕ → InputRefusal → Type 0
 IsReplayRefusal input (refusal.Row position why) = (limits : Sizes) × (body : List ℕ) × (version : Version) × (rows : List ReplayRow)
     × SplitsInto pool_head_of input limits body × IsReplayBody body version rows × IsReplayError limits rows (replay_error.Refused position why)
 IsReplayRefusal input why = IsPartRefusal pool_head_of IsReplayBodyError input why

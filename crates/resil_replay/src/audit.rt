@@ -8,7 +8,7 @@ ghost use Rattle.resil_heads.specs.CommandError.{IsError};
 
 use crate::events::read_rows;
 use crate::head::read_head;
-use resil_heads::{CommandError, Refusal};
+use resil_heads::{CommandError, InputRefusal};
 use resil_input::framing::split_input;
 use resil_rule::{Event, Limits, Verdict};
 use std::alloc::{AllocError, Global};
@@ -21,7 +21,7 @@ use std::alloc::{AllocError, Global};
 pub fn text(alloc: Global, input: &[u8]) -> Result<Vec<u8>, CommandError>
     ensures { MatchResult result (λ text. IsAuditText input.now text.items) (IsError (IsAuditRefusal input.now)) }
 {
-    let (head, body) = split_input(input).ok_or(Refusal::NoBody)?;
+    let (head, body) = split_input(input).ok_or(InputRefusal::NoBody)?;
     let limits = read_head(alloc, head)?;
     let history = read_rows(alloc, body)?;
     // The only error of an audit is out of memory.

@@ -11,7 +11,7 @@ use crate::head::read_head;
 use crate::history::history_text;
 use crate::play::{ReplayError, play};
 use crate::rows::{ReplayBody, read_rows};
-use resil_heads::{CommandError, Refusal};
+use resil_heads::{CommandError, InputRefusal};
 use resil_input::framing::split_input;
 use std::alloc::Global;
 
@@ -21,7 +21,7 @@ impl From<ReplayError> for CommandError {
     fn from(why: ReplayError) -> CommandError {
         match why {
             ReplayError::Memory => CommandError::Memory,
-            ReplayError::Refused(position, why) => CommandError::Refused(Refusal::Row(
+            ReplayError::Refused(position, why) => CommandError::Refused(InputRefusal::Row(
                 position, why,
             )),
         }
@@ -37,7 +37,7 @@ impl From<ReplayError> for CommandError {
 pub fn text(alloc: Global, input: &[u8]) -> Result<Vec<u8>, CommandError>
     ensures { MatchResult result (λ text. IsReplayText input.now text.items) (IsError (IsReplayRefusal input.now)) }
 {
-    let (head, body) = split_input(input).ok_or(Refusal::NoBody)?;
+    let (head, body) = split_input(input).ok_or(InputRefusal::NoBody)?;
     let limits = read_head(alloc, head)?;
     let ReplayBody { version, rows } = read_rows(alloc, body)?;
     let machine = play(alloc, limits, &rows)?;

@@ -2,12 +2,12 @@
 use Rattle.resil_simulate.proofs.Words.{◌≡◌, ◌∷◌, [], ◌∙◌, List, Option, ℕ, ap, get_or, length, length-map, inl, inr, refl, subst, Arrival, AreArrivals, IsRead, Sizes, IsHistoryBody, AreShown, IsArrivalsRefusal, IsHeadRefusal, IsSimulateRefusal, LoadView, LoadPlan, load_head_of, IsHistoryLoadRefusal}
 use Rattle.resil_jdk.specs.declared.timed.TimedJdkEvent.{TimedJdkEvent}
 use Rattle.resil_simulate.specs.declared.command.LoadView.TheVariants as load_view
-use Rattle.resil_simulate.specs.declared.numbers.Numbers.{Numbers}
+use Rattle.resil_simulate.specs.declared.numbers.PoolNumbers.{PoolNumbers}
 use Rattle.resil_heads.specs.CommandError.{IsError}
 use Rattle.resil_heads.specs.Parts.{SplitsInto}
 use Rattle.resil_heads.specs.declared.command_error.CommandError.{CommandError}
 use Rattle.resil_heads.specs.declared.command_error.CommandError.TheVariants as error
-use Rattle.resil_heads.specs.declared.refusal.Refusal.TheVariants as refusal
+use Rattle.resil_heads.specs.declared.refusal.InputRefusal.TheVariants as refusal
 
 module _ (plan : LoadPlan) (body : List ℕ) where
   -- the error of the jobs of a history
@@ -45,12 +45,12 @@ lone (pool ∷ []) d one = refl
 lone (pool ∷ other ∷ pools) d one = absurd (cc one)
 
 -- if the head names one pool, a load is carried out on one
-one-pool : (plan : LoadPlan) (body : List ℕ) (arrivals : List Arrival) (own : Option Numbers) (pools : List Sizes) → length plan.pools ≡ 1 → AreArrivals body plan arrivals own pools → length pools ≡ 1
+one-pool : (plan : LoadPlan) (body : List ℕ) (arrivals : List Arrival) (own : Option PoolNumbers) (pools : List Sizes) → length plan.pools ≡ 1 → AreArrivals body plan arrivals own pools → length pools ≡ 1
 one-pool plan body arrivals own pools one (inl are) = ap length are.5 ∙ length-map plan.pools _ ∙ one
 one-pool plan body arrivals own pools one (inr are) = ap length are.2.6 ∙ length-map plan.pools _ ∙ one
 
 -- what is read for a history is read for its one pool
-pub read-one : (input : List ℕ) (plan : LoadPlan) (arrivals : List Arrival) (own : Option Numbers) (pools : List Sizes) (d : Sizes) → IsRead load_view.History input plan arrivals own pools
+pub read-one : (input : List ℕ) (plan : LoadPlan) (arrivals : List Arrival) (own : Option PoolNumbers) (pools : List Sizes) (d : Sizes) → IsRead load_view.History input plan arrivals own pools
     → IsRead load_view.History input plan arrivals own (get_or pools 0 d ∷ [])
 read-one input plan arrivals own pools d read =
     (read.0, read.1, read.2, subst (AreArrivals read.0 plan arrivals own) (lone pools d (one-pool plan read.0 arrivals own pools read.2 read.3)) read.3)

@@ -7,7 +7,7 @@ use Rattle.resil_heads.specs.CommandError.{IsError}
 use Rattle.resil_heads.specs.declared.command_error.CommandError.{CommandError}
 use Rattle.resil_heads.specs.declared.command_error.CommandError.TheVariants as error
 use Rattle.resil_heads.specs.declared.refusal.LoadRefusal.TheVariants.{TimeTooLate}
-use Rattle.resil_heads.specs.declared.refusal.Refusal.TheVariants as refusal
+use Rattle.resil_heads.specs.declared.refusal.InputRefusal.TheVariants as refusal
 use Rattle.resil_rule.specs.History.{last_size}
 use Rattle.resil_jdk.specs.Admission.{AreAllowedAfter, IsAllowed, IsLegal}
 use Rattle.resil_jdk.specs.History.{is_submit_of, next_number, submissions}
@@ -22,8 +22,8 @@ use Rattle.resil_stats.proofs.PlaceLaws.{placed-push}
 use Rattle.resil_virtual.proofs.HistoryLaws.{ascending-more}
 use Rattle.resil_simulate.specs.History.{last_at}
 use Rattle.resil_simulate.specs.Load.{IsLateRefusal, IsUsable}
-use Rattle.resil_simulate.specs.declared.history.Moment.{Moment}
-use Rattle.resil_simulate.specs.declared.history.Submitted.{Submitted}
+use Rattle.resil_simulate.specs.declared.history.JobMoment.{JobMoment}
+use Rattle.resil_simulate.specs.declared.history.SubmittedJob.{SubmittedJob}
 use Rattle.resil_simulate.proofs.LoadLaws.{load}
 
 -- an event with its time, for places that are never read
@@ -49,7 +49,7 @@ none-submitted h p t other = go t.event refl
 
 -- ---- The times of starts and finishes.
 
-time-more : (moment : Moment) (h : List TimedJdkEvent) (t : TimedJdkEvent) (id : Id) → time_of moment (h ++ t ∷ []) id ≡ option_or (time_of moment h id) (cond (is_of moment id t) (Some t.at) None)
+time-more : (moment : JobMoment) (h : List TimedJdkEvent) (t : TimedJdkEvent) (id : Id) → time_of moment (h ++ t ∷ []) id ≡ option_or (time_of moment h id) (cond (is_of moment id t) (Some t.at) None)
 time-more moment h t id = ap (option_map (λ timed. timed.at)) (find-append (is_of moment id) h (t ∷ [])) ∙ go (find (is_of moment id) h) (is_of moment id t)
   where
     go : (found : Option TimedJdkEvent) (own : Bool) → option_map (λ timed. timed.at) (option_or found (cond own (Some t) None)) ≡ option_or (option_map (λ timed. timed.at) found) (cond own (Some t.at) None)
@@ -58,7 +58,7 @@ time-more moment h t id = ap (option_map (λ timed. timed.at)) (find-append (is_
     go None false = refl
 
 -- a table with one more event that is of no job
-pub times_kept : (moment : Moment) (h : List TimedJdkEvent) (t : TimedJdkEvent) (times : BTreeMap ℕ ℕ) → None ≡ job_at moment t.event → AreTimesOf moment h times → AreTimesOf moment (h ++ t ∷ []) times
+pub times_kept : (moment : JobMoment) (h : List TimedJdkEvent) (t : TimedJdkEvent) (times : BTreeMap ℕ ℕ) → None ≡ job_at moment t.event → AreTimesOf moment h times → AreTimesOf moment (h ++ t ∷ []) times
 times_kept moment h t times none are id small = are id small ∙ sym (time-more moment h t id ∙ go (time_of moment h id) (job_at moment t.event) (sym none))
   where
     go : (found : Option ℕ) (job : Option Id) → job ≡ None → option_or found (cond (option_map_or (is_same_id id) job false) (Some t.at) None) ≡ found
@@ -71,7 +71,7 @@ key-same : (x y : Id) → x.number < 2 ^ 64 → y.number < 2 ^ 64 → (key x == 
 key-same x y one other = grind (arith, common_steps, one, other)
 
 -- and with one that is of a job
-pub times_more : (moment : Moment) (h : List TimedJdkEvent) (t : TimedJdkEvent) (job : Id) (old new : BTreeMap ℕ ℕ) → Some job ≡ job_at moment t.event → job.number < 2 ^ 64
+pub times_more : (moment : JobMoment) (h : List TimedJdkEvent) (t : TimedJdkEvent) (job : Id) (old new : BTreeMap ℕ ℕ) → Some job ≡ job_at moment t.event → job.number < 2 ^ 64
     → ((other : ℕ) → get nat_cmp new other ≡ option_or (get nat_cmp old other) (cond (key job == other) (Some t.at) None)) → AreTimesOf moment h old → AreTimesOf moment (h ++ t ∷ []) new
 times_more moment h t job old new is fits kept are id small =
     let own : (key job == key id) ≡ is_of moment id t = key-same job id fits small ∙ ap (λ o. option_map_or (is_same_id id) o false) is in
@@ -202,7 +202,7 @@ history_load limits ways terms h legal ascending in_time =
 
 -- the submissions after the first events, with one more event
 module _ (history rest : List TimedJdkEvent) (restated i : ℕ) (lt : i < length rest) where
-  abbrev made_to : ℕ → List Submitted
+  abbrev made_to : ℕ → List SubmittedJob
   made_to k = filter_map (submitted_at history) (enumerate_from (suc restated) (take k rest))
 
   one-more : made_to (i + 1) ≡ made_to i ++ cons_option (submitted_at history (suc restated + i, get_or rest i no_timed)) []
@@ -218,7 +218,7 @@ module _ (history rest : List TimedJdkEvent) (restated i : ℕ) (lt : i < length
   pub none_made : None ≡ submitted_at history (suc restated + i, get_or rest i no_timed) → made_to i ≡ made_to (i + 1)
   none_made none = sym (one-more ∙ ap (λ o. made_to i ++ cons_option o []) (sym none) ∙ append-nil (made_to i))
 
-  pub one_made : (x : Submitted) → Some x ≡ submitted_at history (suc restated + i, get_or rest i no_timed) → made_to i ++ x ∷ [] ≡ made_to (i + 1)
+  pub one_made : (x : SubmittedJob) → Some x ≡ submitted_at history (suc restated + i, get_or rest i no_timed) → made_to i ++ x ∷ [] ≡ made_to (i + 1)
   one_made x one = sym (one-more ∙ ap (λ o. made_to i ++ cons_option o []) (sym one))
 
 -- ---- The time of the last event.

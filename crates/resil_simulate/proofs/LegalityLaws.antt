@@ -12,7 +12,7 @@ use Rattle.resil_jdk.specs.declared.event.JdkEvent.{JdkEvent}
 use Rattle.resil_jdk.specs.declared.event.JdkEvent.TheVariants.{Submit, IdleEnd, Resized, Start, Cull}
 use Rattle.resil_jdk.proofs.ConservationLaws.{as-many, line}
 use Rattle.resil_jdk.proofs.HistoryLaws.{legal-push}
-use Rattle.resil_simulate.specs.declared.legality.Asked.{Asked}
+use Rattle.resil_simulate.specs.declared.legality.AskedSizes.{AskedSizes}
 
 -- ---- Sizes after resizes.
 
@@ -212,7 +212,7 @@ module _ (limits : Sizes) (h : List JdkEvent) (legal : IsLegal limits h) where
     allows (Resized c m) allowed enough = (allowed.0, allowed.1, enough.1)
     allows e allowed enough = allowed
 
-module _ (limits least : Sizes) (core : least.core ≤ limits.core) (max : least.max ≤ limits.max) (queue : least.queue ≤ limits.queue) (most : Asked) (enough : AreEnough most least) where
+module _ (limits least : Sizes) (core : least.core ≤ limits.core) (max : least.max ≤ limits.max) (queue : least.queue ≤ limits.queue) (most : AskedSizes) (enough : AreEnough most least) where
   legal_from : (before events : List JdkEvent) → IsLegal limits before → IsAsked before events most → AreAllowedAfter limits before events → AreAllowedAfter least before events
   legal_from before [] was are legal = tt
   legal_from before (e ∷ events) was are legal = (
@@ -236,7 +236,7 @@ allowed_at limits events i d lt legal =
     parts-legal limits [] (take i events) (get_or events i d) (drop (i + 1) events) (subst (IsLegal limits) cut legal)
 
 -- what one more event needs
-pub asked_grown : (before h : List JdkEvent) (e : JdkEvent) (less more : Asked) → less.core ≤ more.core → less.max ≤ more.max → less.queue ≤ more.queue
+pub asked_grown : (before h : List JdkEvent) (e : JdkEvent) (less more : AskedSizes) → less.core ≤ more.core → less.max ≤ more.max → less.queue ≤ more.queue
     → (asked_at (before ++ h) e).core ≤ more.core → (asked_at (before ++ h) e).max ≤ more.max → (asked_at (before ++ h) e).queue ≤ more.queue
     → IsAsked before h less → IsAsked before (h ++ e ∷ []) more
 asked_grown before [] e less more core max queue one two three are = (rw append-nil at one, rw append-nil at two, rw append-nil at three, tt)

@@ -1,5 +1,5 @@
 -- The jobs of rows are a load if times ascend and each job is in time.
-use Rattle.resil_simulate.proofs.Words.{◌≡◌, ◌<◌, ◌+◌, ◌∷◌, [], ◌++◌, ◌∙◌, ℕ, zero, suc, List, Some, get_or, length, map, slice_get, slice_index, take, refl, ap, sym, add-one, arith, common_steps, map_push, map-append, max, take_more, sum-map, sum_by_more, get_or_from_slice_get, slice_get_within, AreAscending, IsLoad, earliest_ends_of, latest, of_caller, runs_of, times_of, Arrival, Row, AreInTime, arrival_at, arrivals_of, end_of, Ways, ◌*◌}
+use Rattle.resil_simulate.proofs.Words.{◌≡◌, ◌<◌, ◌+◌, ◌∷◌, [], ◌++◌, ◌∙◌, ℕ, zero, suc, List, Some, get_or, length, map, slice_get, slice_index, take, refl, ap, sym, add-one, arith, common_steps, map_push, map-append, max, take_more, sum-map, sum_by_more, get_or_from_slice_get, slice_get_within, AreAscending, IsLoad, earliest_ends_of, latest, of_caller, runs_of, times_of, Arrival, LoadRow, AreInTime, arrival_at, arrivals_of, end_of, Ways, ◌*◌}
 use Rattle.std.specs.List.{enumerate_from, sum}
 use Rattle.resil_stats.proofs.PlaceLaws.{placed-push}
 use Rattle.resil_virtual.proofs.LoadLaws.{latest-push}
@@ -39,15 +39,15 @@ end-here ways jobs i d lt =
 
 -- ---- The jobs of rows from a number on.
 
-abbrev jobs_from : ℕ → List Row → List Arrival
+abbrev jobs_from : ℕ → List LoadRow → List Arrival
 jobs_from p rows = map arrival_at (enumerate_from p rows)
 
-pub arrivals_push : (rows : List Row) (i : ℕ) (d : Row) → i < length rows
+pub arrivals_push : (rows : List LoadRow) (i : ℕ) (d : LoadRow) → i < length rows
     → arrivals_of (take i rows) ++ arrival_at (i + 1, get_or rows i d) ∷ [] ≡ arrivals_of (take (i + 1) rows)
 arrivals_push rows i d lt = grind (arith, common_steps, placed-push 1 (take i rows) (get_or rows i d), map_push arrival_at (enumerate_from 1 (take i rows)))
 
 -- a job of rows is of caller 1, and has the number of its place among them
-numbered : (p : ℕ) (rows : List Row) (k : ℕ) (a : Arrival) → slice_get (jobs_from p rows) k ≡ Some a
+numbered : (p : ℕ) (rows : List LoadRow) (k : ℕ) (a : Arrival) → slice_get (jobs_from p rows) k ≡ Some a
     → (a.id.caller ≡ 1) × (a.id.number ≡ p + length (of_caller 1 (take k (jobs_from p rows))))
 numbered p [] k a is = absurd (cc is)
 numbered p (r ∷ rows) zero a is =
@@ -66,6 +66,6 @@ load ways jobs ascend next in_time = record {
   in_time = λ k a is. let within = slice_get_within jobs k a is in rw (time-here jobs k no_job a within (get_or_from_slice_get jobs k a no_job is)) at (in_time k within);
 }
 
-pub is_load : (ways : Ways) (rows : List Row) → AreAscending (times_of (arrivals_of rows)) → AreInTime ways (arrivals_of rows)
+pub is_load : (ways : Ways) (rows : List LoadRow) → AreAscending (times_of (arrivals_of rows)) → AreInTime ways (arrivals_of rows)
     → IsLoad ways.idle_for ways.wakes (arrivals_of rows)
 is_load ways rows ascend in_time = load ways (arrivals_of rows) ascend (λ k a is. let (caller, number) = numbered 1 rows k a is in rw caller (omega (arith, number))) in_time

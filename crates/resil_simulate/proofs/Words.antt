@@ -32,4 +32,4 @@ pub use Rattle.resil_simulate.specs.Rows.{IsBodyRefused, IsHistoryBody, IsLoadBo
 pub use Rattle.resil_simulate.specs.Table.{pools_text}
 pub use Rattle.resil_simulate.specs.declared.head.Terms.{Terms}
 pub use Rattle.resil_simulate.specs.declared.head.Ways.{Ways}
-pub use Rattle.resil_simulate.specs.declared.rows.Row.{Row}
+pub use Rattle.resil_simulate.specs.declared.rows.LoadRow.{LoadRow}

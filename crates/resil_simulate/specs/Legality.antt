@@ -7,7 +7,7 @@ use Rattle.resil_jdk.specs.Limits.{AreJdkLimits}
 use Rattle.resil_jdk.specs.declared.event.JdkReply.TheVariants.{Core, First, Queued, Extra, Full}
 use Rattle.resil_jdk.specs.declared.event.JdkEvent.{JdkEvent}
 use Rattle.resil_jdk.specs.declared.event.JdkEvent.TheVariants.{Submit, Resized, Start}
-use Rattle.resil_simulate.specs.declared.legality.Asked.{Asked}
+use Rattle.resil_simulate.specs.declared.legality.AskedSizes.{AskedSizes}
 use Rattle.resil_simulate.specs.declared.legality.Tally.{Tally}
 
 -- A history that is legal in some pool.
@@ -51,7 +51,7 @@ no_hand_off before =
     if nat_lt (length (run_at_once before) + length (taken before) + length (filter is_end before)) (length (finished before) + length (filter is_begin before)) then 1 else 0
 
 -- the least sizes at the opening that an event after others needs: each is at least as large
-abbrev pub asked_at : List JdkEvent → JdkEvent → Asked
+abbrev pub asked_at : List JdkEvent → JdkEvent → AskedSizes
 asked_at before (Submit id Core) = record { core = one_more before; max = 1; queue = 0 }
 asked_at before (Submit id First) = record { core = 0; max = 1; queue = one_place before }
 asked_at before (Submit id Queued) = record { core = 0; max = 1; queue = one_place before }
@@ -62,11 +62,11 @@ asked_at before (Resized core max) = record { core = 0; max = max; queue = 0 }
 asked_at before _ = record { core = 0; max = 1; queue = 0 }
 
 -- sizes that are at least as large
-abbrev pub AreEnough : Asked → Sizes → Type 0
+abbrev pub AreEnough : AskedSizes → Sizes → Type 0
 AreEnough least sizes = (least.core ≤ sizes.core) × (least.max ≤ sizes.max) × (least.queue ≤ sizes.queue)
 
 -- what each of some events needs after those before it is at most this
-abbrev pub IsAsked : List JdkEvent → List JdkEvent → Asked → Type 0
+abbrev pub IsAsked : List JdkEvent → List JdkEvent → AskedSizes → Type 0
 IsAsked before [] most = Unit {0}
 IsAsked before (event ∷ events) most =
     ((asked_at before event).core ≤ most.core) × ((asked_at before event).max ≤ most.max) × ((asked_at before event).queue ≤ most.queue)

@@ -11,18 +11,18 @@ use Rattle.resil_simulate.specs.History.{arrivals_by, first_without, submissions
 use Rattle.resil_simulate.specs.Legality.{IsIllegalAt, IsLegalSomewhere}
 use Rattle.resil_simulate.specs.declared.head.Terms.{Terms}
 use Rattle.resil_simulate.specs.declared.head.Ways.{Ways}
-use Rattle.resil_simulate.specs.declared.history.Submitted.{Submitted}
-use Rattle.resil_simulate.specs.declared.rows.Row.{Row}
+use Rattle.resil_simulate.specs.declared.history.SubmittedJob.{SubmittedJob}
+use Rattle.resil_simulate.specs.declared.rows.LoadRow.{LoadRow}
 use Rattle.resil_heads.specs.declared.error.HeadError.TheVariants.{BadValue}
 use Rattle.resil_heads.specs.declared.refusal.LoadRefusal.TheVariants.{NoTakes, Illegal, TimeGoesBack, TimeTooLate}
-use Rattle.resil_heads.specs.declared.refusal.Refusal.{Refusal}
-use Rattle.resil_heads.specs.declared.refusal.Refusal.TheVariants as refusal
+use Rattle.resil_heads.specs.declared.refusal.InputRefusal.{InputRefusal}
+use Rattle.resil_heads.specs.declared.refusal.InputRefusal.TheVariants as refusal
 
 -- the job of a row at a place, from 1: the submission of caller 1 that has this number
-abbrev pub arrival_at : ℕ × Row → Arrival
+abbrev pub arrival_at : ℕ × LoadRow → Arrival
 arrival_at placed = record { id = record { caller = 1; number = placed.0 }; at = placed.1.at; takes = placed.1.takes; earliest_end = 0 }
 
-abbrev pub arrivals_of : List Row → List Arrival
+abbrev pub arrivals_of : List LoadRow → List Arrival
 arrivals_of rows = map arrival_at (enumerate_from 1 rows)
 
 -- for the job at an index, the sum of: its time, or the latest of the earliest ends up to and with its own, if that is later; all runs up
@@ -42,7 +42,7 @@ pub record IsTooLateAt (ways : Ways) (arrivals : List Arrival) (position : ℕ) 
   pub first : (k : ℕ) → k + 1 < position → end_of ways arrivals k < 2 ^ 64
 
 -- why the jobs of rows aren't a load: a time is below the one before; or none is, and a job comes too late
-abbrev pub IsLoadRefusal : Ways → List Arrival → Refusal → Type 0
+abbrev pub IsLoadRefusal : Ways → List Arrival → InputRefusal → Type 0
 IsLoadRefusal ways arrivals (refusal.Load position TimeGoesBack) = GoesBackAt (times_of arrivals) position
 IsLoadRefusal ways arrivals (refusal.Load position TimeTooLate) = AreAscending (times_of arrivals) × IsTooLateAt ways arrivals position
 IsLoadRefusal ways arrivals why = ⊥
@@ -65,7 +65,7 @@ pub record IsUsable (terms : Terms) (history : List TimedJdkEvent) : Type 0 wher
   pub ascending : AreAscending (times_in history)
 
 -- why a history can't be carried out: the first of the four that doesn't hold, at its first row
-abbrev pub IsHistoryRefusal : Terms → List TimedJdkEvent → Refusal → Type 0
+abbrev pub IsHistoryRefusal : Terms → List TimedJdkEvent → InputRefusal → Type 0
 IsHistoryRefusal terms history (refusal.Head BadValue) = length history < terms.made
 IsHistoryRefusal terms history (refusal.Load position NoTakes) = (terms.made ≤ length history) × (first_without terms (submissions_in terms.made history) ≡ Some position)
 IsHistoryRefusal terms history (refusal.Load position Illegal) =
@@ -75,13 +75,13 @@ IsHistoryRefusal terms history (refusal.Load position TimeGoesBack) =
 IsHistoryRefusal terms history why = ⊥
 
 -- why the jobs of submissions aren't a load: one comes too late, and its submission is at this position
-abbrev pub IsLateRefusal : Ways → List Arrival → List Submitted → Refusal → Type 0
+abbrev pub IsLateRefusal : Ways → List Arrival → List SubmittedJob → InputRefusal → Type 0
 IsLateRefusal ways arrivals jobs (refusal.Load position TimeTooLate) =
     (job : ℕ) × IsTooLateAt ways arrivals job × (slice_get (map (λ submission. submission.place) jobs) (job - 1) ≡ Some position)
 IsLateRefusal ways arrivals jobs why = ⊥
 
 -- why its jobs aren't a load: it can't be carried out; or it can, and a job comes too late
-abbrev pub IsHistoryLoadRefusal : Ways → Terms → List TimedJdkEvent → Refusal → Type 0
+abbrev pub IsHistoryLoadRefusal : Ways → Terms → List TimedJdkEvent → InputRefusal → Type 0
 IsHistoryLoadRefusal ways terms history (refusal.Load position TimeTooLate) =
     IsUsable terms history × IsLateRefusal ways (jobs_in terms history) (submissions_in terms.made history) (refusal.Load position TimeTooLate)
 IsHistoryLoadRefusal ways terms history why = IsHistoryRefusal terms history why

@@ -10,7 +10,7 @@ use Rattle.resil_jdk.specs.declared.event.JdkEvent.{JdkEvent}
 use Rattle.resil_jdk.specs.declared.event.JdkEvent.TheVariants.{Finish}
 use Rattle.resil_stats.specs.Spans.{AreRanksOf, jdk_waits}
 use Rattle.resil_stats.specs.Stats.{IsMost, is_full, is_submit}
-use Rattle.resil_simulate.specs.declared.numbers.Numbers.{Numbers}
+use Rattle.resil_simulate.specs.declared.numbers.PoolNumbers.{PoolNumbers}
 
 -- A legal history of a pool, and the times of its events, which ascend.
 pub record HasTimes (history : List JdkEvent) (times : List ℕ) : Type 0 where
@@ -50,7 +50,7 @@ abbrev pub busy : List JdkEvent → List ℕ → Option ℕ
 busy history times = if worker_time history times == 0 then None else Some (run_time history times * 1000 / worker_time history times)
 
 -- The numbers of a history. The first events restate a state, and their submissions don't count in any submission, refusal or wait.
-pub record AreNumbersOf (restated : ℕ) (history : List JdkEvent) (times : List ℕ) (numbers : Numbers) : Type 0 where
+pub record AreNumbersOf (restated : ℕ) (history : List JdkEvent) (times : List ℕ) (numbers : PoolNumbers) : Type 0 where
   pub submitted : numbers.submitted ≡ length (filter is_submit (drop restated history))
   pub refused : numbers.refused ≡ length (filter is_full (drop restated history))
   pub waits : AreRanksOf (jdk_waits restated times history) numbers.waits

@@ -9,7 +9,7 @@ use Rattle.resil_record.specs.Body.{IsRecordBody, IsRecordBodyError}
 use Rattle.resil_jdk.specs.declared.timed.TimedJdkEvent.{TimedJdkEvent}
 use Rattle.resil_rule.specs.declared.timed.Timed.{Timed}
 use Rattle.resil_simulate.specs.History.{in_whole_words}
-use Rattle.resil_simulate.specs.declared.rows.Row.{Row}
+use Rattle.resil_simulate.specs.declared.rows.LoadRow.{LoadRow}
 use Rattle.resil_simulate.specs.declared.rows.Rows.{Rows}
 use Rattle.resil_simulate.specs.declared.rows.Rows.TheVariants.{Load, History}
 
@@ -18,15 +18,15 @@ abbrev pub load_header : List (List ℕ)
 load_header = codes "at" ∷ codes "takes" ∷ []
 
 -- the job that two fields are read as: a time below 2 ^ 64, and a run below 2 ^ 32
-abbrev pub parse_fields : List ℕ → List ℕ → Option Row
+abbrev pub parse_fields : List ℕ → List ℕ → Option LoadRow
 parse_fields at takes = option_and_then (λ t. option_map (λ run. record { at = t; takes = run }) (parse_from_zero (2 ^ 32) takes)) (parse_from_zero (2 ^ 64) at)
 
 -- the job that a record is read as
-abbrev pub parse_row : List (List ℕ) → Option Row
+abbrev pub parse_row : List (List ℕ) → Option LoadRow
 parse_row fields = parse_fields (get_or fields 0 []) (get_or fields 1 [])
 
 -- a body of these jobs, and why a body has none
-abbrev pub IsLoadBody : List ℕ → List Row → Type 0
+abbrev pub IsLoadBody : List ℕ → List LoadRow → Type 0
 IsLoadBody body rows = IsBody load_header parse_row body rows
 
 abbrev pub IsLoadBodyError : List ℕ → BodyError → Type 0

@@ -5,7 +5,7 @@ use Rattle.csv.specs.Writing.{comma}
 use Rattle.resil_input.specs.CsvTable.{table_text}
 use Rattle.resil_rule.specs.Limits.{Sizes}
 use Rattle.resil_stats.specs.Text.{span_word}
-use Rattle.resil_simulate.specs.declared.numbers.Numbers.{Numbers}
+use Rattle.resil_simulate.specs.declared.numbers.PoolNumbers.{PoolNumbers}
 
 -- the fields of the header
 abbrev pub pools_header : List (List ℕ)
@@ -14,7 +14,7 @@ pools_header =
     ∷ codes "most_waiting" ∷ codes "most_workers" ∷ codes "busy" ∷ []
 
 -- the fields of numbers
-abbrev pub number_fields : Numbers → List (List ℕ)
+abbrev pub number_fields : PoolNumbers → List (List ℕ)
 number_fields numbers =
     decimal numbers.submitted ∷ decimal numbers.refused ∷ span_word numbers.waits.median ∷ span_word numbers.waits.p99 ∷ span_word numbers.waits.most
     ∷ decimal numbers.most_waiting ∷ decimal numbers.most_workers ∷ span_word numbers.busy ∷ []
@@ -28,9 +28,9 @@ abbrev pub size_text : Option Sizes → List ℕ
 size_text sizes = join_with_byte comma (size_fields sizes)
 
 -- the fields of a pool
-abbrev pub pool_fields : Option Sizes → Numbers → List (List ℕ)
+abbrev pub pool_fields : Option Sizes → PoolNumbers → List (List ℕ)
 pool_fields sizes numbers = size_fields sizes ++ number_fields numbers
 
 -- the header, then a record of what really happened if that is known, then one for each pool, in order
-abbrev pub pools_text : Option Numbers → List (Sizes × Numbers) → List ℕ
+abbrev pub pools_text : Option PoolNumbers → List (Sizes × PoolNumbers) → List ℕ
 pools_text own pools = table_text (pools_header ∷ (map (pool_fields None) (option_to_list own) ++ map (λ pool. pool_fields (Some pool.0) pool.1) pools))

@@ -10,11 +10,11 @@ ghost use Rattle.resil_simulate.specs.Load.{IsHistoryLoadRefusal};
 
 use crate::head::{LoadHead, Ways, read_load_head};
 use crate::load::{load_of, load_of_history};
-use crate::numbers::{Numbers, numbers_of};
+use crate::numbers::{PoolNumbers, numbers_of};
 use crate::rows::{Rows, read_rows};
 use crate::table::table_text;
 use crate::version::version_text;
-use resil_heads::{CommandError, Refusal};
+use resil_heads::{CommandError, InputRefusal};
 use resil_input::framing::split_input;
 use resil_jdk::{JdkEvent, JdkLimits, TimedJdkEvent};
 use resil_virtual::{Arrival, VirtualPool, simulate};
@@ -47,7 +47,7 @@ pub enum LoadView {
 fn read_parts(alloc: Global, input: &[u8]) -> Result<(LoadHead, &[u8]), CommandError>
     ensures { MatchResult result (λ read. SplitsInto load_head_of input.now (plan_of read.0) read.1.now) (IsError (IsHeadRefusal input.now)) }
 {
-    let (head, body) = split_input(input).ok_or(Refusal::NoBody)?;
+    let (head, body) = split_input(input).ok_or(InputRefusal::NoBody)?;
     let head = read_load_head(alloc, head)?;
     Ok((head, body))
 }
@@ -56,7 +56,7 @@ fn read_parts(alloc: Global, input: &[u8]) -> Result<(LoadHead, &[u8]), CommandE
 #[derive(Drop)]
 struct Load {
     arrivals: Vec<Arrival>,
-    own: Option<Numbers>,
+    own: Option<PoolNumbers>,
     pools: Vec<JdkLimits>,
 }
 
@@ -169,7 +169,7 @@ fn run_pool(
     limits: JdkLimits,
     ways: Ways,
     arrivals: &[Arrival],
-) -> Result<Numbers, AllocError>
+) -> Result<PoolNumbers, AllocError>
     requires { IsLoad ways.idle_for ways.wakes arrivals.now }
     ensures { IfOk result (IsPoolRun ways arrivals.now limits) }
 {
@@ -184,7 +184,7 @@ fn run_pools<P: Progress>(
     ways: Ways,
     arrivals: &[Arrival],
     told: &mut P,
-) -> Result<Vec<(JdkLimits, Numbers)>, AllocError>
+) -> Result<Vec<(JdkLimits, PoolNumbers)>, AllocError>
     requires { IsLoad ways.idle_for ways.wakes arrivals.now }
     ensures pools { IfOk result (λ done. map (λ pool. pool.0) done.items ≡ pools.now) }
     ensures numbers { IfOk result (λ done. All (λ pool. IsPoolRun ways arrivals.now pool.0 pool.1) done.items) }
@@ -217,7 +217,7 @@ fn read_load(alloc: Global, shown: LoadView, input: &[u8]) -> Result<(LoadHead, 
         Err(why) => return Err(why),
     };
     if !are_shown(shown, &head.pools) {
-        return Err(CommandError::Refused(Refusal::ManyPools));
+        return Err(CommandError::Refused(InputRefusal::ManyPools));
     }
     match read_arrivals(alloc, body, &head) {
         Ok(load) => Ok((head, load)),

@@ -10,7 +10,7 @@ ghost use Rattle.resil_jdk.specs.declared.event.JdkEvent.{JdkEvent};
 ghost use Rattle.resil_jdk.specs.declared.timed.TimedJdkEvent.{TimedJdkEvent};
 ghost use Rattle.resil_stats.specs.Stats.{AreJdkCallersOf};
 ghost use Rattle.resil_simulate.specs.History.{AreTimesOf, arrival_by, arrivals_by, earliest_end_by, first_without, in_whole_words, job_at, key, last_at, ran_from, ran_of, run_by, submissions_in};
-ghost use Rattle.resil_simulate.specs.declared.history.Moment.TheVariants as moment;
+ghost use Rattle.resil_simulate.specs.declared.history.JobMoment.TheVariants as moment;
 
 use crate::head::{Terms, Unfinished};
 use resil_jdk::{JdkEvent, JdkReply, TimedJdkEvent, jdk_event};
@@ -37,7 +37,7 @@ pub fn in_whole_words(alloc: Global, history: &[Timed]) -> Result<Vec<TimedJdkEv
 
 // What happens to a job once.
 #[derive(Clone, Copy)]
-enum Moment {
+enum JobMoment {
     Start,
     Finish,
 }
@@ -55,7 +55,7 @@ pub enum Ran {
 
 /// A submission of a history.
 #[derive(Clone, Copy)]
-pub struct Submitted {
+pub struct SubmittedJob {
     /// The place of its event, from 1.
     pub place: usize,
     /// Its id.
@@ -67,15 +67,17 @@ pub struct Submitted {
 }
 
 // The job that an event starts, or finishes.
-fn job_at(moment: Moment, event: JdkEvent) -> Option<Id>
+fn job_at(moment: JobMoment, event: JdkEvent) -> Option<Id>
     ensures { result ≡ job_at moment event }
 {
     match (moment, event) {
-        (Moment::Start, JdkEvent::Submit { id, reply }) => match reply {
+        (JobMoment::Start, JdkEvent::Submit { id, reply }) => match reply {
             JdkReply::Core | JdkReply::Handed | JdkReply::Extra => Some(id),
             JdkReply::First | JdkReply::Queued | JdkReply::Full | JdkReply::Closed => None,
         },
-        (Moment::Start, JdkEvent::Take(id)) | (Moment::Finish, JdkEvent::Finish(id)) => Some(id),
+        (JobMoment::Start, JdkEvent::Take(id)) | (JobMoment::Finish, JdkEvent::Finish(id)) => Some(
+            id,
+        ),
         _ => None,
     }
 }
@@ -103,7 +105,7 @@ fn keep_first(times: &mut BTreeMap<u128, u64>, key: u128, at: u64) -> Result<(),
 // The times at which jobs start, or are finished, by their ids. Errors: `AllocError` when out of memory.
 fn times_of(
     alloc: Global,
-    moment: Moment,
+    moment: JobMoment,
     history: &[TimedJdkEvent],
 ) -> Result<BTreeMap<u128, u64>, AllocError>
     ensures times { IfOk result (AreTimesOf moment history.now) }
@@ -160,20 +162,20 @@ fn submissions_behind(
     restated: usize,
     history: &[TimedJdkEvent],
     rest: &[TimedJdkEvent],
-) -> Result<Vec<Submitted>, AllocError>
+) -> Result<Vec<SubmittedJob>, AllocError>
     requires few { restated + length rest.now < 2 ^ 64 }
     requires rest { rest.now ≡ drop restated history.now }
     ensures { IfOk result (λ jobs. jobs.items ≡ submissions_in restated history.now) }
 {
-    let starts = times_of(alloc, Moment::Start, history)?;
-    let finishes = times_of(alloc, Moment::Finish, history)?;
+    let starts = times_of(alloc, JobMoment::Start, history)?;
+    let finishes = times_of(alloc, JobMoment::Finish, history)?;
     let last = last_at(history);
     let mut jobs = Vec::new(alloc);
     for (index, timed) in rest.iter().enumerate() {
         let JdkEvent::Submit { id, .. } = timed.event else {
             continue;
         };
-        jobs.push(Submitted {
+        jobs.push(SubmittedJob {
             place: restated + index + 1,
             id,
             at: timed.at,
@@ -192,7 +194,7 @@ pub fn submissions_in(
     alloc: Global,
     restated: usize,
     history: &[TimedJdkEvent],
-) -> Result<Vec<Submitted>, AllocError>
+) -> Result<Vec<SubmittedJob>, AllocError>
     requires { restated ≤ length history.now }
     ensures { IfOk result (λ jobs. jobs.items ≡ submissions_in restated history.now) }
 {
@@ -221,7 +223,7 @@ fn earliest_end_by(terms: Terms, ran: Ran) -> u64
 }
 
 /// The place of the first submission without any statement of how long its job runs.
-pub fn first_without(terms: Terms, jobs: &[Submitted]) -> Option<usize>
+pub fn first_without(terms: Terms, jobs: &[SubmittedJob]) -> Option<usize>
     ensures { result ≡ first_without terms jobs.now }
 {
     let without = jobs.iter().find(|job| run_by(terms, job.ran).is_none())?;
@@ -229,7 +231,7 @@ pub fn first_without(terms: Terms, jobs: &[Submitted]) -> Option<usize>
 }
 
 // A submission as a job of a load. `callers` has the numbers of the callers that submitted in the events that are left out.
-fn arrival_by(terms: Terms, callers: &BTreeMap<u16, CallerStats>, job: &Submitted) -> Arrival
+fn arrival_by(terms: Terms, callers: &BTreeMap<u16, CallerStats>, job: &SubmittedJob) -> Arrival
     requires { IsOrdered nat_cmp callers.now }
     ensures { (restated : List JdkEvent) → AreJdkCallersOf restated callers.now → result ≡ arrival_by terms restated job.now }
 {
@@ -255,7 +257,7 @@ pub fn arrivals_by(
     alloc: Global,
     terms: Terms,
     callers: &BTreeMap<u16, CallerStats>,
-    jobs: &[Submitted],
+    jobs: &[SubmittedJob],
 ) -> Result<Vec<Arrival>, AllocError>
     requires { IsOrdered nat_cmp callers.now }
     ensures { (restated : List JdkEvent) → AreJdkCallersOf restated callers.now → IfOk result (λ arrivals. arrivals.items ≡ arrivals_by terms restated jobs.now) }

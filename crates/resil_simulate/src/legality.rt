@@ -17,27 +17,27 @@ use std::alloc::{AllocError, Global};
 
 // The sizes that events need, at least.
 #[derive(Clone, Copy)]
-struct Asked {
+struct AskedSizes {
     core: usize,
     max: usize,
     queue: usize,
 }
 
-impl Asked {
+impl AskedSizes {
     // The sizes of an event that needs none.
-    const NONE: Asked = Asked {
+    const NONE: AskedSizes = AskedSizes {
         core: 0,
         max: 1,
         queue: 0,
     };
 
     // The greater of each.
-    fn max(self, other: Asked) -> Asked
+    fn max(self, other: AskedSizes) -> AskedSizes
         ensures core { result.core ≡ max self.core other.core }
         ensures max { result.max ≡ max self.max other.max }
         ensures queue { result.queue ≡ max self.queue other.queue }
     {
-        Asked {
+        AskedSizes {
             core: self.core.max(other.core),
             max: self.max.max(other.max),
             queue: self.queue.max(other.queue),
@@ -123,38 +123,38 @@ fn no_hand_off(before: &Tally) -> usize
 }
 
 // What an event needs after events of this tally.
-fn asked_at(before: &Tally, event: JdkEvent) -> Asked
+fn asked_at(before: &Tally, event: JdkEvent) -> AskedSizes
     requires { MayBeTallied before.now }
     ensures { (history : List JdkEvent) → AreTallied history before.now → result ≡ asked_at history event }
 {
     match event {
         JdkEvent::Submit { reply, .. } => match reply {
-            JdkReply::Core => Asked {
+            JdkReply::Core => AskedSizes {
                 core: one_more(before),
-                ..Asked::NONE
+                ..AskedSizes::NONE
             },
-            JdkReply::First | JdkReply::Queued => Asked {
+            JdkReply::First | JdkReply::Queued => AskedSizes {
                 queue: one_place(before),
-                ..Asked::NONE
+                ..AskedSizes::NONE
             },
-            JdkReply::Extra => Asked {
+            JdkReply::Extra => AskedSizes {
                 core: 0,
                 max: one_more(before),
                 queue: no_hand_off(before),
             },
-            JdkReply::Full => Asked {
+            JdkReply::Full => AskedSizes {
                 queue: no_hand_off(before),
-                ..Asked::NONE
+                ..AskedSizes::NONE
             },
-            JdkReply::Handed | JdkReply::Closed => Asked::NONE,
+            JdkReply::Handed | JdkReply::Closed => AskedSizes::NONE,
         },
-        JdkEvent::Start => Asked {
+        JdkEvent::Start => AskedSizes {
             core: one_more(before),
-            ..Asked::NONE
+            ..AskedSizes::NONE
         },
-        JdkEvent::Resized { max, .. } => Asked {
+        JdkEvent::Resized { max, .. } => AskedSizes {
             max: max as usize,
-            ..Asked::NONE
+            ..AskedSizes::NONE
         },
         JdkEvent::Take(_)
         | JdkEvent::Finish(_)
@@ -163,18 +163,18 @@ fn asked_at(before: &Tally, event: JdkEvent) -> Asked
         | JdkEvent::Cull
         | JdkEvent::Remove(_)
         | JdkEvent::Stop
-        | JdkEvent::TimeOut(_) => Asked::NONE,
+        | JdkEvent::TimeOut(_) => AskedSizes::NONE,
     }
 }
 
 // What events need.
-fn asked_by(events: &[JdkEvent]) -> Asked
+fn asked_by(events: &[JdkEvent]) -> AskedSizes
     ensures some { 1 ≤ result.max }
     ensures most { IsAsked [] events.now result }
     ensures least { (limits : Sizes) → AreJdkLimits limits → IsLegal limits events.now → AreEnough result limits }
 {
     let mut tally = Tally::default();
-    let mut most = Asked::NONE;
+    let mut most = AskedSizes::NONE;
     for event in events {
         most = most.max(asked_at(&tally, *event));
         tally.record(*event);
@@ -183,7 +183,7 @@ fn asked_by(events: &[JdkEvent]) -> Asked
 }
 
 // The limits of these sizes, the maximum size no less than the core size, or `None` if no pool has sizes that large.
-fn limits_of(least: Asked) -> Option<JdkLimits>
+fn limits_of(least: AskedSizes) -> Option<JdkLimits>
     requires { 1 ≤ least.max }
     ensures sizes { IfSome result (λ limits. limits ≡ record { core = least.core; max = max least.max least.core; queue = least.queue }) }
     ensures in_range { IfSome result AreJdkLimits }

@@ -14,10 +14,10 @@ ghost use Rattle.resil_simulate.specs.History.{arrivals_by, submissions_in};
 ghost use Rattle.resil_simulate.specs.Load.{AreInTime, IsHistoryLoadRefusal, IsHistoryRefusal, IsLateRefusal, IsLoadRefusal, IsTooLateAt, IsUsable, arrivals_of, jobs_in};
 
 use crate::head::{Terms, Ways};
-use crate::history::{Submitted, arrivals_by, first_without, submissions_in};
+use crate::history::{SubmittedJob, arrivals_by, first_without, submissions_in};
 use crate::legality::first_illegal;
-use crate::rows::Row;
-use resil_heads::{CommandError, HeadError, LoadRefusal, Refusal};
+use crate::rows::LoadRow;
+use resil_heads::{CommandError, HeadError, InputRefusal, LoadRefusal};
 use resil_jdk::timed::{events_in, times_in};
 use resil_jdk::{JdkEvent, TimedJdkEvent};
 use resil_rule::{Id, Verdict, first_back};
@@ -28,14 +28,14 @@ use std::collections::BTreeMap;
 
 // The refusal of the row at a position, from 1.
 fn refused(position: usize, why: LoadRefusal) -> CommandError
-    ensures { result ≡ CommandError.Refused (Refusal.Load position why) }
+    ensures { result ≡ CommandError.Refused (InputRefusal.Load position why) }
 {
-    CommandError::Refused(Refusal::Load(position, why))
+    CommandError::Refused(InputRefusal::Load(position, why))
 }
 
 // The jobs of rows, in order. Errors: `AllocError` when out of memory.
 #[tactic(auto, using(crate::proofs::LoadLaws::arrivals_push))]
-fn arrivals_of(alloc: Global, rows: &[Row]) -> Result<Vec<Arrival>, AllocError>
+fn arrivals_of(alloc: Global, rows: &[LoadRow]) -> Result<Vec<Arrival>, AllocError>
     ensures { IfOk result (λ arrivals. arrivals.items ≡ arrivals_of rows.now) }
 {
     let mut arrivals = Vec::new(alloc);
@@ -81,7 +81,7 @@ fn first_late(arrivals: &[Arrival], ways: Ways) -> Option<usize>
 /// # Errors
 ///
 /// In this order, each for the first such row: `TimeGoesBack`; `TimeTooLate`. `Memory` may come at any step.
-pub fn load_of(alloc: Global, rows: &[Row], ways: Ways) -> Result<Vec<Arrival>, CommandError>
+pub fn load_of(alloc: Global, rows: &[LoadRow], ways: Ways) -> Result<Vec<Arrival>, CommandError>
     ensures arrivals { IfOk result (λ arrivals. arrivals.items ≡ arrivals_of rows.now) }
     ensures load { IfOk result (λ arrivals. IsLoad ways.idle_for ways.wakes arrivals.items) }
     ensures refused { IfErr result (IsError (IsLoadRefusal ways (arrivals_of rows.now))) }
@@ -99,11 +99,11 @@ pub fn load_of(alloc: Global, rows: &[Row], ways: Ways) -> Result<Vec<Arrival>, 
 
 // How many events restate a state. Errors: `Refused` as `Head` of `BadValue` if there are fewer events.
 fn restated_in(made: u64, history: &[TimedJdkEvent]) -> Result<usize, CommandError>
-    ensures { MatchResult result (λ restated. (restated ≡ made) × (made ≤ length history.now)) (λ why. (why ≡ CommandError.Refused (Refusal.Head HeadError.BadValue)) × (length history.now < made)) }
+    ensures { MatchResult result (λ restated. (restated ≡ made) × (made ≤ length history.now)) (λ why. (why ≡ CommandError.Refused (InputRefusal.Head HeadError.BadValue)) × (length history.now < made)) }
 {
     match usize::try_from(made) {
         Ok(made) if made <= history.len() => Ok(made),
-        _ => Err(CommandError::Refused(Refusal::Head(HeadError::BadValue))),
+        _ => Err(CommandError::Refused(InputRefusal::Head(HeadError::BadValue))),
     }
 }
 
@@ -113,7 +113,7 @@ fn check_history(
     terms: Terms,
     history: &[TimedJdkEvent],
     events: &[JdkEvent],
-    jobs: &[Submitted],
+    jobs: &[SubmittedJob],
 ) -> Result<(), CommandError>
     requires made { terms.made ≤ length history.now }
     requires events { events.now ≡ events_in history.now }
@@ -149,7 +149,7 @@ fn jobs_of(
     terms: Terms,
     restated: usize,
     events: &[JdkEvent],
-    jobs: &[Submitted],
+    jobs: &[SubmittedJob],
 ) -> Result<Vec<Arrival>, AllocError>
     requires few { restated ≤ length events.now }
     requires legal { (limits : Sizes) × IsLegal limits events.now }
@@ -160,7 +160,7 @@ fn jobs_of(
 }
 
 // Whether each of the jobs of submissions is in time. Errors: `TimeTooLate`.
-fn check_times(arrivals: &[Arrival], ways: Ways, jobs: &[Submitted]) -> Result<(), CommandError>
+fn check_times(arrivals: &[Arrival], ways: Ways, jobs: &[SubmittedJob]) -> Result<(), CommandError>
     requires { length jobs.now ≡ length arrivals.now }
     ensures { MatchResult result (λ _. AreInTime ways arrivals.now) (IsError (IsLateRefusal ways arrivals.now jobs.now)) }
 {

@@ -19,7 +19,7 @@ use std::alloc::{AllocError, Global};
 
 /// The numbers of a history.
 #[derive(Clone, Copy)]
-pub struct Numbers {
+pub struct PoolNumbers {
     /// The submissions, refused ones too.
     pub submitted: usize,
     /// The submissions that were refused since the pool was full.
@@ -86,7 +86,7 @@ pub fn numbers_of(
     alloc: Global,
     restated: usize,
     history: &[TimedJdkEvent],
-) -> Result<Numbers, AllocError>
+) -> Result<PoolNumbers, AllocError>
     requires legal { (limits : Sizes) × AreJdkLimits limits × IsLegal limits (events_in history.now) }
     requires ascending { AreAscending (times_in history.now) }
     ensures { IfOk result (AreNumbersOf restated (events_in history.now) (times_in history.now)) }
@@ -95,7 +95,7 @@ pub fn numbers_of(
     let times = times_in(alloc, history)?;
     let waits = waits_of_jdk(alloc, restated, &events, &times)?;
     let stats = count_jdk(alloc, Verdict::Legal, restated, &events)?;
-    Ok(Numbers {
+    Ok(PoolNumbers {
         submitted: stats.answers.submissions,
         refused: stats.answers.full,
         waits,

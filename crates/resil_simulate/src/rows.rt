@@ -26,7 +26,7 @@ pub const LOAD_BODY: Body = Body {
 
 /// A job of a load, in microseconds.
 #[derive(Clone, Copy)]
-pub struct Row {
+pub struct LoadRow {
     /// When it is submitted, since any start.
     pub at: u64,
     /// How long it runs.
@@ -37,18 +37,18 @@ pub struct Row {
 #[derive(Drop)]
 pub enum Rows {
     /// The jobs of a load.
-    Load(Vec<Row>),
+    Load(Vec<LoadRow>),
     /// The events of a history of version 3 or 4, with their times.
     History(Vec<TimedJdkEvent>),
 }
 
 // Reads a job from the fields of a record.
-fn parse_row(fields: &ByteRecord) -> Option<Row>
+fn parse_row(fields: &ByteRecord) -> Option<LoadRow>
     ensures { result ≡ parse_row (fields_of fields.now) }
 {
     let at = parse_from_zero(field_at(fields, 0))?;
     let takes = u32::try_from(parse_from_zero(field_at(fields, 1))?).ok()?;
-    Some(Row { at, takes })
+    Some(LoadRow { at, takes })
 }
 
 /// Reads the rows of a body of `simulate`.

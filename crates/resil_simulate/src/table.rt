@@ -5,7 +5,7 @@ ghost use Rattle.resil_input.specs.CsvTable.{record_text};
 ghost use Rattle.resil_simulate.specs.Table.{pool_fields, pools_text, size_text};
 ghost use Rattle.resil_stats.specs.Text.{span_word};
 
-use crate::numbers::Numbers;
+use crate::numbers::PoolNumbers;
 use resil_jdk::JdkLimits;
 use std::alloc::{AllocError, Global};
 
@@ -34,7 +34,7 @@ fn sizes_text(alloc: Global, sizes: Option<JdkLimits>) -> Result<String, AllocEr
 fn pool_text(
     alloc: Global,
     sizes: Option<JdkLimits>,
-    numbers: &Numbers,
+    numbers: &PoolNumbers,
 ) -> Result<String, AllocError>
     ensures { IfOk result (λ text. string_bytes text ≡ record_text (pool_fields sizes numbers.now)) }
 {
@@ -51,7 +51,7 @@ fn pool_text(
 }
 
 // The header, and the record of what really happened if that is known. Errors: `AllocError` when out of memory.
-fn first_text(alloc: Global, own: &Option<Numbers>) -> Result<String, AllocError>
+fn first_text(alloc: Global, own: &Option<PoolNumbers>) -> Result<String, AllocError>
     ensures { IfOk result (λ text. string_bytes text ≡ pools_text own.now []) }
 {
     let header =
@@ -75,8 +75,8 @@ fn first_text(alloc: Global, own: &Option<Numbers>) -> Result<String, AllocError
 /// `AllocError` when out of memory.
 pub fn table_text(
     alloc: Global,
-    own: &Option<Numbers>,
-    pools: &[(JdkLimits, Numbers)],
+    own: &Option<PoolNumbers>,
+    pools: &[(JdkLimits, PoolNumbers)],
 ) -> Result<Vec<u8>, AllocError>
     ensures { IfOk result (λ text. text.items ≡ pools_text own.now pools.now) }
 {

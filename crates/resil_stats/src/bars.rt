@@ -44,7 +44,7 @@ pub struct Bar {
 
 // The bars so far, and the place where the last bar of each row ends.
 #[derive(Drop)]
-struct Drawing {
+struct BarDrawing {
     bars: Vec<Bar>,
     ends: Vec<usize>,
 }
@@ -105,7 +105,7 @@ fn put_end(ends: &mut Vec<usize>, row: usize, end: usize) -> Result<(), AllocErr
     Ok(())
 }
 
-impl Drawing {
+impl BarDrawing {
     // Draws a job from its start to its finish, in the first free row. Errors: `AllocError` when out of memory.
     fn begin(&mut self, id: Id, start: Start, from: usize, to: usize) -> Result<(), AllocError>
         ensures bars { OnOk result (self.new.bars.items ≡ self.old.bars.items ++ record { id = id; start = start; from = from; to = to; row = free_row from self.old.ends.items + 1 } ∷ []) }
@@ -131,7 +131,7 @@ pub(crate) fn bars_of(alloc: Global, events: &[JdkEvent]) -> Result<Vec<Bar>, Al
     requires { (limits : Sizes) × IsLegal limits events.now }
     ensures { IfOk result (λ bars. AreBarsOf events.now bars.items) }
 {
-    let mut drawing = Drawing {
+    let mut drawing = BarDrawing {
         bars: Vec::new(alloc),
         ends: Vec::new(alloc),
     };

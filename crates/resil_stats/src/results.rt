@@ -149,22 +149,22 @@ pub fn read_results(alloc: Global, text: &[u8]) -> Result<Vec<JobResult>, BodyEr
 
 /// How jobs ended, by their ids. If a job has two results, the first counts.
 #[derive(Drop)]
-pub struct Outcomes {
+pub struct OutcomesById {
     by_id: BTreeMap<(u16, u64), Outcome>,
 }
 
-impl Outcomes {
+impl OutcomesById {
     /// How the jobs ended that have results.
     ///
     /// # Errors
     ///
     /// `AllocError` when out of memory.
-    pub fn of(alloc: Global, results: &[JobResult]) -> Result<Outcomes, AllocError> {
+    pub fn of(alloc: Global, results: &[JobResult]) -> Result<OutcomesById, AllocError> {
         let mut by_id = BTreeMap::new(alloc);
         for result in results.iter().rev() {
             by_id.insert((result.id.caller, result.id.number), result.outcome)?;
         }
-        Ok(Outcomes { by_id })
+        Ok(OutcomesById { by_id })
     }
 
     /// How a job ended, if that is known.

@@ -26,7 +26,7 @@ mod page;
 mod sheet;
 
 use crate::Picture;
-use crate::results::Outcomes;
+use crate::results::OutcomesById;
 use bands::write_bands;
 use elements::push_elements;
 use frame::{ending_text, ground_text, opening_text, push_name, push_style, write_frame};
@@ -177,7 +177,7 @@ pub fn svg_text(
     caption: Caption,
     picture: &Picture,
     times: Option<&[u64]>,
-    outcomes: &Outcomes,
+    outcomes: &OutcomesById,
 ) -> Result<Vec<u8>, AllocError>
     ensures { IfOk result (λ text. IsSvgOf caption.entry.name.now picture.now text.items) }
 {

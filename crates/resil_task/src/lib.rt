@@ -1,7 +1,7 @@
 //! Your own jobs, and how their answers come back from the threads that run them.
 //!
 //! A `Work` is run once and returns an answer; a `WorkAt` also needs something that its worker lends it. Its submitter has a
-//! `Pending`. `by_hand` has the layer below: `Run` is what a pool runs, once, as a `Task`, which is a job with the mailbox of
+//! `Pending`. `by_hand` has the layer below: `RunOnce` is what a pool runs, once, as a `Task`, which is a job with the mailbox of
 //! its answer. A `Replier` sends an answer by hand.
 //!
 //! A value that comes was sent by the other end. The calls here know nothing of it but the tag that it fits, so no body of

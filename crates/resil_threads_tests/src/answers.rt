@@ -3,7 +3,7 @@
 ghost use Rattle.std.specs.Prelude.{◌≡◌, ◌/◌};
 
 use crate::shared::assert_that;
-use resil_task::by_hand::{Plain, Run, Task, one_shot};
+use resil_task::by_hand::{Plain, RunOnce, Task, one_shot};
 use resil_task::{Answers, Pending, Work};
 use std::alloc::Global;
 use std::process::Abort;

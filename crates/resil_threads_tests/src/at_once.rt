@@ -6,7 +6,7 @@ use crate::shared::{assert_that, opened};
 use resil_executor::by_hand::ExecutorWorker;
 use resil_executor::{Executor, ExecutorCloser};
 use resil_rule::{AdmitError, NoRecord};
-use resil_task::by_hand::Run;
+use resil_task::by_hand::RunOnce;
 use std::process::Abort;
 use std::sync::Wait;
 use std::sync::atomic::{AtomicU32, Ordering};
@@ -20,7 +20,7 @@ struct Inside<'a> {
     most: &'a AtomicU32,
 }
 
-impl Run<()> for Inside<'_> {
+impl RunOnce<()> for Inside<'_> {
     type Output = ();
 
     fn run(self, _context: &mut ()) {

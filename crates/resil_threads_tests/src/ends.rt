@@ -6,7 +6,7 @@ use crate::shared::{assert_that, opened};
 use resil_executor::by_hand::{ExecutorWorker, Look, Looks, Round};
 use resil_executor::{Executor, ExecutorCloser, WorkPool};
 use resil_rule::{AdmitError, NoRecord};
-use resil_task::by_hand::{Run, Task};
+use resil_task::by_hand::{RunOnce, Task};
 use resil_task::{Answers, Pending, Stop, Stoppable, Work};
 use std::alloc::Global;
 use std::process::Abort;
@@ -86,7 +86,7 @@ fn works_that_are_called_off_come_back(rt: HostRuntime) -> Result<(), AdmitError
 #[derive(Drop)]
 struct Nothing;
 
-impl Run<()> for Nothing {
+impl RunOnce<()> for Nothing {
     type Output = ();
 
     fn run(self, _context: &mut ()) {}

@@ -5,7 +5,7 @@ use crate::quiet::{Ended, work};
 use crate::shared::{assert_that, opened, passed};
 use resil_executor::{WorkPool, Workers, work_while, work_while_with};
 use resil_rule::{AdmitError, NoRecord};
-use resil_task::by_hand::{Plain, Replier, Run, one_shot};
+use resil_task::by_hand::{Plain, Replier, RunOnce, one_shot};
 use resil_task::{Answers, Pending, WorkAt};
 use std::alloc::Global;
 use std::process::Abort;
@@ -134,7 +134,7 @@ fn answers_come_in_time(rt: HostRuntime) -> Result<(), AdmitError> {
 #[derive(Drop)]
 struct Reply(Replier<Plain<bool>>);
 
-impl Run<()> for Reply {
+impl RunOnce<()> for Reply {
     type Output = ();
 
     fn run(self, _context: &mut ()) {

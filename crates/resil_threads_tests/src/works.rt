@@ -6,7 +6,7 @@ use crate::shared::{assert_that, is_legal, opened};
 use resil_executor::by_hand::{ExecutorWorker, Look};
 use resil_executor::{Ended, Executor, ExecutorCloser, WorkPool, Workers, work_while_with};
 use resil_rule::{AdmitError, AllEvents, NoRecord};
-use resil_task::by_hand::{Run, Task};
+use resil_task::by_hand::{RunOnce, Task};
 use resil_task::{Answers, WorkAt};
 use std::alloc::Global;
 use std::process::Abort;
@@ -25,7 +25,7 @@ struct Own<'a, R> {
     pool: &'a Executor<Again, AllEvents>,
 }
 
-impl<'a, R: Wait> Run<Own<'a, R>> for Again {
+impl<'a, R: Wait> RunOnce<Own<'a, R>> for Again {
     type Output = ();
 
     fn run(self, context: &mut Own<'a, R>) {

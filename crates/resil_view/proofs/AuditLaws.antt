@@ -3,8 +3,8 @@ use Rattle.std.proofs.Common.{ℕ, ◌≡◌, ◌<◌, ◌∙◌, ◌∷◌, inl
 use Rattle.resil_heads.specs.PoolHead.{PoolHeadView}
 use Rattle.resil_heads.specs.declared.error.HeadError.{HeadError}
 use Rattle.resil_heads.specs.declared.refusal.LoadRefusal.TheVariants.{TimeGoesBack}
-use Rattle.resil_heads.specs.declared.refusal.Refusal.{Refusal}
-use Rattle.resil_heads.specs.declared.refusal.Refusal.TheVariants as refusal
+use Rattle.resil_heads.specs.declared.refusal.InputRefusal.{InputRefusal}
+use Rattle.resil_heads.specs.declared.refusal.InputRefusal.TheVariants as refusal
 use Rattle.resil_input.specs.CsvRows.{records_of}
 use Rattle.resil_input.specs.Framing.{parts_of}
 use Rattle.resil_input.specs.declared.csv_rows.BodyError.{BodyError}
@@ -93,7 +93,7 @@ module _ (input head body : List ℕ) (limits : Sizes) (history : List Event) (p
       let (event, time) = any-own body history events times own (own-part body' events times bodies any) in
       (ap (λ (view : PoolHeadView). view.limits) (sym one) ∙ agrees.0.2, event, time, no-results body' results bodies rest)
 
-  not-refused : (why : Refusal) → IsJudgeRefusal input why → ⊥
+  not-refused : (why : InputRefusal) → IsJudgeRefusal input why → ⊥
   not-refused refusal.BadResult (other, events, times, results, read, bad) =
       let clash : ◌≡◌ {A = Option (List ℕ)} None (Some bad.0) = sym (reads other events times results read).3 ∙ bad.1 in
       cc clash

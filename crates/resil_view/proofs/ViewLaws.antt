@@ -6,7 +6,7 @@ use Rattle.resil_heads.specs.declared.command_error.CommandError.{CommandError}
 use Rattle.resil_heads.specs.declared.command_error.CommandError.TheVariants as error
 use Rattle.resil_heads.specs.declared.error.HeadError.{HeadError}
 use Rattle.resil_heads.specs.declared.refusal.LoadRefusal.TheVariants.{TimeGoesBack}
-use Rattle.resil_heads.specs.declared.refusal.Refusal.TheVariants as refusal
+use Rattle.resil_heads.specs.declared.refusal.InputRefusal.TheVariants as refusal
 use Rattle.resil_input.specs.declared.csv_rows.BodyError.{BodyError}
 use Rattle.resil_input.specs.declared.csv_rows.BodyError.TheVariants as body_error
 use Rattle.resil_stats.specs.Results.{history_part}

@@ -5,7 +5,7 @@ use Rattle.resil_rule.specs.declared.verdict.Verdict.{Verdict}
 use Rattle.resil_heads.specs.PoolHead.{PoolHeadView, pool_head_of}
 use Rattle.resil_heads.specs.declared.drawing.Drawing.{Drawing}
 use Rattle.resil_heads.specs.declared.pool_head.Uses.{Uses}
-use Rattle.resil_heads.specs.declared.refusal.Refusal.{Refusal}
+use Rattle.resil_heads.specs.declared.refusal.InputRefusal.{InputRefusal}
 use Rattle.resil_stats.specs.Svg.{IsHistorySvg}
 use Rattle.resil_stats.specs.declared.window.Extent.{Extent}
 use Rattle.resil_view.specs.Judge.{AnyEvents, IsAnyBody, IsJudgeRefusal, IsJudgeText, IsJudgment, IsPoolRefusal}
@@ -38,11 +38,11 @@ IsViewText view.Stats = IsStatsText
 IsViewText view.Timeline = IsTimelineText
 
 -- a refusal of a history that is drawn
-abbrev pub IsShownRefusal : List ℕ → Refusal → Type 0
+abbrev pub IsShownRefusal : List ℕ → InputRefusal → Type 0
 IsShownRefusal = IsPoolRefusal drawn_uses
 
 -- a refusal of a view
-abbrev pub IsViewRefusal : View → List ℕ → Refusal → Type 0
+abbrev pub IsViewRefusal : View → List ℕ → InputRefusal → Type 0
 IsViewRefusal view.Judge = IsJudgeRefusal
 IsViewRefusal view.Stats = IsStatsRefusal
 IsViewRefusal view.Timeline = IsShownRefusal

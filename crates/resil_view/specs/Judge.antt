@@ -12,7 +12,7 @@ use Rattle.resil_jdk.specs.declared.event.JdkEvent.{JdkEvent}
 use Rattle.resil_heads.specs.PoolHead.{PoolHeadView, pool_head_of}
 use Rattle.resil_heads.specs.declared.error.HeadError.{HeadError}
 use Rattle.resil_heads.specs.declared.pool_head.Uses.{Uses}
-use Rattle.resil_heads.specs.declared.refusal.Refusal.{Refusal}
+use Rattle.resil_heads.specs.declared.refusal.InputRefusal.{InputRefusal}
 use Rattle.resil_input.specs.Framing.{parts_of}
 use Rattle.resil_input.specs.declared.csv_rows.BodyError.{BodyError}
 use Rattle.resil_input.specs.declared.csv_rows.BodyError.TheVariants as body_error
@@ -73,11 +73,11 @@ abbrev pub IsJudgeText : List ℕ → List ℕ → Type 0
 IsJudgeText input text = (said : PoolHeadView) × (events : AnyEvents) × IsJudgedFrom input said events × IsVerdictText said.limits events text
 
 -- the refusal of the first step that refuses an input of any version; some values of its head are used
-abbrev pub IsPoolRefusal : Uses → List ℕ → Refusal → Type 0
+abbrev pub IsPoolRefusal : Uses → List ℕ → InputRefusal → Type 0
 IsPoolRefusal uses input why = IsReadRefusal (pool_head_of uses) IsAnyBody IsAnyBodyError input why
 
 -- the refusal of the first step that refuses the input
-abbrev pub IsJudgeRefusal : List ℕ → Refusal → Type 0
+abbrev pub IsJudgeRefusal : List ℕ → InputRefusal → Type 0
 IsJudgeRefusal input why = IsReadRefusal judged_head_of IsAnyBody IsAnyBodyError input why
 
 -- the input has a history, and nothing after it
@@ -87,4 +87,4 @@ HasNoResults input = (head body : List ℕ) → parts_of input ≡ Some (head, b
 -- `judge` writes what `audit` writes for an input without results, and refuses no input that `audit` takes.
 abbrev pub JudgesAsAudit : Type 0
 JudgesAsAudit = (input text : List ℕ) → HasNoResults input → IsAuditText input text
-    → ((other : List ℕ) → IsJudgeText input other → other ≡ text) × ((why : Refusal) → ¬ IsJudgeRefusal input why)
+    → ((other : List ℕ) → IsJudgeText input other → other ≡ text) × ((why : InputRefusal) → ¬ IsJudgeRefusal input why)

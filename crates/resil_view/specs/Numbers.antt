@@ -8,8 +8,8 @@ use Rattle.resil_jdk.specs.declared.event.JdkEvent.{JdkEvent}
 use Rattle.resil_heads.specs.PoolHead.{PoolHeadView, pool_head_of}
 use Rattle.resil_heads.specs.declared.error.HeadError.TheVariants as error
 use Rattle.resil_heads.specs.declared.pool_head.Uses.{Uses}
-use Rattle.resil_heads.specs.declared.refusal.Refusal.{Refusal}
-use Rattle.resil_heads.specs.declared.refusal.Refusal.TheVariants as refusal
+use Rattle.resil_heads.specs.declared.refusal.InputRefusal.{InputRefusal}
+use Rattle.resil_heads.specs.declared.refusal.InputRefusal.TheVariants as refusal
 use Rattle.resil_stats.specs.Stats.{AreJdkStatsOf, legal_part}
 use Rattle.resil_stats.specs.Text.{stats_text}
 use Rattle.resil_stats.specs.Spans.{AreJdkSpansOf}
@@ -55,14 +55,14 @@ IsStatsText input text = (said : PoolHeadView) × (events : AnyEvents) × (times
     × (said.recorded.made ≤ length (jdk_events events)) × IsNumbersText said.limits said.recorded.made events times text
 
 -- why a number of events that restate a state is refused: there are fewer events
-abbrev pub IsManyMade : ℕ → AnyEvents → Refusal → Type 0
+abbrev pub IsManyMade : ℕ → AnyEvents → InputRefusal → Type 0
 IsManyMade made events (refusal.Head error.BadValue) = length (jdk_events events) < made
 IsManyMade made events why = ⊥
 
 -- the input is read, and by its head more events restate a state than there are
-abbrev pub HasManyMade : List ℕ → Refusal → Type 0
+abbrev pub HasManyMade : List ℕ → InputRefusal → Type 0
 HasManyMade input why = (said : PoolHeadView) × (events : AnyEvents) × (times : Option (List ℕ)) × IsCountedFrom input said events times × IsManyMade said.recorded.made events why
 
 -- the refusal of the first step that refuses the input; the last step compares the events that restate a state with all events
-abbrev pub IsStatsRefusal : List ℕ → Refusal → Type 0
+abbrev pub IsStatsRefusal : List ℕ → InputRefusal → Type 0
 IsStatsRefusal input why = IsPoolRefusal counted_uses input why ⊎ HasManyMade input why

@@ -5,8 +5,8 @@ use Rattle.resil_rule.specs.Timed.{AreAscending, GoesBackAt}
 use Rattle.resil_heads.specs.Parts.{SplitsInto, IsPartRefusal}
 use Rattle.resil_heads.specs.declared.error.HeadError.{HeadError}
 use Rattle.resil_heads.specs.declared.refusal.LoadRefusal.TheVariants.{TimeGoesBack}
-use Rattle.resil_heads.specs.declared.refusal.Refusal.{Refusal}
-use Rattle.resil_heads.specs.declared.refusal.Refusal.TheVariants as refusal
+use Rattle.resil_heads.specs.declared.refusal.InputRefusal.{InputRefusal}
+use Rattle.resil_heads.specs.declared.refusal.InputRefusal.TheVariants as refusal
 use Rattle.resil_input.specs.declared.csv_rows.BodyError.{BodyError}
 use Rattle.resil_input.specs.declared.csv_rows.BodyError.TheVariants as body_error
 use Rattle.resil_stats.specs.Results.{AreResults, IsResultsError, history_part, results_of}
@@ -21,12 +21,12 @@ abbrev pub AreInOrder : Option (List ℕ) → Type 0
 AreInOrder times = IfSome times AreAscending
 
 -- why results can't be read: one of them isn't a result
-abbrev pub IsResultsRefusal : Option (List ℕ) → Refusal → Type 0
+abbrev pub IsResultsRefusal : Option (List ℕ) → InputRefusal → Type 0
 IsResultsRefusal results refusal.BadResult = (text : List ℕ) × (results ≡ Some text) × (why : BodyError) × IsResultsError text why × (why ≢ body_error.Memory)
 IsResultsRefusal results why = ⊥
 
 -- why times are refused: the first one that is lower than the one before it
-abbrev pub IsOrderRefusal : Option (List ℕ) → Refusal → Type 0
+abbrev pub IsOrderRefusal : Option (List ℕ) → InputRefusal → Type 0
 IsOrderRefusal times (refusal.Load position TimeGoesBack) = (all : List ℕ) × (times ≡ Some all) × GoesBackAt all position
 IsOrderRefusal times why = ⊥
 
@@ -48,7 +48,7 @@ HasTimeBack {Head} {History} head_of IsHistory input position = (said : Head) ×
     × IsReadFrom head_of IsHistory input said history times results × AreRead results × IsOrderRefusal times (refusal.Load position TimeGoesBack)
 
 -- the refusal of the first step that refuses the input: its parts, its head, its history; then one of the results, or a time
-abbrev pub IsReadRefusal : {Head History : Type 0} → (List ℕ → Result Head HeadError) → (List ℕ → History → Option (List ℕ) → Type 0) → (List ℕ → BodyError → Type 0) → List ℕ → Refusal → Type 0
+abbrev pub IsReadRefusal : {Head History : Type 0} → (List ℕ → Result Head HeadError) → (List ℕ → History → Option (List ℕ) → Type 0) → (List ℕ → BodyError → Type 0) → List ℕ → InputRefusal → Type 0
 IsReadRefusal head_of IsHistory IsBad input refusal.BadResult = HasBadResult head_of IsHistory input
 IsReadRefusal head_of IsHistory IsBad input (refusal.Load position TimeGoesBack) = HasTimeBack head_of IsHistory input position
 IsReadRefusal head_of IsHistory IsBad input why = IsPartRefusal head_of (λ body error. IsBad (history_part body) error) input why

@@ -23,7 +23,7 @@ use resil_record::answer::JdkInWords;
 use resil_record::text::reply_name;
 use resil_rule::{Id, Verdict, answer_to_last};
 use resil_stats::results::JobResult;
-use resil_stats::{Caption, Extent, Outcomes, picture_of, svg_text};
+use resil_stats::{Caption, Extent, OutcomesById, picture_of, svg_text};
 use std::alloc::{AllocError, Global};
 use std::fmt;
 
@@ -144,7 +144,7 @@ fn shown(
     requires { (limits : Sizes) × IsLegal limits (legal_part verdict events.now) }
     ensures { IfOk result (λ text. IsHistorySvg (extent_of head.now.drawing) (string_bytes head.now.name) head.now.limits verdict events.now (option_map (λ times. times.items) history.now.times) text.items) }
 {
-    let outcomes = Outcomes::of(alloc, results)?;
+    let outcomes = OutcomesById::of(alloc, results)?;
     let illegal = illegal_text(alloc, &head.limits, &history.events, events, verdict)?;
     let times = times_of(history);
     let extent = extent_of(head.drawing);

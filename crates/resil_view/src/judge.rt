@@ -14,7 +14,7 @@ ghost use Rattle.resil_view.specs.Read.{IsReadFrom};
 
 use crate::read::{check_order, known_results, split_body};
 use resil_heads::pool_head::{PoolHead, Uses, read_pool_head};
-use resil_heads::{CommandError, Refusal};
+use resil_heads::{CommandError, InputRefusal};
 use resil_input::csv_rows::{BodyError, open_body};
 use resil_input::framing::split_input;
 use resil_jdk::timed::{events_in, times_in};
@@ -85,7 +85,7 @@ pub(crate) fn read_parts(
 ) -> Result<(PoolHead, AnyHistory, Option<&[u8]>), CommandError>
     ensures { MatchResult result (λ read. IsReadFrom (pool_head_of uses) IsAnyBody input.now (said_of read.0) (events_of read.1.events) (option_map (λ times. times.items) read.1.times) (option_map (λ results. results.now) read.2)) (IsError (IsPoolRefusal uses input.now)) }
 {
-    let (head, body) = split_input(input).ok_or(Refusal::NoBody)?;
+    let (head, body) = split_input(input).ok_or(InputRefusal::NoBody)?;
     let said = read_pool_head(alloc, uses, head)?;
     let (history, results) = split_body(body);
     let history = read_any(alloc, history)?;

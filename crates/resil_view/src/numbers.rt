@@ -14,7 +14,7 @@ ghost use Rattle.resil_view.specs.Numbers.{AreSpansIn, IsManyMade, IsNumbersText
 use crate::judge::{AnyHistory, Events, read_parts, verdict_of};
 use crate::read::{check_order, known_results};
 use resil_heads::pool_head::Uses;
-use resil_heads::{CommandError, HeadError, Refusal};
+use resil_heads::{CommandError, HeadError, InputRefusal};
 use resil_jdk::{JdkEvent, JdkLimits, jdk_history};
 use resil_rule::Verdict;
 use resil_stats::{JdkSpans, count_jdk, legal_part, spans_of_jdk, stats_text};
@@ -104,7 +104,7 @@ fn restated_in(made: u64, events: &Events) -> Result<usize, CommandError>
     let count = count_of(events);
     match usize::try_from(made) {
         Ok(made) if made <= count => Ok(made),
-        _ => Err(CommandError::Refused(Refusal::Head(HeadError::BadValue))),
+        _ => Err(CommandError::Refused(InputRefusal::Head(HeadError::BadValue))),
     }
 }
 

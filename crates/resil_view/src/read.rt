@@ -5,7 +5,7 @@ ghost use Rattle.resil_heads.specs.CommandError.{IsError};
 ghost use Rattle.resil_stats.specs.Results.{history_part, results_of};
 ghost use Rattle.resil_view.specs.Read.{AreInOrder, AreRead, IsOrderRefusal, IsResultsRefusal};
 
-use resil_heads::{CommandError, LoadRefusal, Refusal};
+use resil_heads::{CommandError, InputRefusal, LoadRefusal};
 use resil_input::csv_rows::BodyError;
 use resil_rule::first_back;
 use resil_stats::results::{JobResult, read_results, split_results};
@@ -35,7 +35,7 @@ pub(crate) fn known_results(
     match read_results(alloc, text) {
         Ok(rows) => Ok(rows),
         Err(BodyError::Memory) => Err(CommandError::Memory),
-        Err(_) => Err(CommandError::Refused(Refusal::BadResult)),
+        Err(_) => Err(CommandError::Refused(InputRefusal::BadResult)),
     }
 }
 
@@ -51,7 +51,7 @@ pub(crate) fn check_order(times: &Option<Vec<u64>>) -> Result<(), CommandError>
         None => Ok(()),
         Some(position) => {
             let why = LoadRefusal::TimeGoesBack;
-            Err(CommandError::Refused(Refusal::Load(position, why)))
+            Err(CommandError::Refused(InputRefusal::Load(position, why)))
         }
     }
 }

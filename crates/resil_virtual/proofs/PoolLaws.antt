@@ -20,7 +20,7 @@ use Rattle.resil_jdk.specs.declared.timed.TimedJdkEvent.{TimedJdkEvent}
 use Rattle.resil_virtual.specs.Due.{earliest, earliest_end_of, end_at, end_from, ends_at, ends_due, fallen, finish_from, finishes, front, has_spare, idle_after, idle_by, idle_next, just_finished, looks_at, looks_due, next_due, none_waits, own_takes, passed, sooner, submission, submissions_due, take_at, takes_of, without_first, without_taker}
 use Rattle.resil_virtual.specs.Pool.{AreParts, HasRun, begun_at, finish_at, ids_to_come, job_of, left, reply_by, to_queue, to_worker}
 use Rattle.resil_virtual.specs.declared.arrival.Arrival.{Arrival}
-use Rattle.resil_virtual.specs.declared.due.Running.{Running}
+use Rattle.resil_virtual.specs.declared.due.RunningJob.{RunningJob}
 use Rattle.resil_virtual.specs.declared.idle.Idle.{Idle}
 use Rattle.resil_virtual.specs.declared.virtual_pool.VirtualPool.{VirtualPool}
 use Rattle.resil_virtual.proofs.FirstLaws.{earliest-append}
@@ -39,7 +39,7 @@ abbrev reply-of : JdkEvent → JdkReply
 reply-of (Submit id answer) = answer
 reply-of _ = Full
 
-module _ (pool : VirtualPool) (arrivals : List Arrival) (next workers_now now : ℕ) (own_look : Bool) (queue : List Arrival) (jobs : List Running) (idle : List Idle) (h : List TimedJdkEvent)
+module _ (pool : VirtualPool) (arrivals : List Arrival) (next workers_now now : ℕ) (own_look : Bool) (queue : List Arrival) (jobs : List RunningJob) (idle : List Idle) (h : List TimedJdkEvent)
     (was : AreParts pool arrivals next workers_now now own_look queue jobs idle h) where
   abbrev ev : List JdkEvent
   ev = events_in h

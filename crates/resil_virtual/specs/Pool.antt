@@ -17,9 +17,9 @@ use Rattle.resil_virtual.specs.Load.{IsLoad, earliest_ends_of, latest, runs_of}
 use Rattle.resil_virtual.specs.Due.{earliest_end_of, ends_at, finishes, idle_after, just_finished, last_at, looks_at, looks_of, next_due, none_waits, submissions_at, submissions_of, takes_of}
 use Rattle.resil_virtual.specs.Simulated.{opening}
 use Rattle.resil_virtual.specs.declared.arrival.Arrival.{Arrival}
-use Rattle.resil_virtual.specs.declared.due.Running.{Running}
+use Rattle.resil_virtual.specs.declared.due.RunningJob.{RunningJob}
 use Rattle.resil_virtual.specs.declared.idle.Idle.{Idle}
-use Rattle.resil_virtual.specs.declared.pool.Pool.{Pool}
+use Rattle.resil_virtual.specs.declared.pool.RunningPool.{RunningPool}
 use Rattle.resil_virtual.specs.declared.virtual_pool.VirtualPool.{VirtualPool}
 
 -- whether a worker looks, or may end, at a time
@@ -27,7 +27,7 @@ abbrev pub is_free : Bool → ℕ → Idle → Bool
 is_free by_look at worker = if by_look then looks_at at worker else ends_at at worker
 
 -- the finish of a job that runs
-abbrev pub finish_at : Running → TimedJdkEvent
+abbrev pub finish_at : RunningJob → TimedJdkEvent
 finish_at job = record { event = Finish job.id; at = job.due }
 
 -- the jobs that finishes are of
@@ -125,7 +125,7 @@ abbrev pub HasRun : List Arrival → Arrival → Type 0
 HasRun arrivals job = (takes_of arrivals job.id ≡ job.takes) × (earliest_end_of arrivals job.id ≡ job.earliest_end)
 
 -- What is true of the parts of a pool.
-pub record AreParts (pool : VirtualPool) (arrivals : List Arrival) (next workers_now now : ℕ) (own_look : Bool) (queue : List Arrival) (jobs : List Running) (idle : List Idle) (history : List TimedJdkEvent) : Type 0 where
+pub record AreParts (pool : VirtualPool) (arrivals : List Arrival) (next workers_now now : ℕ) (own_look : Bool) (queue : List Arrival) (jobs : List RunningJob) (idle : List Idle) (history : List TimedJdkEvent) : Type 0 where
   pub sound : AreSound pool arrivals next history
   pub workers_are : workers_now ≡ workers (events_in history)
   pub now_is : now ≡ last_at history
@@ -135,18 +135,18 @@ pub record AreParts (pool : VirtualPool) (arrivals : List Arrival) (next workers
   pub jobs_are : map finish_at jobs ≡ finishes arrivals history
   pub idle_are : idle ≡ idle_after pool history
 
-abbrev pub IsPool : Pool → Type 0
+abbrev pub IsPool : RunningPool → Type 0
 IsPool s = AreParts s.plan s.arrivals.now s.next s.workers s.time s.own_look s.queue.items s.running.items s.idle.items s.history.items
 
 -- how much is left to do, by a number that each event lowers
 abbrev pub left : VirtualPool → List Arrival → ℕ → List TimedJdkEvent → ℕ
 left pool arrivals next history = 5 * (length arrivals - next) + 3 * length (waiting (events_in history)) + 2 * length (running (events_in history)) + length (idle_after pool history)
 
-abbrev pub left_in : Pool → ℕ
+abbrev pub left_in : RunningPool → ℕ
 left_in s = left s.plan s.arrivals.now s.next s.history.items
 
 -- a job that begins at a time
-abbrev pub begun_at : ℕ → Arrival → Running
+abbrev pub begun_at : ℕ → Arrival → RunningJob
 begun_at at job = record { id = job.id; due = max (at + job.takes) job.earliest_end }
 
 -- where a job goes that is answered so: into the queue, or to a worker
@@ -155,12 +155,12 @@ to_queue First job = job ∷ []
 to_queue Queued job = job ∷ []
 to_queue _ job = []
 
-abbrev pub to_worker : JdkReply → Arrival → List Running
+abbrev pub to_worker : JdkReply → Arrival → List RunningJob
 to_worker Core job = begun_at job.at job ∷ []
 to_worker Handed job = begun_at job.at job ∷ []
 to_worker Extra job = begun_at job.at job ∷ []
 to_worker _ job = []
 
 -- what is due next in a pool
-abbrev pub due_in : Pool → Option TimedJdkEvent
+abbrev pub due_in : RunningPool → Option TimedJdkEvent
 due_in s = next_due s.plan s.arrivals.now s.history.items

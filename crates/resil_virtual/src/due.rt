@@ -8,7 +8,7 @@ use resil_rule::Id;
 
 /// A job that runs.
 #[derive(Clone, Copy)]
-pub(crate) struct Running {
+pub(crate) struct RunningJob {
     // Its id.
     pub(crate) id: Id,
     // When it finishes.
@@ -41,7 +41,7 @@ pub(crate) fn sooner(
 }
 
 // The job that finishes first, of the first one so far and one that began later. If both finish at one moment, the one that began first.
-fn first_job(first: Option<Running>, job: Running) -> Running
+fn first_job(first: Option<RunningJob>, job: RunningJob) -> RunningJob
     ensures { Some result ≡ sooner (λ job. job.due) first (Some job) }
 {
     match first {
@@ -51,7 +51,7 @@ fn first_job(first: Option<Running>, job: Running) -> Running
 }
 
 /// The job that finishes first, among jobs in the order in which they began. If several finish at one moment, the one that began first.
-pub(crate) fn first_due(running: &[Running]) -> Option<Running>
+pub(crate) fn first_due(running: &[RunningJob]) -> Option<RunningJob>
     ensures { result ≡ earliest (λ job. job.due) running.now }
 {
     let mut first = None;

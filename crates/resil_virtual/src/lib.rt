@@ -18,7 +18,7 @@ mod virtual_pool;
 
 pub use arrival::Arrival;
 pub use laws::{one_history, same_at_once, worked_loads};
-use pool::Pool;
+use pool::RunningPool;
 use resil_jdk::TimedJdkEvent;
 use std::alloc::{AllocError, Global};
 pub use virtual_pool::VirtualPool;
@@ -49,7 +49,7 @@ pub fn simulate(
     requires { IsLoad pool.now.idle_for pool.now.wakes arrivals.now }
     ensures simulated { IfOk result (λ history. IsSimulated pool.now arrivals.now history.items) }
 {
-    let mut virtual_pool = Pool::new(alloc, *pool, arrivals)?;
+    let mut virtual_pool = RunningPool::new(alloc, *pool, arrivals)?;
     while virtual_pool.step()? {}
     Ok(virtual_pool.history)
 }

@@ -15,7 +15,7 @@ ghost use Rattle.resil_virtual.specs.Due.{earliest, end_at, end_from, ends_due, 
 ghost use Rattle.resil_virtual.specs.Pool.{IsPool, begun_at, due_in, left_in, reply_by, to_queue, to_worker};
 
 use crate::arrival::Arrival;
-use crate::due::{Running, first_due, sooner};
+use crate::due::{RunningJob, first_due, sooner};
 use crate::idle::{Idle, first_end, first_look, pass, remove_first, remove_taker, wake_first};
 use crate::virtual_pool::VirtualPool;
 use resil_jdk::{JdkEvent, JdkReply, TimedJdkEvent};
@@ -25,7 +25,7 @@ use std::collections::VecDeque;
 
 /// A pool in virtual time.
 #[derive(Drop)]
-pub(crate) struct Pool<'a> {
+pub(crate) struct RunningPool<'a> {
     plan: VirtualPool,
     // The load, and how many of its jobs were submitted.
     arrivals: &'a [Arrival],
@@ -35,7 +35,7 @@ pub(crate) struct Pool<'a> {
     // The jobs that wait.
     queue: VecDeque<Arrival>,
     // The jobs that run, in the order in which they began.
-    running: Vec<Running>,
+    running: Vec<RunningJob>,
     // The idle workers, the one that has been idle longest first.
     idle: Vec<Idle>,
     // The time of the last event, and whether it is a finish, whose worker looks for a job at once.
@@ -72,11 +72,11 @@ fn end_at(at: Option<u64>) -> Option<TimedJdkEvent>
 }
 
 // A worker begins a job at a time. Errors: `AllocError` when out of memory.
-fn run(running: &mut Vec<Running>, job: Arrival, at: u64) -> Result<(), AllocError>
+fn run(running: &mut Vec<RunningJob>, job: Arrival, at: u64) -> Result<(), AllocError>
     requires { at + job.takes < 2 ^ 64 }
     ensures { OnOk result (running.new.items ≡ running.old.items ++ begun_at at job ∷ []) }
 {
-    running.push(Running {
+    running.push(RunningJob {
         id: job.id,
         due: (at + job.takes).max(job.earliest_end),
     })?;
@@ -98,19 +98,19 @@ fn first_event(
 }
 
 // The job is gone.
-fn remove_job(running: &mut Vec<Running>, id: Id)
+fn remove_job(running: &mut Vec<RunningJob>, id: Id)
     ensures { running.new.items ≡ filter (λ job. not (is_same_id id job.id)) running.old.items }
 {
     running.retain(|job| job.id != id);
 }
 
-impl<'a> Pool<'a> {
+impl<'a> RunningPool<'a> {
     /// A pool before any job comes. Errors: `AllocError` when out of memory.
     pub(crate) fn new(
         alloc: Global,
         plan: VirtualPool,
         arrivals: &'a [Arrival],
-    ) -> Result<Pool<'a>, AllocError>
+    ) -> Result<RunningPool<'a>, AllocError>
         requires { IsLoad plan.idle_for plan.wakes arrivals.now }
         ensures pool { IfOk result IsPool }
         ensures load { IfOk result (λ pool. (pool.plan ≡ plan) × (pool.arrivals.now ≡ arrivals.now)) }
@@ -122,7 +122,7 @@ impl<'a> Pool<'a> {
                 at: 0,
             })?;
         }
-        Ok(Pool {
+        Ok(RunningPool {
             plan,
             arrivals,
             next: 0,

@@ -9,8 +9,8 @@ use Rattle.resil_weave.specs.Head.{weave_head_of}
 use Rattle.resil_weave.specs.Rows.{IsWeaveBody, IsWeaveBodyError}
 use Rattle.resil_weave.specs.Woven.{woven_text}
 use Rattle.resil_heads.specs.Parts.{SplitsInto, IsPartRefusal}
-use Rattle.resil_heads.specs.declared.refusal.Refusal.{Refusal}
-use Rattle.resil_heads.specs.declared.refusal.Refusal.TheVariants as refusal
+use Rattle.resil_heads.specs.declared.refusal.InputRefusal.{InputRefusal}
+use Rattle.resil_heads.specs.declared.refusal.InputRefusal.TheVariants as refusal
 use Rattle.resil_heads.specs.declared.refusal.StepRefusal.{StepRefusal}
 use Rattle.resil_heads.specs.declared.refusal.StepRefusal.TheVariants as step
 
@@ -30,7 +30,7 @@ step_error position step.NotRetired = weave_error.NotRetired position
 
 -- the refusal of the first step that refuses the input: its parts, its head, its body, and then a
 -- caller's step that can't be made after those before it
-abbrev pub IsWeaveRefusal : List ℕ → Refusal → Type 0
+abbrev pub IsWeaveRefusal : List ℕ → InputRefusal → Type 0
 IsWeaveRefusal input (refusal.Step position why) = (permits : ℕ) × (body : List ℕ) × (steps : List Step)
     × SplitsInto weave_head_of input permits body × IsWeaveBody body steps × IsRefusedFor permits steps (step_error position why)
 IsWeaveRefusal input why = IsPartRefusal weave_head_of IsWeaveBodyError input why

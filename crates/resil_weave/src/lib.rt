@@ -16,7 +16,7 @@ mod worked_heads;
 pub mod woven;
 
 use head::read_head;
-use resil_heads::{CommandError, Refusal};
+use resil_heads::{CommandError, InputRefusal};
 use resil_input::framing::split_input;
 use rows::read_rows;
 use std::alloc::Global;
@@ -32,7 +32,7 @@ use woven::woven_text;
 pub fn text(alloc: Global, input: &[u8]) -> Result<Vec<u8>, CommandError>
     ensures { MatchResult result (λ text. IsWeaveText input.now text.items) (IsError (IsWeaveRefusal input.now)) }
 {
-    let (head, body) = split_input(input).ok_or(Refusal::NoBody)?;
+    let (head, body) = split_input(input).ok_or(InputRefusal::NoBody)?;
     let permits = read_head(alloc, head)?;
     let steps = read_rows(alloc, body)?;
     let woven = resil_permit::weave(alloc, permits, &steps)?;

@@ -22,7 +22,7 @@ use Rattle.resil_driver.specs.Run.Bulkheads.{AreMadeFrom}
 use Rattle.resil_words.specs.declared.command_line.RunOptions.{RunOptions}
 use Rattle.resil_heads.specs.declared.command_error.CommandError.{CommandError}
 use Rattle.resil_heads.specs.declared.command_error.CommandError.TheVariants as error
-use Rattle.resil_heads.specs.declared.refusal.Refusal.TheVariants as refusal
+use Rattle.resil_heads.specs.declared.refusal.InputRefusal.TheVariants as refusal
 use Rattle.resil_heads.specs.declared.refusal.RunRefusal.TheVariants as run
 use Rattle.resil_driver.specs.declared.run.runner.RunSettings.{RunSettings}
 

@@ -13,7 +13,7 @@ use crate::run::head::RunHead;
 use crate::run::rows::ScriptedJob;
 use crate::run::runner::{JobRunner, RunBatch, run_settings};
 use resil_decor::{Chain, Plan};
-use resil_heads::{CommandError, Refusal, RunRefusal};
+use resil_heads::{CommandError, InputRefusal, RunRefusal};
 use resil_words::RunOptions;
 use resil_workers::{JobRow, Report, RunError};
 use std::alloc::{AllocError, Global};
@@ -59,8 +59,10 @@ fn run_error(error: RunError) -> CommandError
     match error {
         RunError::Memory => CommandError::Memory,
         RunError::NoThread => CommandError::NoThread,
-        RunError::Stranger => CommandError::Refused(Refusal::Run(RunRefusal::Stranger)),
-        RunError::ReceiptsDiffer => CommandError::Refused(Refusal::Run(RunRefusal::ReceiptsDiffer)),
+        RunError::Stranger => CommandError::Refused(InputRefusal::Run(RunRefusal::Stranger)),
+        RunError::ReceiptsDiffer => CommandError::Refused(InputRefusal::Run(
+            RunRefusal::ReceiptsDiffer,
+        )),
         RunError::TooManyCallers | RunError::BadCaller => unreachable!(),
     }
 }

@@ -10,21 +10,21 @@ use super::page::{
     CLOSED, CORE, DEPTH, EXTRA, GREY, INK, LEFT, Pixels, QUEUED, REFUSED, RIGHT, SIZE, Scale,
     WORKERS,
 };
-use super::sheet::{Measure, Sheet};
+use super::sheet::{Quantity, Sheet};
 use crate::{Picture, Sign};
 
 // The class of a line, its colour, and how long its dashes and the gaps between them are.
-fn style_of(measure: Measure) -> (&'static str, &'static str, &'static str) {
+fn style_of(measure: Quantity) -> (&'static str, &'static str, &'static str) {
     match measure {
-        Measure::Waiting => ("waiting", DEPTH, "none"),
-        Measure::CoreSize => ("core-size", CORE, "5 3"),
-        Measure::GreatestSize => ("greatest-size", SIZE, "2 3"),
+        Quantity::Waiting => ("waiting", DEPTH, "none"),
+        Quantity::CoreSize => ("core-size", CORE, "5 3"),
+        Quantity::GreatestSize => ("greatest-size", SIZE, "2 3"),
         _ => ("workers", INK, "none"),
     }
 }
 
 // Writes the steps to the points, which begin at the height of a first number.
-fn write_steps(draft: &mut Draft, sheet: &Sheet, scale: &Scale, measure: Measure, first: usize) {
+fn write_steps(draft: &mut Draft, sheet: &Sheet, scale: &Scale, measure: Quantity, first: usize) {
     let mut height = scale.y(first);
     put!(draft; "M{LEFT} {height}");
     for point in sheet.points {
@@ -47,7 +47,7 @@ pub(crate) fn write_line(
     draft: &mut Draft,
     sheet: &Sheet,
     scale: &Scale,
-    measure: Measure,
+    measure: Quantity,
     first: usize,
 ) {
     let (class, stroke, dashes) = style_of(measure);
@@ -61,7 +61,7 @@ pub(crate) fn write_area(
     draft: &mut Draft,
     sheet: &Sheet,
     scale: &Scale,
-    measure: Measure,
+    measure: Quantity,
     fill: &str,
 ) {
     let bottom = scale.bottom;
@@ -94,11 +94,11 @@ pub(crate) fn write_ends(draft: &mut Draft, scale: &Scale, word: &str, most: usi
 
 // Writes the refusals of columns, in grey, and over them those of a full pool, under a line at the most refusals of one column.
 fn write_refused(draft: &mut Draft, sheet: &Sheet) {
-    let refused = sheet.points.iter().map(|point| Measure::Refused.of(point));
+    let refused = sheet.points.iter().map(|point| Quantity::Refused.of(point));
     let most = refused.max().unwrap_or(0);
     let scale = Scale::between(Pixels(800), Pixels(2800), most);
-    write_area(draft, sheet, &scale, Measure::Refused, CLOSED);
-    write_area(draft, sheet, &scale, Measure::Full, REFUSED);
+    write_area(draft, sheet, &scale, Quantity::Refused, CLOSED);
+    write_area(draft, sheet, &scale, Quantity::Full, REFUSED);
     if most > 0 {
         let top = scale.top;
         line!(draft; r#"<path d="M{LEFT} {top}H{RIGHT}" fill="none" stroke="{CLOSED}" stroke-dasharray="2 3"/>"#);
@@ -136,17 +136,17 @@ fn write_queue(draft: &mut Draft, sheet: &Sheet, picture: &Picture) {
     let most = picture.stats.most.waiting;
     if capacity == 0 {
         let scale = Scale::between(Pixels(3200), Pixels(10_400), 1);
-        write_line(draft, sheet, &scale, Measure::Waiting, 0);
+        write_line(draft, sheet, &scale, Quantity::Waiting, 0);
         return write_number(draft, "", 0, scale.bottom, GREY);
     }
     let (greatest, is_seen) = waiting_scale(picture);
     let scale = Scale::between(Pixels(3200), Pixels(10_400), greatest);
-    write_area(draft, sheet, &scale, Measure::Waiting, QUEUED);
-    write_line(draft, sheet, &scale, Measure::Waiting, 0);
+    write_area(draft, sheet, &scale, Quantity::Waiting, QUEUED);
+    write_line(draft, sheet, &scale, Quantity::Waiting, 0);
     let line = scale.y(capacity);
     if most >= capacity {
         let edge = Scale::between(line.less(2), line.and(2), 1);
-        write_area(draft, sheet, &edge, Measure::IsFull(capacity), REFUSED);
+        write_area(draft, sheet, &edge, Quantity::IsFull(capacity), REFUSED);
     }
     if is_seen {
         line!(draft; r#"<path class="capacity" d="M{LEFT} {line}H{RIGHT}" fill="none" stroke="{REFUSED}" stroke-dasharray="5 3"/>"#);
@@ -187,9 +187,9 @@ fn write_workers(draft: &mut Draft, sheet: &Sheet, picture: &Picture) {
     let most = picture.stats.most.workers;
     let (end, is_seen) = workers_scale(picture);
     let scale = Scale::between(Pixels(13_400), Pixels(19_800), end);
-    write_area(draft, sheet, &scale, Measure::Workers, EXTRA);
-    write_area(draft, sheet, &scale, Measure::CoreWorkers, WORKERS);
-    write_line(draft, sheet, &scale, Measure::Workers, 0);
+    write_area(draft, sheet, &scale, Quantity::Workers, EXTRA);
+    write_area(draft, sheet, &scale, Quantity::CoreWorkers, WORKERS);
+    write_line(draft, sheet, &scale, Quantity::Workers, 0);
     let is_core_seen = cores <= end;
     let labelled = if is_seen { greatest } else { most };
     let above = match picture.heights.workers {
@@ -197,10 +197,10 @@ fn write_workers(draft: &mut Draft, sheet: &Sheet, picture: &Picture) {
         None => scale.top.and(15),
     };
     if is_core_seen {
-        write_line(draft, sheet, &scale, Measure::CoreSize, core);
+        write_line(draft, sheet, &scale, Quantity::CoreSize, core);
     }
     if is_seen {
-        write_line(draft, sheet, &scale, Measure::GreatestSize, max);
+        write_line(draft, sheet, &scale, Quantity::GreatestSize, max);
         write_number(draft, "max ", max, above, SIZE);
     } else {
         write_number(draft, "most ", most, above, GREY);

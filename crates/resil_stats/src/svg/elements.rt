@@ -93,7 +93,7 @@ impl Element for Mark {
     // removal is an arrow out of the queue; a worker that begins or ends without a job is an arrow over the number of workers.
     fn write_rest(self, draft: &mut Draft, sheet: &Sheet) {
         let Some(
-            Look {
+            MarkStyle {
                 way,
                 tick,
                 stroke,
@@ -123,7 +123,7 @@ impl Element for Mark {
 
 // How a mark between the bands looks if events are far apart and if they are close, and what its title says.
 #[derive(Clone, Copy)]
-struct Look {
+struct MarkStyle {
     way: &'static str,
     tick: &'static str,
     stroke: &'static str,
@@ -131,7 +131,7 @@ struct Look {
 }
 
 // How a mark looks, if it is between the bands.
-fn look_of(sign: Sign) -> Option<Look> {
+fn look_of(sign: Sign) -> Option<MarkStyle> {
     let (up, down) = ("131v-9m-3 3l3 -3l3 3", "122v9m-3 -3l3 3l3 -3");
     let (way, tick, stroke, told) = match sign {
         Sign::Full(_) => ("10m-4 0l8 12m0 -12l-8 12", "8v16", REFUSED, "full"),
@@ -144,7 +144,7 @@ fn look_of(sign: Sign) -> Option<Look> {
         }
         Sign::Closing | Sign::Stopping | Sign::Resized { .. } | Sign::TimeOut(_) => return None,
     };
-    Some(Look {
+    Some(MarkStyle {
         way,
         tick,
         stroke,

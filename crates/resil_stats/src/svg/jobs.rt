@@ -6,7 +6,7 @@ ghost use Rattle.resil_stats.specs.Svg.{start_class};
 use super::Draft;
 use super::bands::{write_area, write_ends, write_number};
 use super::page::{CORE, EXTRA, GREY, GROUND, INK, LETTER, PAPER, Page, QUEUED, Scale};
-use super::sheet::{Measure, Sheet};
+use super::sheet::{Quantity, Sheet};
 use crate::{Bar, Picture, Start};
 use resil_input::outcome_text::outcome_text;
 use resil_rule::Id;
@@ -76,7 +76,7 @@ pub(crate) fn write_running(draft: &mut Draft, sheet: &Sheet, picture: &Picture)
     for start in [taken_start(picture), Start::Extra, Start::Core] {
         let Style { class, fill, .. } = style_of(start);
         put!(draft; r#"<g class="running-{class}">"#);
-        write_area(draft, sheet, &scale, Measure::Running(start), fill);
+        write_area(draft, sheet, &scale, Quantity::Running(start), fill);
         line!(draft; "</g>");
     }
     let word = if picture.heights.workers.is_some() {

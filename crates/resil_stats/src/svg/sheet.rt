@@ -2,7 +2,7 @@
 
 use super::Caption;
 use super::page::{LEFT, Page, Pixels};
-use crate::results::Outcomes;
+use crate::results::OutcomesById;
 use crate::{Column, Level, Picture, Running, Start, Window};
 use std::alloc::{AllocError, Global};
 
@@ -12,7 +12,7 @@ pub(crate) struct Sheet<'a> {
     pub alloc: Global,
     pub page: Page<'a>,
     pub points: &'a [Point],
-    pub outcomes: &'a Outcomes,
+    pub outcomes: &'a OutcomesById,
     pub caption: Caption<'a>,
 }
 
@@ -26,7 +26,7 @@ pub(crate) struct Point {
 
 /// What an outline shows of points.
 #[derive(Clone, Copy)]
-pub(crate) enum Measure {
+pub(crate) enum Quantity {
     Waiting,
     /// 1 if as many jobs wait as this capacity, else 0.
     IsFull(usize),
@@ -43,22 +43,22 @@ pub(crate) enum Measure {
     Refused,
 }
 
-impl Measure {
+impl Quantity {
     /// The number of a point.
     pub(crate) fn of(self, point: &Point) -> usize {
         let (column, running) = (point.column, point.running);
         match self {
-            Measure::Waiting => column.waiting,
-            Measure::IsFull(capacity) => (column.waiting >= capacity) as usize,
-            Measure::Workers => column.workers,
-            Measure::CoreWorkers => column.workers.min(column.core as usize),
-            Measure::CoreSize => column.core as usize,
-            Measure::GreatestSize => column.max as usize,
-            Measure::Running(Start::Core) => running.core,
-            Measure::Running(Start::Extra) => running.core.saturating_add(running.extra),
-            Measure::Running(Start::Queued | Start::Handed) => running.all(),
-            Measure::Full => column.full,
-            Measure::Refused => column.full.saturating_add(column.closed),
+            Quantity::Waiting => column.waiting,
+            Quantity::IsFull(capacity) => (column.waiting >= capacity) as usize,
+            Quantity::Workers => column.workers,
+            Quantity::CoreWorkers => column.workers.min(column.core as usize),
+            Quantity::CoreSize => column.core as usize,
+            Quantity::GreatestSize => column.max as usize,
+            Quantity::Running(Start::Core) => running.core,
+            Quantity::Running(Start::Extra) => running.core.saturating_add(running.extra),
+            Quantity::Running(Start::Queued | Start::Handed) => running.all(),
+            Quantity::Full => column.full,
+            Quantity::Refused => column.full.saturating_add(column.closed),
         }
     }
 }

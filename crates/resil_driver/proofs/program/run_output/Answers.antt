@@ -1,7 +1,7 @@
 use Rattle.std.proofs.Common.{refl, ◌∙◌}
 use Rattle.std.proofs.lemmas.Option.{IfSome_then}
 use Rattle.resil_words.specs.declared.command_line.Request.TheVariants.{Run}
-use Rattle.resil_heads.specs.declared.refusal.Refusal.TheVariants.{TooLong}
+use Rattle.resil_heads.specs.declared.refusal.InputRefusal.TheVariants.{TooLong}
 use Rattle.resil_driver.specs.Answer.{IsAnswerOf}
 use Rattle.resil_driver.proofs.AnswerLaws.{refusal_answers, run_stopped}
 use Rattle.resil_driver.proofs.program.run_output.Goals as goal

@@ -1,5 +1,5 @@
 use Rattle.resil_words.specs.declared.command_line.Request.TheVariants.{Single}
-use Rattle.resil_heads.specs.declared.refusal.Refusal.TheVariants.{TooLong}
+use Rattle.resil_heads.specs.declared.refusal.InputRefusal.TheVariants.{TooLong}
 use Rattle.resil_driver.proofs.AnswerLaws.{refusal_answers}
 use Rattle.resil_driver.proofs.program.single_output.Goals as goal
 

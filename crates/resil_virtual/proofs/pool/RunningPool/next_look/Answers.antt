@@ -5,7 +5,7 @@ use Rattle.resil_virtual.specs.Due.{earliest, front, looks_of, take_at}
 use Rattle.resil_jdk.specs.Timed.{events_in}
 use Rattle.resil_virtual.proofs.CauseLaws.{at_of}
 use Rattle.resil_virtual.proofs.FirstLaws.{earliest-map}
-use Rattle.resil_virtual.proofs.pool.Pool.next_look.Goals as goal
+use Rattle.resil_virtual.proofs.pool.RunningPool.next_look.Goals as goal
 
 first-take : (times : List ℕ) (o : Option Id) → option_map_or (λ id. option_map (take_at id) (earliest (λ at. at) times)) o None ≡ earliest at_of (option_map_or (λ id. map (take_at id) times) o [])
 first-take times None = refl

@@ -1,6 +1,6 @@
 use Rattle.std.proofs.Common.{sym}
 use Rattle.resil_virtual.proofs.PoolLaws.{else-end}
-use Rattle.resil_virtual.proofs.pool.Pool.step.Goals as goal
+use Rattle.resil_virtual.proofs.pool.RunningPool.step.Goals as goal
 
 pub end-requires : goal.end-requires
 end-requires c =

@@ -6,7 +6,7 @@ use Rattle.resil_jdk.specs.Timed.{events_in}
 use Rattle.resil_jdk.specs.declared.timed.TimedJdkEvent.{TimedJdkEvent}
 use Rattle.resil_virtual.proofs.CauseLaws.{at_of}
 use Rattle.resil_virtual.proofs.FirstLaws.{earliest-map}
-use Rattle.resil_virtual.proofs.pool.Pool.next_end.Goals as goal
+use Rattle.resil_virtual.proofs.pool.RunningPool.next_end.Goals as goal
 
 abbrev Ends : List ℕ → Option Id → Bool → Option TimedJdkEvent
 Ends times o spare = earliest at_of (option_map_or (λ id. map (take_at id) times) o (if spare then map end_at times else []))

@@ -2,7 +2,7 @@ use Rattle.std.proofs.Common.{◌∙◌, Some, None, ap}
 use Rattle.resil_jdk.specs.declared.event.JdkReply.{JdkReply}
 use Rattle.resil_jdk.specs.declared.event.JdkEvent.TheVariants.{Submit}
 use Rattle.resil_virtual.proofs.PoolLaws.{job-due, reply-now}
-use Rattle.resil_virtual.proofs.pool.Pool.next_submission.Goals as goal
+use Rattle.resil_virtual.proofs.pool.RunningPool.next_submission.Goals as goal
 
 pub returns-in-Some : goal.returns-in-Some
 returns-in-Some c =

@@ -5,9 +5,9 @@ use Rattle.resil_jdk.specs.declared.event.JdkEvent.TheVariants.{Submit}
 use Rattle.resil_virtual.specs.Due.{idle_by, passed}
 use Rattle.resil_virtual.specs.Pool.{IsPool, left_in}
 use Rattle.resil_virtual.specs.declared.idle.Idle.{Idle}
-use Rattle.resil_virtual.specs.declared.pool.Pool.{Pool}
+use Rattle.resil_virtual.specs.declared.pool.RunningPool.{RunningPool}
 use Rattle.resil_virtual.proofs.PoolLaws.{job-some, none-is, placed-is, submit-due, submit-fits, submit-room, submitted-left, submitted-parts}
-use Rattle.resil_virtual.proofs.pool.Pool.submit.Goals as goal
+use Rattle.resil_virtual.proofs.pool.RunningPool.submit.Goals as goal
 
 pub place-requires-clause-room : goal.place-requires-clause-room
 place-requires-clause-room c =
@@ -46,7 +46,7 @@ pub returns-clause-less : goal.returns-clause-less
 returns-clause-less c =
     let s = c.args.self.now in
     let due = submit-due s.plan s.arrivals.now s.next s.workers s.time s.own_look s.queue.items s.running.items s.idle.items s.history.items c.requires.pool c.args.id c.args.reply c.args.at c.requires.due c.in-Some.job (sym c.in-Some.ensures) in
-    on_ok_weaker c.record.result (λ told. subst (λ (p : Pool). left_in p < left_in s) (sym told.0) (rw (told.1, c.in_ok-place.ensures.rest) (submitted-left s.plan s.arrivals.now s.next s.workers s.time s.own_look s.queue.items s.running.items s.idle.items s.history.items c.requires.pool c.in-Some.job (sym c.in-Some.ensures) c.args.reply due))) c.record.ensures
+    on_ok_weaker c.record.result (λ told. subst (λ (p : RunningPool). left_in p < left_in s) (sym told.0) (rw (told.1, c.in_ok-place.ensures.rest) (submitted-left s.plan s.arrivals.now s.next s.workers s.time s.own_look s.queue.items s.running.items s.idle.items s.history.items c.requires.pool c.in-Some.job (sym c.in-Some.ensures) c.args.reply due))) c.record.ensures
 
 pub returns-in_default-clause-less : goal.returns-in_default-clause-less
 returns-in_default-clause-less c = let s = c.args.self.now in absurd (job-some s.plan s.arrivals.now s.next s.workers s.time s.own_look s.queue.items s.running.items s.idle.items s.history.items c.requires.pool c.args.id c.args.reply c.args.at c.requires.due (sym c.in_default.ensures))

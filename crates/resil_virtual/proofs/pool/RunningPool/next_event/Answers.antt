@@ -3,7 +3,7 @@ use Rattle.resil_jdk.specs.declared.timed.TimedJdkEvent.{TimedJdkEvent}
 use Rattle.resil_virtual.specs.Due.{earliest, finishes, looks_due, own_takes, sooner, submissions_due}
 use Rattle.resil_virtual.proofs.CauseLaws.{at_of}
 use Rattle.resil_virtual.proofs.PoolLaws.{due-is}
-use Rattle.resil_virtual.proofs.pool.Pool.next_event.Goals as goal
+use Rattle.resil_virtual.proofs.pool.RunningPool.next_event.Goals as goal
 
 pub returns : goal.returns
 returns c =

@@ -1,9 +1,9 @@
 use Rattle.std.proofs.Common.{◌<◌, sym, subst}
 use Rattle.std.proofs.lemmas.Result.{on_ok_weaker}
 use Rattle.resil_virtual.specs.Pool.{IsPool, left_in}
-use Rattle.resil_virtual.specs.declared.pool.Pool.{Pool}
+use Rattle.resil_virtual.specs.declared.pool.RunningPool.{RunningPool}
 use Rattle.resil_virtual.proofs.PoolLaws.{front-some, take-fits, taken-left, taken-parts}
-use Rattle.resil_virtual.proofs.pool.Pool.take.Goals as goal
+use Rattle.resil_virtual.proofs.pool.RunningPool.take.Goals as goal
 
 pub run-requires : goal.run-requires
 run-requires c = let s = c.args.self.now in take-fits s.plan s.arrivals.now s.next s.workers s.time s.own_look s.queue.items s.running.items s.idle.items s.history.items c.requires.pool c.args.id c.args.at c.requires.due c.in-Some.job (sym c.in-Some.ensures)
@@ -17,7 +17,7 @@ returns-clause-pool c =
 pub returns-clause-less : goal.returns-clause-less
 returns-clause-less c =
     let s = c.args.self.now in
-    on_ok_weaker c.record.result (λ told. subst (λ (p : Pool). left_in p < left_in s) (sym told.0) (rw told.1 (taken-left s.plan s.arrivals.now s.next s.workers s.time s.own_look s.queue.items s.running.items s.idle.items s.history.items c.requires.pool c.args.id c.args.at c.requires.due))) c.record.ensures
+    on_ok_weaker c.record.result (λ told. subst (λ (p : RunningPool). left_in p < left_in s) (sym told.0) (rw told.1 (taken-left s.plan s.arrivals.now s.next s.workers s.time s.own_look s.queue.items s.running.items s.idle.items s.history.items c.requires.pool c.args.id c.args.at c.requires.due))) c.record.ensures
 
 pub returns-in_default-clause-less : goal.returns-in_default-clause-less
 returns-in_default-clause-less c = let s = c.args.self.now in absurd (front-some s.plan s.arrivals.now s.next s.workers s.time s.own_look s.queue.items s.running.items s.idle.items s.history.items c.requires.pool c.args.id c.args.at c.requires.due (sym c.in_default.ensures))
