@@ -5,9 +5,11 @@ use Rattle.resil_layers.proofs.inside_within.InsideWithinCall.call.Goals as goal
 pub returns-clause-answer : goal.returns-clause-answer
 returns-clause-answer g c =
     let (waited, by, executed) = c.in_ok-call_within.ensures.by_the_clock in
-    (Ok c.in_ok-call_within.field-0, waited, refl, waited_by _ _ _ _ _ _ by, by, executed, refl)
+    let has = waited_by _ _ _ _ _ _ by in
+    (Ok c.in_ok-call_within.field-0, waited, refl, search, search, executed, refl)
 
 pub returns-in_err-call_within-clause-answer : goal.returns-in_err-call_within-clause-answer
 returns-in_err-call_within-clause-answer g c =
     let (waited, by, refused) = c.in_err-call_within.ensures.by_the_clock in
-    (Err _, waited, refl, waited_by _ _ _ _ _ _ by, by, refused, search rules)
+    let has = waited_by _ _ _ _ _ _ by in
+    (Err _, waited, refl, search, search, refused, search rules)
