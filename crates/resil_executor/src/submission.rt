@@ -22,7 +22,7 @@ use std::time::Duration;
 impl<X: Answers, H: Record> Executor<Task<X>, H> {
     /// Submits a job, in one turn, and waits for its answer for at most `longest` (Resilience4j user guide, Decorators:
     /// `withThreadPoolBulkhead`). In a closure it is a call, and each attempt submits a job of its own. A job whose answer comes too late is
-    /// run all the same. The call's own visitor saw what the clauses say; `submit_within_by` takes a visitor of yours.
+    /// run all the same. Some visitor saw what the clauses say, and its pool need not be this one; `submit_within_by` takes a visitor of this pool.
     ///
     /// # Errors
     ///
