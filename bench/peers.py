@@ -276,8 +276,10 @@ def build_proved(bindings, thread_pool, threadpool):
     }
     own = "ours, for one's own works"
     plain = "Mutex and Condvar in Rust, bare"
+    own_before, thread_pool_before = ours_before(), build_before("thread_pool")
     tables["works"] = [
         Peer(own, ours, "works"),
+        Peer(f"{own}, before", own_before, "works"),
         Peer(plain, bare, "works"),
         Peer("the JDK's, bare", java_pool, "works"),
     ]
@@ -288,7 +290,6 @@ def build_proved(bindings, thread_pool, threadpool):
     ]
     tables["judged"] = [Peer(own, ours, "judged")]
     tables["own"] = [Peer(own, ours, "works", "nothing", "own"), Peer(plain, bare, "works", "nothing", "own")]
-    own_before, thread_pool_before = ours_before(), build_before("thread_pool")
     recorded, for_rustc = "ours, which records all", "`ThreadPool` for rustc"
     tables["tail"] = [
         Peer(own, ours, "works", opens="own"),

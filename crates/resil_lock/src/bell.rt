@@ -1,52 +1,56 @@
-//! The bell: where workers that find no job wait, without taking turns.
+//! The bell: workers that find no job wait here, without taking turns.
 //!
-//! It is made of plain words beside the lock, which no clause covers: contracts hold whether or not it rings. `ready`
-//! says whether the last turn left a worker something to do, a job to pick or the end of its pool. Only the seat
-//! that holds the lock writes it, so its writes stand in the order of the turns; a worker reads it without a turn.
+//! The bell is four plain words next to the lock. No clause covers them: contracts hold whether or not it rings. `ready` is 0 only if the
+//! last turn left workers nothing to do: no job to pick, and no end of their pool. Only the seat that holds the lock writes it, so its
+//! writes are in the order of the turns. A worker reads it without a turn.
 //!
-//! At most one worker searches: it looks at `ready` for a short while. All others sleep, and so does the searcher then.
-//! A submission wakes one sleeper, which is to search, where none does. A searcher that finds a job gives the search
-//! up, and wakes the next worker where it leaves more to do.
+//! At most one worker searches: it polls `ready` for a short while, then sleeps. All others sleep. A submission wakes one sleeper to
+//! search, if no worker searches. A searcher that finds a job stops searching, and wakes the next worker if it leaves more to do.
 //!
-//! A submission, in this order: its turn writes `ready`; `sleepers` is read, `ready` is read, the searcher changes from
-//! `NONE` to `WOKEN`, `rings` is raised, one sleeper wakes. A worker that found nothing: it becomes the searcher, where there
-//! is none or one is called; `sleepers` is raised, `rings` is read, the searcher becomes `NONE` where it was this one; it
-//! reads `ready`, then the searcher, and sleeps only where there is nothing to do, nobody is called, and `rings` still stands.
+//! A worker that searches or sleeps watches the bell. If none does, a release doesn't ask the state for work, and sets `ready` to 1: there
+//! may be work. A release also asks after a look that found no job, since its worker starts to watch next. That worker reads `ready`
+//! once it is counted as a searcher or a sleeper. So 0 means that the last turn asked and left nothing to do, never that nobody asked.
 //!
-//! So a submission that finds nobody asleep was before the worker's last look at `ready`, which sees it. One that finds a
-//! searcher has left the job to it: a searcher that gives up, and then sees `ready` after all, rings once it has found a job,
-//! since others may have counted on it for theirs. And one that calls somebody either does so before the worker's last look at
-//! the searcher, or raises `rings` after the worker has read it: nobody lies down beside a call that none has taken.
-//! `models/bell.pml` is a model of this, in which no sleep ends by itself; it isn't proved of the code.
+//! The order of a submission's steps: its turn reads `searcher` and `sleepers` and writes `ready`; after the release it reads
+//! `sleepers`, then `ready`, changes the searcher from `NONE` to `WOKEN`, raises `rings` and wakes one sleeper. The order of a worker's
+//! steps if it found nothing: it becomes the searcher, if there is none or one is called; it raises `sleepers`, reads `rings`, sets the
+//! searcher to `NONE` if it was the searcher, and reads `ready`, then the searcher. It sleeps only if there is nothing to do, nobody
+//! is called, and `rings` hasn't changed.
+//!
+//! So a submission that finds nobody asleep came before the worker's last read of `ready`, which sees it. A submission that finds a
+//! searcher leaves the job to it. A searcher that gives up and then reads 1 from `ready` rings once it has found a job, since others may
+//! have counted on it for theirs. A submission that calls a worker does so before the sleeper's last read of the searcher, or raises
+//! `rings` after the sleeper has read it. So no worker falls asleep next to a call that nobody has taken.
+//! `models/bell.pml` is a model of this, in which no sleep times out. It is no proof of the code.
 
 use crate::apart::Apart;
 use std::sync::Wait;
 use std::sync::atomic::Ordering::SeqCst;
 use std::time::Duration;
 
-// How often a searcher looks at `ready` before it sleeps.
+// How often a searcher polls `ready` before it sleeps.
 const LOOKS: u32 = 200;
 
-// The longest sleep is 2 to this power in milliseconds, the first one 1 ms.
+// The longest sleep takes 2 to this power in milliseconds. The first one takes 1 ms.
 const LONGEST_SLEEP: u32 = 6;
 
 // No worker searches.
 const NONE: u64 = 0;
 // A worker searches.
 const AWAKE: u64 = 1;
-// A worker was woken, and is to search.
+// A worker is called: it was woken to search.
 const WOKEN: u64 = 2;
 
-/// What workers that find no job sleep on. Each word is on a cache line of its own.
+/// The words that idle workers wait on, each on a cache line of its own.
 #[derive(Drop)]
 pub(crate) struct Bell {
-    // 1 where there is something to do, and 0 else.
+    // 1 if there may be something to do. 0 if the last turn left nothing to do.
     ready: Apart,
     // Whether a worker searches: `NONE`, `AWAKE` or `WOKEN`.
     searcher: Apart,
-    // How many workers sleep, or are about to.
+    // The number of workers that sleep or are about to.
     sleepers: Apart,
-    // How often the bell has rung. Sleepers sleep on it.
+    // The number of rings. Sleepers sleep on this word.
     rings: Apart,
 }
 
@@ -61,7 +65,7 @@ impl Bell {
         }
     }
 
-    /// Says whether there is something to do. Only the seat that holds the lock may call it.
+    /// Sets whether there may be something to do. Only the seat that holds the lock may call it.
     pub(crate) fn set_ready(&self, ready: bool) {
         let ready = u64::from(ready);
         if self.ready.word.load(SeqCst) != ready {
@@ -86,16 +90,21 @@ impl Bell {
         self.rings.word.wake_all();
     }
 
+    /// Whether a worker watches: it searches, sleeps, is about to sleep, or is called.
+    pub(crate) fn is_watched(&self) -> bool {
+        self.searcher.word.load(SeqCst) != NONE || self.sleepers.word.load(SeqCst) != 0
+    }
+
     fn is_ready(&self) -> bool {
         self.ready.word.load(SeqCst) != 0
     }
 
-    // Whether a worker is called that hasn't come yet.
+    // Whether a worker is called and hasn't taken the call yet.
     fn calls(&self) -> bool {
         self.searcher.word.load(SeqCst) == WOKEN
     }
 
-    // Whether the searcher was `from`. Then it is `to`.
+    // Changes the searcher to `to` and returns true if it was `from`. Otherwise it changes nothing.
     fn change_searcher(&self, from: u64, to: u64) -> bool {
         self.searcher
             .word
@@ -103,7 +112,7 @@ impl Bell {
             .is_ok()
     }
 
-    // Looks for a while whether there is something to do.
+    // Polls `ready` for a while. Returns whether there may be something to do.
     fn search(&self) -> bool {
         for _ in 0..LOOKS {
             if self.is_ready() {
@@ -115,14 +124,14 @@ impl Bell {
     }
 }
 
-/// One worker at the bell: whether it is the one that searches, and how often it has slept.
+/// One worker at the bell: whether it searches, and how often it has slept.
 #[derive(Drop)]
 pub(crate) struct Sleeper {
-    // Whether the worker is the one that searches.
+    // Whether this worker searches.
     searches: bool,
-    // Whether it gave the search up just before it saw that there is something to do.
+    // Whether it gave the search up and then saw that there may be something to do.
     gave_up: bool,
-    // How often it has waited since it found a job.
+    // The number of its sleeps since it last found a job.
     waits: u32,
 }
 
@@ -136,8 +145,7 @@ impl Sleeper {
         }
     }
 
-    /// The worker has found a job. If it was the one that searched until then, another worker is woken where there is more
-    /// to do.
+    /// Call this when the worker has found a job. If it was the searcher, it wakes another worker if there is more to do.
     pub(crate) fn found(&mut self, bell: &Bell) {
         if self.searches {
             bell.searcher.word.store(NONE, SeqCst);
@@ -150,7 +158,8 @@ impl Sleeper {
         self.waits = 0;
     }
 
-    /// The worker has found no job. It waits until there may be something to do: 64 ms at most, and at first 1 ms.
+    /// Call this when the worker has found no job. It waits until there may be something to do: at most 1 ms at first, and at most 64 ms
+    /// after some empty looks.
     pub(crate) fn wait<R: Wait>(&mut self, rt: &R, bell: &Bell) {
         let searches = self.searches
             || bell.change_searcher(NONE, AWAKE)

@@ -1,7 +1,7 @@
-//! The atomic steps of the lock: this file has all of them.
+//! The lock, with all of its atomic steps.
 //!
-//! The word is 1 while one seat holds the lock, and the state lies in the slot while it is 0. A seat that exchanges 0
-//! for 1 takes the state out, and it puts the state back before it stores 0.
+//! The word is 1 while a seat holds the lock. While the word is 0, the state is in the slot. A seat that exchanges 0 for 1 takes the
+//! state out. It puts the state back before it stores 0.
 ghost use Rattle.std.specs.Prelude.{◌≡◌, ◌≢◌, ℕ, ◌∷◌, [], ◌++◌, Some, None, IfOk, filter};
 ghost use mathlib.Core.List.{IsPrefix};
 ghost use Rattle.resil_lock.specs.Lock.{TookLock, IsCovered, IsNumbering, first_view, visitor_view, worker_view, member_view, made_one, holder_view, left_view};
@@ -14,11 +14,12 @@ use crate::protocol::{
     Admit, ComeIn, EndJoin, Guarded, Hire, LockRule, LockSeat, Merge, ReleaseLock, TakeLock, View,
     WithJoins,
 };
+use crate::work::Look;
 use atomic_table::{Refused, Table};
 use std::alloc::{AllocError, Global};
 use std::sync::Wait;
 
-/// A state that threads share, one at a time, with the log that it stands for.
+/// A lock over a state. Threads take turns with the state, and it represents the log of all turns.
 ///
 /// ```
 /// let mut seat = lock.seat();
@@ -30,15 +31,15 @@ use std::sync::Wait;
 pub struct Lock<S: Guarded> {
     /// The word and the slot.
     pub table: Table<Option<S>, View<S::Key, S::Entry>, S::Key, LockRule<S>, Global>,
-    // Where workers wait that find nothing to do.
+    // Workers that find nothing to do wait here.
     pub(crate) bell: Bell,
-    // Where seats wait that find the lock taken.
+    // Seats that find the lock taken wait here.
     pub(crate) door: Door,
     ghost one_word: { table.shared.table_id.words ≡ 1 },
 }
 
 impl<S: Guarded> Lock<S> {
-    /// A lock over a state that stands for the empty log, and the seat that makes the workers' seats.
+    /// Returns a lock over a state that represents the empty log, and the opener's seat, which makes the seats of workers and members.
     ///
     /// # Errors
     ///
@@ -76,7 +77,7 @@ impl<S: Guarded> Lock<S> {
         }
     }
 
-    /// A visitor's seat, which has seen nothing. It takes no memory, and any thread may make one.
+    /// Returns a visitor's seat, which has seen nothing. Any thread may make one. It takes no memory.
     pub fn seat(&self) -> LockSeat<S, S::Key, S::Entry>
         requires blank { S.MayHaveWritten rank.Visitor [] }
         ensures source { result.table_id ≡ self.now.table.shared.table_id }
@@ -85,7 +86,7 @@ impl<S: Guarded> Lock<S> {
         self.table.shared.load_new_seat::<ComeIn>(0).1
     }
 
-    /// A worker's seat, which the opener's makes and counts. It has seen nothing.
+    /// Returns a worker's seat, which has seen nothing. The opener's seat makes and counts it.
     pub fn hire(&self, opener: &mut LockSeat<S, S::Key, S::Entry>) -> LockSeat<S, S::Key, S::Entry>
         requires source { opener.old.table_id ≡ self.now.table.shared.table_id }
         requires rank { opener.old.me.0.rank ≡ rank.Opener }
@@ -97,7 +98,8 @@ impl<S: Guarded> Lock<S> {
         self.table.shared.split_seat::<Hire>(opener)
     }
 
-    /// A member's seat with the next number, which the opener's makes. It has seen nothing. A member can be joined away.
+    /// Returns a member's seat with the next number, which has seen nothing. The opener's seat makes and counts it. A member's seat can
+    /// be joined into another seat.
     pub fn admit(&self, opener: &mut LockSeat<S, S::Key, S::Entry>) -> LockSeat<S, S::Key, S::Entry>
         requires source { opener.old.table_id ≡ self.now.table.shared.table_id }
         requires rank { opener.old.me.0.rank ≡ rank.Opener }
@@ -109,8 +111,8 @@ impl<S: Guarded> Lock<S> {
         self.table.shared.split_seat::<Admit>(opener)
     }
 
-    // Exchanges 0 for 1 until it wins. It looks at the word first, since an exchange that fails takes the word's cache
-    // line from the holder.
+    // Tries to exchange 0 for 1 until it succeeds. It reads the word first, since a failed exchange takes the word's cache line from
+    // the holder.
     fn spin<R: Wait>(&self, rt: &R, seat: &mut LockSeat<S, S::Key, S::Entry>)
         requires source { seat.old.table_id ≡ self.now.table.shared.table_id }
         requires rest { (seat.old.me.0.phase ≡ Idle) × (seat.old.me.1 ≡ []) }
@@ -134,12 +136,13 @@ impl<S: Guarded> Lock<S> {
         unreachable!()
     }
 
-    // Whether a seat holds the lock. Another thread may change that at any time.
+    // Whether a seat holds the lock. Other threads may change that at any time.
     fn is_held(&self) -> bool {
         self.table.shared.peek(0) != 0
     }
 
-    // Waits after a failed try: pauses first, and later sleeps until a seat is called in, or 100 microseconds at most.
+    // Waits after a failed try. It pauses after the first tries. Later it sleeps until a seat is called in, or for at most 100
+    // microseconds.
     fn wait_at_door<R: Wait>(&self, rt: &R, tries: u32) {
         if self.door.has_paused(tries) {
             return;
@@ -150,8 +153,8 @@ impl<S: Guarded> Lock<S> {
         }
     }
 
-    /// Takes the lock and the state. The state stands for the whole log, which begins with what the seat had seen. It
-    /// waits until no other seat holds the lock.
+    /// Waits until no other seat holds the lock, then takes the lock and returns the state. The state represents the whole log, which
+    /// begins with what the seat had seen.
     pub fn take<R: Wait>(&self, rt: &R, seat: &mut LockSeat<S, S::Key, S::Entry>) -> S
         requires source { seat.old.table_id ≡ self.now.table.shared.table_id }
         requires rest { (seat.old.me.0.phase ≡ Idle) × (seat.old.me.1 ≡ []) }
@@ -175,6 +178,9 @@ impl<S: Guarded> Lock<S> {
     }
 
     /// Puts the state back and releases the lock. The log grows by what the turn wrote.
+    ///
+    /// It asks the state for work (`Guarded::has_work`) only if a worker watches the bell. If none does, the bell says that there may be
+    /// work.
     pub fn release(&self, seat: &mut LockSeat<S, S::Key, S::Entry>, state: S)
         requires source { seat.old.table_id ≡ self.now.table.shared.table_id }
         requires slot { seat.old.me.1 ≡ (0, None) ∷ [] }
@@ -186,27 +192,72 @@ impl<S: Guarded> Lock<S> {
         ensures slot { seat.new.me.1 ≡ [] }
         ensures seen { seat.new.me.0 ≡ left_view seat.old.me.0 (S.written state) }
     {
-        self.bell.set_ready(state.has_work());
+        let ready = !self.bell.is_watched() || state.has_work();
+        self.bell.set_ready(ready);
+        self.put_back(seat, state);
+    }
+
+    /// Releases the lock as `release` does, after a worker has looked for a job. If the look found none, it always asks the state for work,
+    /// since its worker starts to watch next. Without that the worker would look twice before each sleep.
+    ///
+    /// ```
+    /// let mut state = lock.take(&rt, &mut seat);
+    /// let look = state.look();
+    /// lock.release_after(&mut seat, state, &look);
+    /// ```
+    pub fn release_after<J>(
+        &self,
+        seat: &mut LockSeat<S, S::Key, S::Entry>,
+        state: S,
+        look: &Look<J>,
+    )
+        requires source { seat.old.table_id ≡ self.now.table.shared.table_id }
+        requires slot { seat.old.me.1 ≡ (0, None) ∷ [] }
+        requires holds { seat.old.me.0.phase ≡ Holding }
+        requires home { S.StandsFor seat.old.me.0.key (seat.old.me.0.seen ++ S.written state) state }
+        requires fits { S.MayHaveWritten seat.old.me.0.rank (seat.old.me.0.own ++ S.written state) }
+        requires own { IsNumbering S.MayHaveWritten → (number : ℕ) → number ≢ seat.old.me.0.number → filter (S.is_own number) (S.written state) ≡ [] }
+        ensures source { seat.new.table_id ≡ seat.old.table_id }
+        ensures slot { seat.new.me.1 ≡ [] }
+        ensures seen { seat.new.me.0 ≡ left_view seat.old.me.0 (S.written state) }
+    {
+        let unwatched = matches!(look, Look::Found(_)) && !self.bell.is_watched();
+        self.bell.set_ready(unwatched || state.has_work());
+        self.put_back(seat, state);
+    }
+
+    // Puts the state back, stores 0, and wakes a seat that sleeps at the door if there were enough releases.
+    fn put_back(&self, seat: &mut LockSeat<S, S::Key, S::Entry>, state: S)
+        requires source { seat.old.table_id ≡ self.now.table.shared.table_id }
+        requires slot { seat.old.me.1 ≡ (0, None) ∷ [] }
+        requires holds { seat.old.me.0.phase ≡ Holding }
+        requires home { S.StandsFor seat.old.me.0.key (seat.old.me.0.seen ++ S.written state) state }
+        requires fits { S.MayHaveWritten seat.old.me.0.rank (seat.old.me.0.own ++ S.written state) }
+        requires own { IsNumbering S.MayHaveWritten → (number : ℕ) → number ≢ seat.old.me.0.number → filter (S.is_own number) (S.written state) ≡ [] }
+        ensures source { seat.new.table_id ≡ seat.old.table_id }
+        ensures slot { seat.new.me.1 ≡ [] }
+        ensures seen { seat.new.me.0 ≡ left_view seat.old.me.0 (S.written state) }
+    {
         let vacant = self.table.shared.exchange(seat, 0, Some(state));
         drop(vacant);
         self.table.shared.store::<ReleaseLock<S>>(seat, 0, 0);
         self.door.open();
     }
 
-    /// Wakes a worker that sleeps, if there is something to do and no other worker looks for it.
+    /// Wakes a sleeping worker if there may be something to do and no worker searches.
     pub fn ring(&self) {
         self.bell.ring();
     }
 
-    /// Wakes all workers that sleep.
+    /// Wakes all sleeping workers.
     pub fn ring_for_all(&self) {
         self.bell.ring_for_all();
     }
 }
 
 impl<S: WithJoins> Lock<S> {
-    /// Joins a member's seat away into the holder's. The holder has seen all that it had, and no more entries that are
-    /// its own.
+    /// Joins a member's seat into the holder's. The holder has seen everything that the member's seat had seen, and no other entries that
+    /// are the member's own.
     pub fn join(
         &self,
         holder: &mut LockSeat<S, S::Key, S::Entry>,

@@ -4,7 +4,7 @@ use mathlib.Core.Option.{none}
 use Rattle.atomic_table.specs.Table.{Allows, step, rest}
 use Rattle.resil_lock.specs.Lock.{IsLocked, AfterRelease}
 use Rattle.resil_lock.proofs.LockSteps.{releases-lock, tells-at}
-use Rattle.resil_lock.proofs.lock.Lock.release.Goals as goal
+use Rattle.resil_lock.proofs.lock.Lock.put_back.Goals as goal
 
 pub exchange-vacant-requires : goal.exchange-vacant-requires
 exchange-vacant-requires g c = (c.requires.source, (_, c.requires.slot ∙ ap (λ xs. (0, None) ∷ xs) (ap rest (sym c.requires.slot))))
