@@ -40,7 +40,7 @@ impl<W: Drop, H: Record> Executor<W, H> {
     {
         let mut state = self.lock.take(rt, &mut worker.seat);
         let look = state.inner.look(timed_out);
-        self.lock.release(&mut worker.seat, state);
+        self.lock.release_after(&mut worker.seat, state, &look);
         look
     }
 

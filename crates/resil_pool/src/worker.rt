@@ -107,7 +107,7 @@ impl Pool {
     {
         let mut state = self.lock.take(rt, seat);
         let look = state.inner.look(timed_out);
-        self.lock.release(seat, state);
+        self.lock.release_after(seat, state, &look);
         look
     }
 

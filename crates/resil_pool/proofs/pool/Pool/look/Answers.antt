@@ -8,8 +8,8 @@ use Rattle.resil_pool.proofs.TurnLaws.{acted, gives, turned, ends-none, home-now
 use Rattle.resil_pool.proofs.WorkerLaws.{look-quiet, on_found, on_nothing, on_over, took-most, took-none, picked-one, picked-none, ended-none}
 use Rattle.resil_pool.proofs.pool.Pool.look.Goals as goal
 
-pub release-requires : goal.release-requires
-release-requires g c =
+pub release_after-requires : goal.release_after-requires
+release_after-requires g c =
     let l = c.look-look.ensures in
     let quiet = look-quiet _ _ c.look-look.result _ l.picks l.rests in
     gives (search rules) (acted c.args.seat.now.me c.look-look.new.self (c.deref_mut.ensures.value ∙ c.state.view_is) c.take-state.ensures l.wrote (λ fits. ends-none _ _ fits quiet.may quiet.ends))
@@ -19,9 +19,9 @@ returns g c =
     let l = c.look-look.ensures in
     let look = c.look-look.result in
     let quiet = look-quiet c.args.seat.now.me.0.key.callers c.args.seat.now.me.0.number look _ l.picks l.rests in
-    let turn = turned (acted c.args.seat.now.me c.look-look.new.self (c.deref_mut.ensures.value ∙ c.state.view_is) c.take-state.ensures l.wrote (λ fits. ends-none _ _ fits quiet.may quiet.ends)) c.release.ensures in
+    let turn = turned (acted c.args.seat.now.me c.look-look.new.self (c.deref_mut.ensures.value ∙ c.state.view_is) c.take-state.ensures l.wrote (λ fits. ends-none _ _ fits quiet.may quiet.ends)) c.release_after.ensures in
     let home = (home-now turn).home in record {
-      source = c.release.ensures.source ∙ c.take-state.ensures.source;
+      source = c.release_after.ensures.source ∙ c.take-state.ensures.source;
       turn = took-turn turn quiet.own;
       ends_none = ended-none turn quiet;
       takes = on_found look _ _ (λ picked takes. took-most turn picked.0 takes) l.picks;
