@@ -31,7 +31,7 @@ pub trait Guarded: Drop {
     /// A worker has something to do.
     ghost HasWork: { Self → Type 0 };
 
-    /// Whether a worker has something to do. The lock calls it at each release, for the workers that sleep.
+    /// Whether a worker has something to do. The lock asks at a release if a worker watches the bell, or has just found no job.
     fn has_work(&self) -> bool
         ensures { IsTrue result ↔ HasWork self.now };
 }
