@@ -121,7 +121,9 @@ fn a_pool_of_1024_threads_runs_as_many_jobs_at_once() -> Checked {
 #[test]
 fn sizes_up_to_1024_and_back_hold_under_load() -> Checked {
     const FEW: u32 = 16;
-    let pool = ThreadPool::builder(LARGEST, LARGEST).queue(4_096).open()?;
+    // No thread ends while few of them may run a job.
+    let pool = ThreadPool::builder(LARGEST, LARGEST).queue(4_096);
+    let pool = pool.keep_alive(Duration::MAX).open()?;
     for _ in 0..2 {
         let first = all_gated(&pool, LARGEST as usize)?;
         let few = Arc::default();
