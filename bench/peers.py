@@ -154,6 +154,12 @@ def build_awaits():
     return build_bindings("awaits", tokio) if is_packaged("rust/awaits.rs", "tokio") else None
 
 
+def build_sleepers():
+    """The program of jobs that sleep, where tokio is there."""
+    tokio = 'tokio = { version = "*", features = ["rt"] }'
+    return build_bindings("sleepers", tokio) if is_packaged("rust/sleepers.rs", "tokio") else None
+
+
 def build_tower(name):
     """A program over the crate for tower, where tower and tokio are there."""
     ours = f'resil-tower = {{ path = "{ROOT}/bindings/rust-tower" }}'
@@ -223,6 +229,12 @@ def build_peers(names):
             Peer("`BulkheadLayer::queueing`", tower, "queueing"),
             Peer("tower's `ConcurrencyLimit`", tower, "limit"),
         ]
+    if "sleepers" in names:
+        sleepers = build_sleepers()
+        tables["sleepers"] = [
+            Peer("`ThreadPool` for rustc", sleepers, "ours"),
+            Peer("tokio's `spawn_blocking`", sleepers, "tokio"),
+        ]
     if "awaits" in names:
         awaits = build_awaits()
         tables["awaits"] = [
@@ -272,6 +284,8 @@ def build_proved(bindings, thread_pool, threadpool):
         "rule": [
             Peer("`PoolRule` for rustc, in a Mutex", bindings, "rule", "nothing"),
             Peer("Mutex and Condvar in Rust", mutex, "rule", "all"),
+            Peer("`Rule`", ours, "busy"),
+            Peer("`PoolRule` for rustc", bindings, "busy"),
         ],
     }
     own = "ours, for one's own works"

@@ -1,7 +1,7 @@
 //! What the crate for rustc gives: `pass THREADS PAIRS` and `bulkhead THREADS PAIRS` ask for pairs of taking and giving
 //! back a permit, `pass_calls` and `bulkhead_calls` for calls under one, `chain THREADS CALLS` and `chain_by_hand` for calls
 //! by a fallback round a retry round a bulkhead, `rule JOBS` for jobs by one thread, each submitted, picked and finished by
-//! the pool's rule in a Mutex.
+//! the pool's rule in a Mutex, and `busy WORKERS JOBS` for the same while all workers have a job, without a Mutex.
 mod rounds;
 
 use resil::{Bulkhead, Decorators, JobId, Pass, PoolRule, Retry};
@@ -82,6 +82,37 @@ fn rule(jobs: u64) -> Option<()> {
     Some(())
 }
 
+// The next number of Knuth's linear congruential generator for MMIX. Its upper bits are the random ones.
+fn next_random(random: u64) -> u64 {
+    random.wrapping_mul(6_364_136_223_846_793_005).wrapping_add(1_442_695_040_888_963_407)
+}
+
+// All workers have a job. One more is submitted, a random one ends, and the one that waits is picked.
+fn busy(workers: usize, jobs: u64) -> Option<()> {
+    let size = workers.try_into().ok()?;
+    let mut rule = PoolRule::builder(size, size).queue(65_536).open().ok()?;
+    let mut numbers = 1..;
+    let mut submit = |rule: &mut PoolRule| {
+        let number = numbers.next()?;
+        rule.submit(JobId { caller: 1, number }, number).ok()
+    };
+    let mut out = Vec::with_capacity(workers);
+    for _ in 0..workers {
+        submit(&mut rule)?;
+        out.push(rule.pick()?);
+    }
+    let mut random = 1;
+    for _ in 0..jobs {
+        random = next_random(random);
+        let place = &mut out[usize::try_from(random >> 33).ok()? % workers];
+        submit(&mut rule)?;
+        rule.finish(place).ok()?;
+        *place = rule.pick()?;
+    }
+    println!("busy: {jobs} jobs");
+    Some(())
+}
+
 fn main() {
     for (name, numbers) in rounds::lines() {
         let done = match (name.as_str(), &numbers[..]) {
@@ -98,6 +129,7 @@ fn main() {
             ("chain", [threads, calls]) => chain(*threads, *calls),
             ("chain_by_hand", [threads, calls]) => chain_by_hand(*threads, *calls),
             ("rule", [jobs]) => rule(*jobs as u64),
+            ("busy", [workers, jobs]) => busy(*workers, *jobs as u64),
             _ => None,
         };
         done.expect("a round with its memory");
