@@ -1,4 +1,4 @@
-//! The work that is measured: pairs on permits and on a bare word, jobs of a pool, your own jobs, and a pool that is idle.
+//! The work that is measured: pairs on permits and on a bare word, jobs of a pool, your own jobs, the rule alone, and a pool that is idle.
 //!
 //! Each line of standard input requests a round, and the line that answers it says that the round is over, with what it counted. `bench/run` writes
 //! the lines, and measures the time and the processor time from outside; only a line `times` prints times.
@@ -11,12 +11,14 @@
 //! | `works CALLERS WORKERS WORKS` | a pool for your own jobs runs those of the callers, which do nothing |
 //! | `answers CALLERS WORKERS WORKS` | the same, with an answer for each job, which is compared |
 //! | `judged CALLERS WORKERS WORKS` | the same with a record of all events, which is judged at the end |
+//! | `busy WORKERS JOBS` | the rule alone while all workers have a job: one more is submitted, a random one ends, and the one that waits is picked |
 //! | `own WORKERS` | as `open`, with a pool for your own jobs; a line `jobs` is answered once 100,000 have started, a thousand at a time |
 //! | `open WORKERS` | a pool is open until the line `close`; a line `job` is answered once its job has started, and a line `echo` at once; `pairs` times 100 pairs of jobs, and `times` prints all times so far |
 #![tactic(auto)]
 
 mod answers;
 mod bare;
+mod busy;
 mod idle;
 mod job;
 mod open;
@@ -60,6 +62,7 @@ fn counted<R: Input + Print + AllocGlobal + Clock + Threads + Wait + Sync>(
         Kind::Works => works::run(rt, alloc, round),
         Kind::Answers => answers::run(rt, alloc, round),
         Kind::Judged => answers::run_judged(rt, alloc, round),
+        Kind::Busy => busy::run(alloc, round),
         Kind::Own => own::run(rt, alloc, round.workers),
         Kind::Open => idle::run(rt, alloc, round.workers),
     }

@@ -17,6 +17,8 @@ pub(crate) enum Kind {
     Answers,
     /// The same, by a pool that keeps its whole history, which is judged at the end.
     Judged,
+    /// The rule takes and ends jobs while all workers have one.
+    Busy,
     /// A pool for your own jobs is open until a line closes it.
     Own,
     /// A pool is open until a line closes it.
@@ -44,6 +46,7 @@ impl Kind {
             "works" => Some(Kind::Works),
             "answers" => Some(Kind::Answers),
             "judged" => Some(Kind::Judged),
+            "busy" => Some(Kind::Busy),
             "own" => Some(Kind::Own),
             "open" => Some(Kind::Open),
             _ => None,
@@ -58,6 +61,7 @@ impl Kind {
             Kind::Works => "finished works",
             Kind::Answers => "right answers",
             Kind::Judged => "right answers, legal",
+            Kind::Busy => "jobs",
             Kind::Own | Kind::Open => "started works",
         }
     }
@@ -71,6 +75,7 @@ impl Round {
         let first = number(&mut words)?;
         let (callers, workers, count) = match kind {
             Kind::Own | Kind::Open => (1, first, 0),
+            Kind::Busy => (1, first, number(&mut words)?),
             Kind::Permits | Kind::Bare => (first, 0, number(&mut words)?),
             _ => (first, number(&mut words)?, number(&mut words)?),
         };
