@@ -1,17 +1,18 @@
 // The heap of the page's module, over which bindings/targets/heap.c stands and from which the page takes room for its own bytes; and the
-// steps on 128 bits that the compiler leaves to a library. A block has 32, 64, 128 .. bytes, of which the first 16 are its header; free ones
-// stand in a list for each size.
+// steps on 128 bits that the compiler leaves to a library. A block has room for 16, 32, 64 .. bytes after a header of 16; free ones
+// are in a list for each size.
 typedef __SIZE_TYPE__ word;
 typedef unsigned __int128 u128;
 typedef union { u128 whole; word of[2]; } Wide;
-typedef struct Block { word size; struct Block *next; } Block;
+typedef struct Block { word room; struct Block *next; } Block;
 
 extern unsigned char __heap_base;
 static word top, end;
 static Block *lists[64];
 
 // A block behind all others, for which the memory grows.
-static Block *fresh(word size) {
+static Block *fresh(word room) {
+    word size = room + 16;
     if (!top) {
         top = ((word)&__heap_base + 15) & ~(word)15;
         end = __builtin_wasm_memory_size(0) << 16;
@@ -23,28 +24,28 @@ static Block *fresh(word size) {
     }
     Block *block = (Block *)top;
     top += size;
-    block->size = size;
+    block->room = room;
     return block;
 }
 
 void *malloc(word bytes) {
-    word size = 32;
+    word room = 16;
     if (bytes >> 40) return 0;
-    while (size < bytes + 16) size <<= 1;
-    Block **list = &lists[__builtin_ctzll(size)], *block = *list;
+    while (room < bytes) room <<= 1;
+    Block **list = &lists[__builtin_ctzll(room)], *block = *list;
     if (block) *list = block->next;
-    else block = fresh(size);
+    else block = fresh(room);
     return block ? (char *)block + 16 : 0;
 }
 
 void free(void *at) {
-    Block *block = (Block *)((char *)at - 16), **list = &lists[__builtin_ctzll(block->size)];
+    Block *block = (Block *)((char *)at - 16), **list = &lists[__builtin_ctzll(block->room)];
     block->next = *list;
     *list = block;
 }
 
 void *realloc(void *at, word bytes) {
-    word room = ((Block *)((char *)at - 16))->size - 16;
+    word room = ((Block *)((char *)at - 16))->room;
     if (bytes <= room) return at;
     void *other = malloc(bytes);
     if (!other) return 0;

@@ -2,27 +2,24 @@
 // says what is compared.
 import { spawnSync } from "child_process";
 import { readFileSync } from "fs";
-import { files, heads, log as logOf, moments, times } from "./page_texts.mjs";
+import { files, filled, heads, log as logOf, longLoad, longLog, moments, times } from "./page_texts.mjs";
 const [page, cases, resil, lookBuilt] = process.argv.slice(2);
 const html = readFileSync(page, "utf8");
-const part = (id) => new RegExp(`<script[^>]* id="${id}">([^<]*)<`).exec(html)[1];
+const script = (id) => new RegExp(`<script[^>]* id="${id}">([^<]*)<`).exec(html)[1];
 const code = (id) => new RegExp(`<script id="${id}">([^]*?)</script>`).exec(html)[1];
-const { load, answer, commands, held, look, carry, headOf, headSaid, drawnLoad, recordsOf, recorderOf, inOrder, addressOf, unitOf, text, bytes, sizes } = new Function(`${code("calls")}${code("logic")}
-  return { load, answer, commands, held: () => wasm.memory.buffer.byteLength, look, carry, headOf, headSaid, drawnLoad, recordsOf, recorderOf, inOrder, addressOf, unitOf, text, bytes, sizes };`)();
-await load(part("module"));
+const { load, answer, commands, held, take, give, look, carry, headOf, headSaid, drawnLoad, recordsOf, recorderOf, inOrder, addressOf, unitOf, text, bytes, sizes } = new Function(`${code("calls")}${code("logic")}
+  return { load, answer, commands, held: () => wasm.memory.buffer.byteLength, take: (size) => wasm.malloc(size), give: (at) => wasm.free(at), look, carry, headOf, headSaid, drawnLoad, recordsOf, recorderOf, inOrder, addressOf, unitOf, text, bytes, sizes };`)();
+await load(script("module"));
 
 let state = 11;
 const below = (most) => (state = (Math.imul(state, 1664525) + 1013904223) >>> 0) % most;
 const mark = (isRight, said) => console.log(isRight ? "passed" : `failed: ${said.replaceAll("\n", " ")}`);
 
-// The page takes a mebibyte for each command, and the programs more for some.
-const most = 1048576;
+// How many bytes an input of a command may have.
+const mebibyte = 1048576;
+const mostOf = (words) => mebibyte * (/^(replay|audit)$/.test(words) ? 1 : /^simulate/.test(words) ? 4 : 16);
 
 function compare(words, input, name) {
-  if (input.length > most) {
-    const { status, output } = answer(words, input);
-    return mark(status === 1 && text(output) === "refused input TooLong\n", `${words}, ${name}: ${status}, ${text(output)}`);
-  }
   const program = ["replay", "audit"].includes(words) ? resil : lookBuilt;
   const ran = spawnSync(program, words.split(" "), { input, maxBuffer: 1 << 28 });
   const { status, output, said } = answer(words, input);
@@ -51,25 +48,23 @@ for (const line of readFileSync(`${cases}/names`, "utf8").trim().split("\n")) {
   compare(commands[below(commands.length)], input, name);
 }
 
-const head = "core = 4\nmax = 8\nqueue = 100\n---\n";
-const filled = (start, line) => {
-  const lines = [start];
-  for (let i = 1, left = most - start.length; (left -= line(i).length) >= 0; i++) lines.push(line(i));
-  return Buffer.from(lines.join(""));
-};
-const jobs = filled(head + "event,caller,number\n", (i) => `submit,1,${i}\n`), arrivals = filled(head + "at,takes\n", (i) => `${i}00,900\n`);
-const log = filled(head + "event,caller,number,reply,core,max,at\n", (i) => (i % 2 ? `submit,1,${(i + 1) / 2},core,,,${i}\n` : `finish,1,${i / 2},,,,${i}\n`));
+const head = "core = 4\nmax = 8\nqueue = 100\n", reply = (i) => (i <= 4 ? "core" : i <= 104 ? "queued" : i <= 108 ? "extra" : "full");
+const jobsOf = (size) => filled(size, head, "event,caller,number\n", (i) => `submit,1,${i}\n`), auditOf = (size) => filled(size, head, "event,caller,number,reply\n", (i) => `submit,1,${i},${reply(i)}\n`);
+const textOf = { replay: jobsOf, audit: auditOf, simulate: longLoad, "simulate --history": longLoad };
+const [jobs, log, arrivals] = [jobsOf, longLog, longLoad].map((long) => Buffer.from(long(mebibyte)));
 const rounds = [["replay", jobs], ["judge", log], ["stats", log], ["timeline", log], ["simulate", arrivals], ["simulate --history", arrivals]];
 for (const [words, input] of rounds) compare(words, input, "a mebibyte");
-for (const words of commands)
-  for (const size of [0, most, most + 1]) compare(words, Buffer.concat([jobs, Buffer.alloc(2, "x")]).subarray(0, size), `${size} bytes`);
 let first = 0;
 for (let round = 1; round <= 12; round++) {
   for (const [words, input] of rounds) answer(words, input);
   if (round === 2) first = held();
 }
 mark(held() === first, `twelve rounds of a mebibyte take ${held()} bytes, two ${first}`);
-
+for (const words of commands)
+  for (const size of [0, mostOf(words), mostOf(words) + 1]) compare(words, Buffer.from(size ? (textOf[words] ?? longLog)(size) : ""), `${size} bytes`);
+compare("judge", Buffer.from(filled(2 * mebibyte, `name = "${"x".repeat(mebibyte)}"\n`, "", () => "x\n")), "a long head");
+compare("simulate", Buffer.from(filled(mostOf("simulate"), "core = 1\nmax = 2\n", "at,takes\n", () => "0,0\n")), "equal jobs");
+mark(held() <= 2 ** 30, `inputs at the limit take ${held()} bytes`);
 // The page's own script, without its fields.
 const want = (name, got, wanted) => mark(wanted instanceof RegExp ? wanted.test(got) : got === wanted, `${name}: ${JSON.stringify(got)}, not ${wanted}`);
 for (const [start, cores, values, called = ""] of heads) {
@@ -94,8 +89,16 @@ const many = drawnLoad(1000, 3, 20), count = many.trim().split("\n").length - 1,
 const [, shown, all] = /first (\d+) of (\d+) jobs/.exec(ran.line) ?? [0, count, count];
 want("a load of some 20,000 jobs", [ran.verdict.status, ran.chosen, Number(all) === count, shown > 8000 && shown <= count, /^<svg/.test(ran.picture.svg)].join(), "0,1,true,true,true");
 want("the pool that its picture is of", ran.line, /^the chart is of pool 2 of 2: core = 2, max = 4, queue = 100\n/);
-const long = look(bytes(`core = 1\nmax = 1\n---\n${jobs.toString().slice(head.length)}`));
-want("rows whose history is too long", [long.verdict.status, long.more > 0, text(long.verdict.output)].join(), /^0,(true|false),legal\n$/);
+const linesOf = (input) => input.toString().split("---\n")[1].split("\n").length - 2, program = (words, input) => spawnSync(lookBuilt, [words], { input, maxBuffer: 1 << 26 }).stdout.toString();
+const longest = Buffer.from(longLog(mostOf("timeline")));
+for (const [name, input] of [["a mebibyte of rows", jobs], ["a log of 16 MiB", longest]]) {
+  const seen = look(input), own = seen.picture.input;
+  want(name, [text(seen.verdict.output), seen.replies.count === linesOf(input), seen.numbers === program("stats", own), seen.picture.svg === program("timeline", own)].join(), "legal\n,true,true,true");
+}
+const partly = carry(Buffer.concat([Buffer.from("takes = 9\n"), longest]), 0, true), [, kept, events] = /^the load is the first (\d+) of (\d+) events of the log/m.exec(partly.line) ?? [];
+want("a load of a log of 16 MiB", [partly.verdict.status, kept > 100000, Number(events) === linesOf(longest), /^<svg/.test(partly.picture.svg)].join(), "0,true,true,true");
+const loaded = Buffer.from(longLoad(mostOf("simulate"))), most = carry(loaded, 0, false), [, part, whole] = /first (\d+) of (\d+) jobs/.exec(most.line) ?? [];
+want("a load of 4 MiB", [most.table === program("simulate", loaded), part > 100000, Number(whole) === linesOf(loaded), /^<svg/.test(most.picture.svg)].join(), "true,true,true,true");
 want("the longest load", carry(bytes(`core = 1\nmax = 1\n---\n${drawnLoad(1e9, 1e6, 60)}`), 0).table.split("\n")[1].split(",")[3], "50000");
 
 // What the page needs to read a picture, the order of files, the address, and units.
@@ -127,3 +130,12 @@ for (const [hash, fields, told] of [
   want(`what is told of ${hash}`, address.told.map((line) => /^\w+/.exec(line)[0]).join(" "), told);
 }
 want("units", [["core", "1"], ["most_workers", "2"], ["wait_p99", "5600"], ["run_most", ""], ["verdict", "legal"], ["resizes", "3"]].map((it) => unitOf(...it)).join("; "), "1 job; 2 workers; 5.6 ms; ; legal; 3");
+
+// No block of 4 MiB or more is left but for the input and for what is handed over.
+const blocks = [2n ** 25n, 2n ** 22n, 2n ** 22n].map(take);
+for (let size = 2n ** 34n; size >= 2n ** 22n; size /= 2n) while (take(size));
+blocks.forEach(give);
+const used = held(), full = answer("timeline", longest);
+mark(full.status === 3 && text(full.output) === "refused memory\n" && full.said === "", `no more memory: ${full.status}, ${text(full.output)}, ${full.said}`);
+compare("judge", Buffer.from(`core = 1\nmax = 1\n---\n${logOf(1)}`), "after that");
+mark(held() === used, "the module begins anew when there is no more memory");

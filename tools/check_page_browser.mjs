@@ -1,11 +1,12 @@
-// node check_page_browser.mjs PAGE FOLDER CHROMIUM: drives the page's own script in a browser, through its fields, files, drops and pastes, and
+// node check_page_browser.mjs PAGE FOLDER CHROMIUM RESIL_LOOK: drives the page's own script in a browser, through its fields, files, drops and pastes, and
 // writes a line 'passed', or what has failed, for each thing that the page must show. With a further word, a folder, it leaves pictures of the
-// page there; with more words it makes only these checks, as in `checkLooks`. What is wanted is worked out from docs/FORMATS.md.
-import { spawn } from "child_process";
+// page there; with more words it makes only these checks, as in `checkLooks`. What is wanted is worked out from docs/FORMATS.md, and for long texts it is what
+// the program answers.
+import { spawn, spawnSync } from "child_process";
 import { writeFileSync } from "fs";
 import { pathToFileURL } from "url";
-import { files, heads, log, moments, times } from "./page_texts.mjs";
-const [page, folder, chromium, pictures, ...some] = process.argv.slice(2);
+import { files, heads, log, longLoad, longLog, moments, times } from "./page_texts.mjs";
+const [page, folder, chromium, look, pictures, ...some] = process.argv.slice(2);
 const words = ["--headless=new", "--no-sandbox", "--disable-gpu", "--no-first-run", "--remote-debugging-pipe", `--user-data-dir=${folder}/browser`];
 const browser = spawn(chromium, [...words, "about:blank"], { stdio: ["ignore", "ignore", "ignore", "pipe", "pipe"] });
 const answers = new Map();
@@ -38,6 +39,7 @@ const shown = () => run(`
     simulated: by("simulated").textContent, isCarried: by("simulated").classList.contains("good"), pools: by("pools").tBodies[0]?.rows.length ?? 0,
     drawn: by("simulated-picture").firstChild?.dataset.events, load: by("sizes").elements.load.value, old: document.querySelectorAll(".old").length,
     lists: [...sizes, "idle_for", "takes"].map((key) => by("sizes").elements[key].value).join("; "), off: by("limits").disabled, wide: document.documentElement.scrollWidth,
+    cut: by("cut").textContent,
   };`);
 const bring = (kind, whole, isFile, target = "document.body") => run(`
   seen = {};
@@ -62,6 +64,13 @@ const press = async (key, code) => {
 const keys = { Enter: 13, Tab: 9, End: 35, Home: 36, ArrowLeft: 37, ArrowRight: 39, ArrowDown: 40, PageUp: 33 };
 const pressed = async (...names) => {
   for (const name of names) await press(name, keys[name]);
+};
+// Opens files of the folder by the field for files.
+const choose = async (...names) => {
+  const { root } = await send("DOM.getDocument"), { nodeId } = await send("DOM.querySelector", { nodeId: root.nodeId, selector: "#file" });
+  await run('seen = {}; grey("verdict")');
+  await send("DOM.setFileInputFiles", { nodeId, files: names.map((name) => `${folder}/${name}`) });
+  return shown();
 };
 // The page as it is opened at an address.
 const visit = async (hash = "") => {
@@ -104,10 +113,7 @@ async function checkWays() {
   want("a dropped text", await shown(), { verdict: "legal", fields: "2,2,100", replies: 1 });
   want("typed rows", await type("rows", "event,caller,number\nsubmit,1,1\nsubmit,1,2\nfinish,1,1\n"), { verdict: "legal", replies: 3, whole: /^core = 2\nmax = 2\nqueue = 100\n---\nevent/ });
   writeFileSync(`${folder}/opened.resil`, whole);
-  const { root } = await send("DOM.getDocument"), { nodeId } = await send("DOM.querySelector", { nodeId: root.nodeId, selector: "#file" });
-  await run('grey("verdict")');
-  await send("DOM.setFileInputFiles", { nodeId, files: [`${folder}/opened.resil`] });
-  want("an opened file", await shown(), { verdict: "legal", fields: "1,1,30", whole });
+  want("an opened file", await choose("opened.resil"), { verdict: "legal", fields: "1,1,30", whole });
   for (const [index, verdict] of [/^legal$/, /^legal$/, /^illegal 3\n/].entries()) {
     await run(`grey("verdict"); document.querySelectorAll("[role=group] button")[${index}].click()`);
     want(`example ${index + 1}`, await shown(), { verdict, picture: ["4", "12", "2"][index], load: index === 1 ? "rows" : "drawn", isCarried: true });
@@ -137,7 +143,7 @@ async function checkErrors() {
   want("no separator", await open("core = 1\nmax = 1\n"), { verdict: /^refused input NoBody/ });
   want("nothing", await open(""), { verdict: /^refused input NoBody/ });
   want("another header", await open(`${head}a,b\n`), { verdict: /^refused body BadHeader/ });
-  want("too long", await open(`${head}${" ".repeat((1 << 24) + 1)}`), { verdict: /^refused input TooLong/ });
+  want("too long", await open(`${head}${" ".repeat((1 << 24) + 1)}`), { verdict: /^refused input TooLong\nIt is too long: a log has at most 16 MiB, a load 4 MiB, and rows to run 1 MiB\.\n/ });
   want("a load's row", await open("core = 1\nmax = 1\n---\nat,takes\n0,1\n0,x\n"), { verdict: /^refused 2 BadRow\n.*line 6/, isCarried: false, marked: "0,x" });
   want("a load's head", await open("core = []\nmax = 1\n---\nat,takes\n0,1\n"), { verdict: /^refused head BadValue/ });
   want("times that go back", await open(`${head}${times}finish,1,2,,,,9\n`), { verdict: /^refused 5 TimeGoesBack/ });
@@ -314,14 +320,13 @@ async function checkOrder() {
 
 async function checkFiles() {
   for (const [name, whole] of files) writeFileSync(`${folder}/${name}`, whole);
-  const texts = Object.fromEntries(files), { root } = await send("DOM.getDocument"), { nodeId } = await send("DOM.querySelector", { nodeId: root.nodeId, selector: "#file" });
+  const texts = Object.fromEntries(files);
   const seenFiles = async (code) => {
-    await run(`seen = {}; grey("verdict"); ${code}`);
+    if (code) await run(`seen = {}; grey("verdict"); ${code}`);
     return { ...(await shown()), ...(await run('return { hidden: by("files").hidden, names: [...by("which").options].map((it) => it.text.split(",")[0]).join(), chosen: by("which").selectedIndex, notes: by("notes").innerText, first: by("which").options[0]?.text }')) };
   };
-  await run('seen = {}; grey("verdict")');
-  await send("DOM.setFileInputFiles", { nodeId, files: files.map(([name]) => `${folder}/${name}`) });
-  want("files of two records", await seenFiles("") , {
+  await choose(...files.map(([name]) => name));
+  want("files of two records", await seenFiles(), {
     hidden: false, names: "orders-00001.csv,orders-00002.csv,orders-00004.csv,mails-00001.csv", chosen: 0, verdict: /^legal/, whole: texts["orders-00001.csv"], first: "orders-00001.csv, from 2026-11-30T07:05:00.000Z, 10 s",
     notes: "orders-00004.csv comes after a missing file: orders-00003.csv.\norders-00004.csv begins 5 s after the end of orders-00002.csv.\nmails-00001.csv is of another record: mails 7 2, not orders 7 1.",
   });
@@ -329,13 +334,44 @@ async function checkFiles() {
   await focus("which");
   await run('seen = {}; grey("verdict")');
   await pressed("ArrowDown");
-  want("a file by keys", await seenFiles(""), { chosen: 2, whole: texts["orders-00004.csv"] });
+  want("a file by keys", await seenFiles(), { chosen: 2, whole: texts["orders-00004.csv"] });
   want("the file before", await seenFiles('by("previous").click()'), { chosen: 1, whole: texts["orders-00002.csv"] });
   await run(`seen = {}; grey("verdict"); const data = new DataTransfer();
     for (const name of ["x-10.csv", "x-9.csv", "x-7.csv"]) data.items.add(new File([${JSON.stringify(moments)}], name));
     document.body.dispatchEvent(new DragEvent("drop", { dataTransfer: data, bubbles: true, cancelable: true }));`);
-  want("files that are dropped", await seenFiles(""), { names: "x-7.csv,x-9.csv,x-10.csv", notes: "x-9.csv comes after a missing file: x-8.csv.", picture: "12" });
+  want("files that are dropped", await seenFiles(), { names: "x-7.csv,x-9.csv,x-10.csv", notes: "x-9.csv comes after a missing file: x-8.csv.", picture: "12" });
   want("one file", { ...(await open(moments)), hidden: await run('return by("files").hidden') }, { hidden: true, verdict: "legal" });
+}
+
+// Files of which the field shows the first lines, beside the program's answers to the whole of them.
+async function checkLong() {
+  const mebibyte = 2 ** 20, told = (words, input) => spawnSync(look, [words], { input, maxBuffer: 1 << 26 }).stdout.toString();
+  const sized = { "long-00001.csv": longLog(1.5 * mebibyte), "long-00002.csv": longLog(16 * mebibyte - 1000), "long.csv": longLog(16 * mebibyte + 1), "load.csv": longLoad(4 * mebibyte), "long-load.csv": longLoad(4 * mebibyte + 1) };
+  for (const [name, whole] of Object.entries(sized)) writeFileSync(`${folder}/${name}`, whole);
+  const linesOf = (whole) => (whole.split("\n").length - 1).toLocaleString("en");
+  const own = async (name, got) => {
+    const whole = sized[name], { length } = got.whole, { numbers, svg } = await run('return { numbers: tables["copy-numbers"], svg: pictures.picture.svg }');
+    want(name, got, { verdict: "legal", isGood: true, fields: "1,1,100", isCarried: true, old: 0, cut: new RegExp(`^The field shows the first ${linesOf(got.whole)} of ${linesOf(whole)} lines, ${(whole.length / mebibyte).toFixed(1)} MiB\\.`) });
+    mark(length > 100000 && length <= 200000 && whole.startsWith(got.whole), `${name}: the field has ${length} characters`);
+    mark(told("judge", whole) === "legal\n" && numbers === told("stats", whole) && svg === told("timeline", whole), `${name}: the page doesn't answer as the program`);
+  };
+  await own("long-00001.csv", await choose("long-00001.csv", "long-00002.csv"));
+  await run('seen = {}; grey("verdict"); by("next").click()');
+  const longest = await shown();
+  await own("long-00002.csv", longest);
+  mark(/\nthe load is the first \d+ of \d+ events of the log, since a load has at most 4 MiB$/.test(longest.simulated), `a load of a log of 16 MiB: ${longest.simulated}`);
+  await run('await zoom("picture", [1000000n, 1000100n])');
+  mark((await run("return pictures.picture.svg")) === told("timeline", `from = 1000000\nto = 1000100\n${sized["long-00002.csv"]}`), "a part of 16 MiB isn't drawn as the program draws it");
+  want("a size of a long file", await type("queue", "5"), { verdict: "legal", fields: "1,1,5", cut: / lines, 16\.0 MiB\./, whole: /^core = 1\nmax = 1\nqueue = 5\n---\nevent/ });
+  const edited = await run('const field = by("rows"); field.value = field.value.slice(0, field.value.indexOf("finish")); field.dispatchEvent(new Event("input", { bubbles: true }));').then(shown);
+  want("a long text that is edited", edited, { verdict: "legal", picture: "2", replies: 2, cut: /^You edited the field, so what it shows is the whole text now\./ });
+  want("a file that is too long", await choose("long.csv"), { verdict: /^refused input TooLong\nIt is too long: a log has at most 16 MiB, a load 4 MiB, .*\nresil: an input may have at most 16777216 bytes/, isGood: false, picture: "", cut: / lines, 16\.0 MiB\. The whole text is checked\./ });
+  writeFileSync(`${folder}/longer.csv`, sized["long.csv"] + "finish,1,1,,,,9\n".repeat(70000));
+  want("a file that isn't read to its end", await choose("longer.csv"), { verdict: /^refused input TooLong/, picture: "", cut: /^The field shows the first [\d,]+ of more than [\d,]+ lines, 17\.1 MiB\. If you/ });
+  want("a load of 4 MiB", await choose("load.csv"), { verdict: "a load", isCarried: true, pools: 1, simulated: /\nthe chart shows the first \d+ of \d+ jobs$/, cut: / lines, 4\.0 MiB\./ });
+  mark((await run('return tables["copy-pools"]')) === told("simulate", sized["load.csv"]), "a load of 4 MiB isn't answered as by the program");
+  want("a load that is too long", await choose("long-load.csv"), { verdict: /^refused input TooLong\nIt is too long: .* a load 4 MiB, .*\nresil: an input may have at most 4194304 bytes/, isCarried: false, simulated: /^refused input TooLong/ });
+  want("a short text after that", await open(moments), { verdict: "legal", cut: "" });
 }
 
 async function checkAddress() {
@@ -396,7 +432,7 @@ try {
   ({ sessionId: session } = await send("Target.attachToTarget", { targetId, flatten: true }));
   await send("Page.enable");
   want("the first example", await visit(), { verdict: "legal", picture: "4", fields: "1,2,1" });
-  const checks = [checkHeads, checkWays, checkCommands, checkErrors, checkLoads, checkLooks, checkOrder, checkCursor, checkZoom, checkFiles, checkAddress, checkSaved, checkKeys];
+  const checks = [checkHeads, checkWays, checkCommands, checkErrors, checkLoads, checkLooks, checkOrder, checkCursor, checkZoom, checkFiles, checkLong, checkAddress, checkSaved, checkKeys];
   for (const check of checks.filter(({ name }) => !some.length || some.includes(name)))
     await check().catch((error) => mark(false, `${check.name} broke off: ${error.stack}`));
 } catch (error) {

@@ -23,6 +23,27 @@ export const moments =
   "submit,2,2,extra,,,1570\nsubmit,1,3,full,,,1670\nfinish,1,1,,,,5070\ntake,2,1,,,,5070\nfinish,2,2,,,,6570\ntake,1,2,,,,6570\nfinish,2,1,,,,9070\n" +
   "finish,1,2,,,,9870\nidle,,,,,,29870\n";
 
+// A text of exactly so many bytes under a head, with a comment in the head that fills it up. The lines of the body are made one after the other.
+export function filled(size, head, header, lineOf) {
+  const lines = [header];
+  let left = size - head.length - header.length - "---\n# \n".length;
+  for (let i = 1; ; i++) {
+    const line = lineOf(i);
+    if (line.length > left) break;
+    left -= line.length;
+    lines.push(line);
+  }
+  return `# ${"x".repeat(left)}\n${head}---\n${lines.join("")}`;
+}
+
+// A legal log with times of exactly so many bytes: the one worker has always a job, and one waits for a microsecond before each next one.
+export const longLog = (size) =>
+  filled(size, 'core = 1\nmax = 1\nrecord = "long 1"\n', "event,caller,number,reply,core,max,at\nsubmit,1,1,core,,,0\n", (i) =>
+    `submit,1,${i + 1},queued,,,${9 * i}\nfinish,1,${i},,,,${9 * i + 1}\ntake,1,${i + 1},,,,${9 * i + 1}\n`);
+
+// A load of exactly so many bytes.
+export const longLoad = (size) => filled(size, "core = 1\nmax = 2\n", "at,takes\n", (i) => `${i}00,90\n`);
+
 // Files of two records, each with its name and its text, not in their order: of `orders` number 3 isn't there, and nothing is recorded for 5 s before number 4.
 const part = (name, record, began, last) =>
   [name, `core = 1\nmax = 1\nqueue = 100\nrecord = "${record}"\nbegan = 2026-11-30T07:05:${began}Z\n---\nevent,caller,number,reply,core,max,at\nsubmit,1,1,core,,,500\nfinish,1,1,,,,${last}\n`];

@@ -31,6 +31,15 @@ command_of number =
     else if number == 8 then Some (Head head_of.Load)
     else None
 
+-- the greatest length of an input of a command, in bytes: 16 mebibytes of a history, 4 of a load, and 1 of rows to run and of a history for `audit`
+abbrev pub limit_of : Command → ℕ
+limit_of Replay = input_limit
+limit_of Audit = input_limit
+limit_of (View view) = 16777216
+limit_of (Simulate shown) = 4194304
+limit_of (Head head_of.History) = 16777216
+limit_of (Head head_of.Load) = 4194304
+
 -- a text of a command for an input, and a refusal
 abbrev pub IsCommandText : Command → List ℕ → List ℕ → Type 0
 IsCommandText Replay = IsReplayText
@@ -48,7 +57,7 @@ IsCommandRefusal (Head whose) = IsHeadRefusal whose
 
 -- an output of a command for an input
 abbrev pub IsCommandOutput : Command → List ℕ → Output → Type 0
-IsCommandOutput command input out = IsOutputFor input_limit (IsCommandText command) (IsRefusalLine (IsCommandRefusal command)) input out
+IsCommandOutput command input out = IsOutputFor (limit_of command) (IsCommandText command) (IsRefusalLine (IsCommandRefusal command)) input out
 
 -- the same, or that of wrong words where no command is asked for
 abbrev pub IsPageOutput : Option Command → List ℕ → Output → Type 0

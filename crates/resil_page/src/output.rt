@@ -2,7 +2,7 @@
 
 ghost use Rattle.std.specs.Prelude.{◌≡◌, MatchResult};
 ghost use Rattle.resil_heads.specs.CommandError.{IsError};
-ghost use Rattle.resil_page.specs.Page.{IsCommandOutput, IsCommandRefusal, IsCommandText, IsFilled, IsHandedOver, IsPageOutput, command_of};
+ghost use Rattle.resil_page.specs.Page.{IsCommandOutput, IsCommandRefusal, IsCommandText, IsFilled, IsHandedOver, IsPageOutput, command_of, limit_of};
 
 use crate::head::{HeadOf, head_text};
 use resil_heads::length::is_too_long;
@@ -13,6 +13,12 @@ use resil_replay::{audit, replay};
 use resil_simulate::command::{self, LoadView, Untold};
 use resil_view::{View, view_text};
 use std::alloc::Global;
+
+/// The greatest length of a history, in bytes: 16 mebibytes.
+const MAX_HISTORY_LEN: usize = 16_777_216;
+
+/// The greatest length of a load, in bytes: 4 mebibytes.
+const MAX_LOAD_LEN: usize = 4_194_304;
 
 /// A command of one thread, or what the page needs of a head.
 #[derive(Clone, Copy, Debug, PartialEq, Eq)]
@@ -47,6 +53,18 @@ pub(crate) fn command_of(number: u8) -> Option<Command>
     }
 }
 
+/// The greatest length of an input of a command, in bytes: that of the program. A head is taken with an input as long as the command that reads
+/// such heads takes.
+pub(crate) fn limit_of(command: Command) -> usize
+    ensures { result ≡ limit_of command }
+{
+    match command {
+        Command::Replay | Command::Audit => MAX_INPUT_LEN,
+        Command::View(_) | Command::Head(HeadOf::History) => MAX_HISTORY_LEN,
+        Command::Simulate(_) | Command::Head(HeadOf::Load) => MAX_LOAD_LEN,
+    }
+}
+
 // The text of a command for an input. Errors: as those of the command.
 fn command_text(alloc: Global, command: Command, input: &[u8]) -> Result<Vec<u8>, CommandError>
     ensures { MatchResult result (λ text. IsCommandText command input.now text.items) (IsError (IsCommandRefusal command input.now)) }
@@ -60,12 +78,12 @@ fn command_text(alloc: Global, command: Command, input: &[u8]) -> Result<Vec<u8>
     }
 }
 
-// The output of a command for an input, of which one that is too long is refused first.
+// The output of a command for an input. An input that is too long, or whose head is, is refused first.
 #[tactic(auto, using(resil_heads::proofs::OutputLaws::error_answers, resil_heads::proofs::OutputLaws::too_long_answers))]
 fn command_output(alloc: Global, command: Command, input: &[u8]) -> Output
     ensures { IsCommandOutput command input.now result }
 {
-    if is_too_long(MAX_INPUT_LEN, input) {
+    if is_too_long(limit_of(command), input) {
         return too_long_output(alloc);
     }
     made_output(alloc, command_text(alloc, command, input))
