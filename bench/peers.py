@@ -244,7 +244,10 @@ def build_peers(names):
     if "commands" in names:
         needed = ("csv", "toml", "itoa")
         by_hand = is_packaged("rust/replay_csv.rs", *needed) and build_cargo("replay_csv", "\n".join(f'{crate} = "*"' for crate in needed))
-        tables["commands"] = [Peer("by hand", by_hand, "replay")]
+        tables["commands"] = [
+            Peer("by hand", by_hand, "replay"),
+            Peer("by hand", build_rust("simulate_by_hand"), "simulate"),
+        ]
     if not set(names) <= set(tables):
         tables.update(build_proved(bindings, thread_pool, threadpool))
     return {name: [peer for peer in peers if peer.words] for name, peers in tables.items()}
