@@ -41,12 +41,6 @@ module _ {X : Type 0} (at : X → ℕ) where
   earliest-append [] ys = refl
   earliest-append (x ∷ xs) ys = ap (sooner at (Some x)) (earliest-append xs ys) ∙ sooner-assoc (Some x) (earliest at xs) (earliest at ys)
 
-  -- one of the two
-  pub either : (P : X → Type 0) (a b : Option X) → IfSome a P → IfSome b P → IfSome (sooner at a b) P
-  either P None b pa pb = pb
-  either P (Some x) None pa pb = pa
-  either P (Some x) (Some y) pa pb = elim (some-sooner x y) [ inl is ↦ rw is.1 pb | inr is ↦ rw is.1 pa ]
-
   -- none is before it
   least-tail : (x : X) (xs : List X) (e : Option X) → earliest at xs ≡ e → ((t : X) → e ≡ Some t → All (λ y. at t ≤ at y) xs) → (e ≡ None → xs ≡ []) → (t : X) → sooner at (Some x) e ≡ Some t → All (λ y. at t ≤ at y) (x ∷ xs)
   least-tail x xs None is all none t first = let same : x ≡ t = cc first in All-cons (λ y. at t ≤ at y) x xs (rw same (omega arith)) (rw (none refl) (All-nil (λ y. at t ≤ at y)))

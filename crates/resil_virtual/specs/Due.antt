@@ -1,4 +1,4 @@
--- What is due next in a pool that carries a load out, by what has happened so far.
+-- What is due next in a pool that runs a load, by what has happened so far.
 use Rattle.std.specs.Prelude.{ℕ, ◌+◌, ◌-◌, ◌==◌, ◌++◌, ◌∷◌, [], Bool, true, false, List, Option, Some, None, filter, find, length, map, max, nat_le, nat_lt, not, option_map, option_to_list, slice_get, take, if◌then◌else◌}
 use Rattle.std.specs.List.{filter_map, list_any}
 use Rattle.std.specs.Option.{option_map_or}

@@ -1,4 +1,4 @@
--- The jobs of a load, which can be carried out.
+-- The jobs of a load that a pool can run.
 use Rattle.std.specs.Prelude.{ℕ, ◌≡◌, ◌<◌, ◌+◌, ◌*◌, ◌^◌, ◌==◌, suc, List, Some, [], ◌∷◌, filter, length, map, max, slice_get, sum, take}
 use Rattle.resil_rule.specs.Timed.{AreAscending}
 use Rattle.resil_virtual.specs.declared.arrival.Arrival.{Arrival}

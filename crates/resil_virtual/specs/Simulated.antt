@@ -1,4 +1,4 @@
--- What the history of a load is that was carried out in virtual time.
+-- What the history of a load in virtual time is.
 use Rattle.std.specs.Prelude.{◌≡◌, ◌≤◌, ◌++◌, ◌∷◌, [], true, List, Some, None, if◌then◌else◌}
 use Rattle.resil_rule.specs.Timed.{AreAscending}
 use Rattle.resil_jdk.specs.Admission.{IsLegal}

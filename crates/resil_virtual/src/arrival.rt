@@ -2,7 +2,7 @@
 
 use resil_rule::Id;
 
-/// A job of a load: the submission that it is, when it comes and how long it runs, in microseconds.
+/// A job of a load: its submission, when it comes and how long it runs, in microseconds.
 #[derive(Clone, Copy, Debug, PartialEq, Eq)]
 pub struct Arrival {
     /// The id of its submission.

@@ -40,8 +40,8 @@ pub(crate) fn sooner(
     }
 }
 
-// The job that finishes first, of the first one so far and one that began later. If both finish at one moment, the one that began first.
-fn first_job(first: Option<RunningJob>, job: RunningJob) -> RunningJob
+/// The job that finishes first, of the first one so far and one that began later. If both finish at one moment, the one that began first.
+pub(crate) fn first_job(first: Option<RunningJob>, job: RunningJob) -> RunningJob
     ensures { Some result ≡ sooner (λ job. job.due) first (Some job) }
 {
     match first {

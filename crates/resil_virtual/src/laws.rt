@@ -1,4 +1,4 @@
-//! Laws of the histories of loads, and small loads whose histories are worked out, by computation alone.
+//! Laws of the histories of loads, and small loads whose histories were worked out by hand.
 
 ghost use Rattle.std.specs.Prelude.{[], true, false};
 ghost use Rattle.resil_virtual.specs.AtOnce.{SameAtOnce};

@@ -1,7 +1,7 @@
-//! A pool in virtual time: what a load would come to on sizes that nobody has tried.
+//! A pool in virtual time: what would happen to a load on sizes that nobody has tried.
 //!
-//! A load is known: when jobs come, and how long each runs. It is carried out by the rule of the JDK's `ThreadPoolExecutor`, with no
-//! thread and no clock, and what happens is written as a history with times. `specs/Due.antt` says what is due next, and
+//! A load says when jobs come, and how long each runs. `simulate` runs it by the rule of the JDK's `ThreadPoolExecutor`, without a
+//! thread or a clock, and returns what happens as a history with times. `specs/Due.antt` says what is due next, and
 //! `specs/Simulated.antt` that it happens until nothing is due.
 #![tactic(auto)]
 
@@ -12,6 +12,7 @@ ghost use Rattle.resil_virtual.specs.Simulated.{IsSimulated};
 mod arrival;
 mod due;
 mod idle;
+mod jobs;
 mod laws;
 mod pool;
 mod virtual_pool;
@@ -23,8 +24,8 @@ use resil_jdk::TimedJdkEvent;
 use std::alloc::{AllocError, Global};
 pub use virtual_pool::VirtualPool;
 
-/// What happens to a load in a pool. The pool isn't closed, and nobody resizes it. If core workers time out, the history begins with
-/// that, at 0.
+/// Returns what happens to a load in a pool. Nobody closes or resizes the pool. If core workers time out, the history begins with that
+/// event, at 0.
 ///
 /// # Errors
 ///

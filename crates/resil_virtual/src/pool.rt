@@ -1,22 +1,22 @@
-//! A pool while a load is carried out: what its workers do, which jobs wait, and what happened.
+//! A pool while it runs a load: what its workers do, which jobs wait, and what has happened.
 //!
-//! What is due at one moment happens in this order: the worker that has just finished a job takes one that waits; a finish, of the job
+//! Events that are due at one moment happen in this order: the worker that has just finished a job takes one that waits; a finish, of the job
 //! that began first; a look of a woken worker, if a job waits; the submission that comes then; an end of an idle worker, which takes a
 //! job if one waits.
 
-ghost use Rattle.std.specs.Prelude.{◌≡◌, ◌<◌, ◌+◌, ◌^◌, ◌++◌, ◌==◌, ◌∷◌, [], IfOk, IfSome, None as nothing, OnOk, Some, drop, filter, length, map, not, option_map, option_to_list, slice_get, if◌then◌else◌};
+ghost use Rattle.std.specs.Prelude.{◌≡◌, ◌<◌, ◌+◌, ◌^◌, ◌++◌, ◌==◌, ◌∷◌, [], IfOk, None as nothing, OnOk, Some, length, map, option_map, slice_get, if◌then◌else◌};
 ghost use Rattle.std.specs.Bool.{OnTrue, OnFalse};
 ghost use Rattle.std.specs.Option.{option_map_or};
-ghost use Rattle.resil_rule.specs.History.{is_same_id};
 ghost use Rattle.resil_jdk.specs.RuleView.{begins};
 ghost use Rattle.resil_jdk.specs.Timed.{events_in};
 ghost use Rattle.resil_virtual.specs.Load.{IsLoad};
 ghost use Rattle.resil_virtual.specs.Due.{earliest, end_at, end_from, ends_due, finishes, has_spare, idle_by, is_finish, looks_due, own_takes, sooner, submissions_due, take_at};
-ghost use Rattle.resil_virtual.specs.Pool.{IsPool, begun_at, due_in, left_in, reply_by, to_queue, to_worker};
+ghost use Rattle.resil_virtual.specs.Pool.{IsPool, due_in, left_in, reply_by, to_queue, to_worker};
 
 use crate::arrival::Arrival;
-use crate::due::{RunningJob, first_due, sooner};
+use crate::due::sooner;
 use crate::idle::{Idle, first_end, first_look, pass, remove_first, remove_taker, wake_first};
+use crate::jobs::RunningJobs;
 use crate::virtual_pool::VirtualPool;
 use resil_jdk::{JdkEvent, JdkReply, TimedJdkEvent};
 use resil_rule::Id;
@@ -34,8 +34,8 @@ pub(crate) struct RunningPool<'a> {
     workers: u32,
     // The jobs that wait.
     queue: VecDeque<Arrival>,
-    // The jobs that run, in the order in which they began.
-    running: Vec<RunningJob>,
+    // The jobs that run.
+    running: RunningJobs,
     // The idle workers, the one that has been idle longest first.
     idle: Vec<Idle>,
     // The time of the last event, and whether it is a finish, whose worker looks for a job at once.
@@ -71,18 +71,6 @@ fn end_at(at: Option<u64>) -> Option<TimedJdkEvent>
     }
 }
 
-// A worker begins a job at a time. Errors: `AllocError` when out of memory.
-fn run(running: &mut Vec<RunningJob>, job: Arrival, at: u64) -> Result<(), AllocError>
-    requires { at + job.takes < 2 ^ 64 }
-    ensures { OnOk result (running.new.items ≡ running.old.items ++ begun_at at job ∷ []) }
-{
-    running.push(RunningJob {
-        id: job.id,
-        due: (at + job.takes).max(job.earliest_end),
-    })?;
-    Ok(())
-}
-
 // The event that comes first; of several of one moment the first in this order.
 fn first_event(
     own: Option<TimedJdkEvent>,
@@ -95,13 +83,6 @@ fn first_event(
 {
     let later = sooner(finish, sooner(look, sooner(submission, end)));
     sooner(own, later)
-}
-
-// The job is gone.
-fn remove_job(running: &mut Vec<RunningJob>, id: Id)
-    ensures { running.new.items ≡ filter (λ job. not (is_same_id id job.id)) running.old.items }
-{
-    running.retain(|job| job.id != id);
 }
 
 impl<'a> RunningPool<'a> {
@@ -128,7 +109,7 @@ impl<'a> RunningPool<'a> {
             next: 0,
             workers: 0,
             queue: VecDeque::new(alloc),
-            running: Vec::new(alloc),
+            running: RunningJobs::new(alloc),
             idle: Vec::new(alloc),
             time: 0,
             own_look: false,
@@ -201,7 +182,7 @@ impl<'a> RunningPool<'a> {
         requires { IsPool self.now }
         ensures { result ≡ earliest (λ timed. timed.at) (finishes self.now.arrivals.now self.now.history.items) }
     {
-        match first_due(&self.running) {
+        match self.running.first() {
             Some(job) => Some(TimedJdkEvent {
                 event: JdkEvent::Finish(job.id),
                 at: job.due,
@@ -285,11 +266,11 @@ impl<'a> RunningPool<'a> {
         match reply {
             JdkReply::Core | JdkReply::Extra => {
                 self.workers += 1;
-                run(&mut self.running, job, job.at)?;
+                self.running.run(job, job.at)?;
             }
             JdkReply::Handed => {
                 self.idle.pop();
-                run(&mut self.running, job, job.at)?;
+                self.running.run(job, job.at)?;
             }
             JdkReply::First => {
                 self.workers += 1;
@@ -361,7 +342,7 @@ impl<'a> RunningPool<'a> {
         pass(&mut self.idle, false, at);
         remove_taker(&mut self.idle, self.own_look, at);
         self.queue.pop_front();
-        run(&mut self.running, job, at)?;
+        self.running.run(job, at)?;
         self.record(TimedJdkEvent {
             event: JdkEvent::Take(id),
             at,
@@ -392,7 +373,7 @@ impl<'a> RunningPool<'a> {
         let none_waits = self.no_job_waits();
         let end = self.end_from(at);
         pass(&mut self.idle, none_waits, at);
-        remove_job(&mut self.running, id);
+        self.running.remove_job(id);
         if none_waits {
             self.idle.push(Idle { end, look: None })?;
         }

@@ -1,4 +1,4 @@
-//! The pools that are carried out in virtual time.
+//! The pools that `simulate` runs in virtual time.
 
 use resil_jdk::JdkLimits;
 

@@ -11,7 +11,7 @@ first-finish : (jobs : List RunningJob) (finishes : List TimedJdkEvent) → map 
 first-finish jobs finishes are o is = ap (option_map finish_at) is ∙ sym (earliest-map finish_at (λ job. job.due) at_of (λ job. refl) jobs) ∙ ap (earliest at_of) are
 
 pub returns-in-Some : goal.returns-in-Some
-returns-in-Some c = first-finish c.args.self.now.running.items _ c.requires.jobs_are (Some c.in-Some.job) (rw c.deref.ensures.value at c.in-Some.ensures)
+returns-in-Some c = first-finish c.args.self.now.running.items _ c.requires.jobs_are (Some c.in-Some.job) c.in-Some.ensures
 
 pub returns-in-None : goal.returns-in-None
-returns-in-None c = first-finish c.args.self.now.running.items _ c.requires.jobs_are None (rw c.deref.ensures.value at c.in-None.ensures)
+returns-in-None c = first-finish c.args.self.now.running.items _ c.requires.jobs_are None c.in-None.ensures
