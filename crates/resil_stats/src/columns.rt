@@ -1,7 +1,7 @@
 //! The columns of a history that is too long for each event to be drawn, or of a pool with too many workers for a row each.
 //!
-//! So many events make a column that there are 350 at most, or those of one of as many equal spans of time. A column has the greatest of
-//! each number, since a peak is what one looks for.
+//! There are at most 350 columns. Each has the same number of events, except for the last one, which has those that are left. If events have
+//! times, a column has the events of one of 350 equal spans of time. It shows the maximum of each number, because readers look for peaks.
 
 ghost use Rattle.std.specs.Prelude.{◌≡◌, ◌≤◌, ◌+◌, ◌<◌, IfOk, count_by, length, map, option_map};
 ghost use Rattle.resil_stats.specs.Columns.{AreColumnsOf, HasLastSizes, IsColumnEnd, IsColumnOf, IsPeakAmong, IsWidth, greatest, is_gathered};
@@ -13,13 +13,13 @@ use crate::window::Window;
 use resil_jdk::{JdkEvent, JdkReply};
 use std::alloc::{AllocError, Global};
 
-// The most events of which each is drawn.
+// The most events that are drawn one by one.
 const MOST_DRAWN: usize = 4000;
 
-// The most workers that have a row each.
+// The most workers that get a row each.
 const MOST_ROWS: usize = 64;
 
-// The most columns of a picture.
+// The most columns of a chart.
 const MOST_COLUMNS: usize = 350;
 
 /// Events that are drawn together.
@@ -29,30 +29,30 @@ pub struct Column {
     pub from: usize,
     /// The place of its last event.
     pub to: usize,
-    /// The most jobs that wait after an event of it.
+    /// The most jobs that wait after any of its events.
     pub waiting: usize,
-    /// The most workers after an event of it.
+    /// The most workers after any of its events.
     pub workers: usize,
-    /// The place of its first event after which most jobs run.
+    /// The place of the first of its events after which the most jobs run.
     pub peak: usize,
-    /// The submissions that were refused since the pool was full.
+    /// How many submissions were refused because the pool was full.
     pub full: usize,
-    /// The submissions that were refused since the pool was closed.
+    /// How many submissions were refused because the pool was closed.
     pub closed: usize,
     /// The core size after its last event, in workers.
     pub core: u32,
-    /// The greatest size after its last event, in workers.
+    /// The maximum size after its last event, in workers.
     pub max: u32,
 }
 
-/// How many events make a column: the least number that gives no more columns than there may be.
+/// Returns how many events make a column: the smallest number with which this many events fit into 350 columns.
 pub fn column_width(events: usize) -> usize
     ensures { IsWidth events result }
 {
     events.div_ceil(MOST_COLUMNS)
 }
 
-// Whether an event is a submission that was refused since the pool was full.
+// Whether an event is a submission that was refused because the pool was full.
 fn is_full(event: &JdkEvent) -> bool
     ensures { result ≡ is_full event.now }
 {
@@ -65,7 +65,7 @@ fn is_full(event: &JdkEvent) -> bool
     )
 }
 
-// Whether an event is a submission that was refused since the pool was closed.
+// Whether an event is a submission that was refused because the pool was closed.
 fn is_refused_closed(event: &JdkEvent) -> bool
     ensures { result ≡ is_refused_closed event.now }
 {
@@ -78,14 +78,14 @@ fn is_refused_closed(event: &JdkEvent) -> bool
     )
 }
 
-// How many submissions were refused since the pool was full.
+// How many submissions were refused because the pool was full.
 fn count_full(events: &[JdkEvent]) -> usize
     ensures { result ≡ count_by is_full events.now }
 {
     events.iter().filter(|event| is_full(event)).count()
 }
 
-// How many submissions were refused since the pool was closed.
+// How many submissions were refused because the pool was closed.
 fn count_closed(events: &[JdkEvent]) -> usize
     ensures { result ≡ count_by is_refused_closed events.now }
 {
@@ -93,28 +93,28 @@ fn count_closed(events: &[JdkEvent]) -> usize
     refused.count()
 }
 
-// The most jobs that wait at some levels.
+// The most jobs that wait at any of the levels, 0 if there are none.
 fn most_waiting(levels: &[Level]) -> usize
     ensures { result ≡ greatest (map (λ level. level.waiting) levels.now) }
 {
     levels.iter().fold(0, |most, level| most.max(level.waiting))
 }
 
-// The most workers at some levels.
+// The most workers at any of the levels, 0 if there are none.
 fn most_workers(levels: &[Level]) -> usize
     ensures { result ≡ greatest (map (λ level. level.workers) levels.now) }
 {
     levels.iter().fold(0, |most, level| most.max(level.workers))
 }
 
-/// Whether the events of a window of a history with these levels are gathered into columns.
+/// Whether the events of a window are gathered into columns, given the levels of the whole history.
 pub(crate) fn is_gathered(window: Window, levels: &[Level]) -> bool
     ensures { result ≡ is_gathered window levels.now }
 {
     window.end.saturating_sub(window.before) > MOST_DRAWN || most_workers(levels) > MOST_ROWS
 }
 
-// The first level at which most jobs run.
+// The first level at which the most jobs run.
 #[tactic(auto, using(crate::proofs::ColumnLaws::peak_is))]
 fn peak_of(levels: &[Level]) -> Level
     requires { 0 < length levels.now }
@@ -129,7 +129,7 @@ fn peak_of(levels: &[Level]) -> Level
     levels[peak]
 }
 
-// The column of the events from one index up to another.
+// The column of the events from index `start` up to index `end`, which it doesn't include.
 #[tactic(auto, using(std::proofs::lemmas::Option::gets))]
 fn gather_column(events: &[JdkEvent], levels: &[Level], start: usize, end: usize) -> Column
     requires order { start < end }
@@ -155,7 +155,7 @@ fn gather_column(events: &[JdkEvent], levels: &[Level], start: usize, end: usize
     }
 }
 
-// Where a column of a window ends that begins behind the first so many events: by its span of time, or the width of all columns.
+// Where a column ends that begins after the first `done` events: at the end of its span of time, or after as many events as a column has.
 fn column_end(times: Option<&[u64]>, window: Window, done: usize) -> usize
     requires order { window.before ≤ done }
     requires more { done < window.end }
@@ -172,7 +172,7 @@ fn column_end(times: Option<&[u64]>, window: Window, done: usize) -> usize
     }
 }
 
-/// The columns of the events of a window, by their times where they have some, where there is a level for each event.
+/// Returns the columns of the events of a window, by their times if they have any. There is a level for each event of the history.
 /// Errors: `AllocError` when out of memory.
 pub(crate) fn columns_of(
     alloc: Global,

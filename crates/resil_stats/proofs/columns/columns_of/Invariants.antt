@@ -2,7 +2,7 @@ use Rattle.std.proofs.Common.{◌≤◌, ◌-◌, option_map}
 use Rattle.resil_stats.specs.Columns.{AreColumnsFrom}
 use Rattle.resil_stats.proofs.columns.columns_of.Given as goal
 
--- the columns so far are those of the events that are done
+-- the columns so far are those of the events before `done`
 abbrev pub invariant-loop-done : goal.invariant-loop-done
 invariant-loop-done l = record {
   begun : l.window.before ≤ l.done;
