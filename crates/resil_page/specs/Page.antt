@@ -59,15 +59,15 @@ IsCommandRefusal (Head whose) = IsHeadRefusal whose
 abbrev pub IsCommandOutput : Command → List ℕ → Output → Type 0
 IsCommandOutput command input out = IsOutputFor (limit_of command) (IsCommandText command) (IsRefusalLine (IsCommandRefusal command)) input out
 
--- the same, or that of wrong words where no command is asked for
+-- the same, or that of wrong words if no command is named
 abbrev pub IsPageOutput : Option Command → List ℕ → Output → Type 0
 IsPageOutput None input out = out ≡ output.Usage
 IsPageOutput (Some command) input out = IsCommandOutput command input out
 
--- the bytes stand at the front of a space where they fit, else the space is as it was
+-- the bytes are at the front of a space if they fit, else the space is as it was
 abbrev pub IsFilled : List ℕ → List ℕ → List ℕ → Type 0
 IsFilled bytes before after = ((length bytes ≤ length before) × (after ≡ bytes ++ drop (length bytes) before)) ⊎ ((length before < length bytes) × (after ≡ before))
 
--- an output was handed over: its bytes, how many they are, and the number of its status
+-- the caller got an output: its bytes, how many they are, and the number of its status
 abbrev pub IsHandedOver : Output → List ℕ → List ℕ → ℕ → ℕ → Type 0
 IsHandedOver out before after count code = IsFilled (bytes_of out) before after × (count ≡ length (bytes_of out)) × (code ≡ code_of (status_of out))

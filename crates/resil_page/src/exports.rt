@@ -1,5 +1,5 @@
-//! What a page calls. What is handed over stands at the front of the caller's space, where it fits there. Else the space is as it was, and
-//! who takes a larger one may call again.
+//! What a page calls. Each answer is put at the front of the caller's space, if it fits there. Otherwise the space is as it was, and the
+//! caller may call again with a larger one.
 
 ghost use Rattle.std.specs.Prelude.{◌≡◌, List, ℕ, length};
 ghost use Rattle.resil_page.specs.Page.{IsFilled, IsHandedOver, IsPageOutput, command_of};

@@ -137,9 +137,9 @@ fn text_of_load(alloc: Global, input: &[u8]) -> Result<Vec<u8>, CommandError>
     }
 }
 
-/// What the head of an input says. Of a history these are a record of its three sizes, and then its name, which the text ends with. Of a
-/// load they are a record of `idle_for`, `takes`, which is empty if it isn't there, `wakes`, `time_out`, `unfinished` and `made`, and a
-/// record of the three sizes of each pool.
+/// What the head of an input says. For a history these are a record of its three sizes, and then its name, which the text ends with. For
+/// a load they are a record of `idle_for`, `takes`, which is empty if it isn't there, `wakes`, `time_out`, `unfinished` and `made`, and
+/// a record of the three sizes of each pool.
 ///
 /// # Errors
 ///

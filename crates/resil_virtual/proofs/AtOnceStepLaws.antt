@@ -115,7 +115,7 @@ module _ (pool : VirtualPool) (arrivals : List Arrival) (next : ℕ) (h : List T
             (inr left)),
       )
 
-  -- nobody takes a job where none was woken
+  -- nobody takes a job if none was woken
   calm-takes : IsCalm pool arrivals h → (t : TimedJdkEvent) → IsTake pool arrivals next h was t → ⊥
   calm-takes calm t take = elim take.taker [
     | inl just ↦ mine (just_finished ev) just (waiting ev) take.waits calm.no_own
@@ -274,7 +274,7 @@ module _ (pool : VirtualPool) (arrivals : List Arrival) (next : ℕ) (h : List T
       later = rw (finishes-same arrivals h (s reply) waits_now refl, last-is h (s reply)) (finish-later calm a.id reply a.at is);
     }
 
-    -- the first worker begins where there is none
+    -- the first worker begins if there is none
     first-alone : next_due pool arrivals h ≡ Some (record { event = Submit a.id First; at = a.at }) → First ≡ reply_after pool.limits ev → (idle ≡ []) × (waiting ev ≡ [])
     first-alone is by_rule =
         let none = first-one (nat_lt (workers ev) pool.limits.core) (nat_lt (length (waiting ev)) pool.limits.queue) (workers ev == 0) ((pool.limits.queue == 0) && nat_lt (length (running ev)) (workers ev)) (nat_lt (workers ev) pool.limits.max) (by_rule ∙ sym (submitted.reply-is pool arrivals next h was)) in

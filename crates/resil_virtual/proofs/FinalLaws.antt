@@ -1,4 +1,4 @@
--- A pool before all else, and one where nothing is due any more.
+-- A pool before all else, and one in which nothing is due any more.
 use Rattle.std.proofs.Common.{inl, inr, ◌⊎◌, ◌≡◌, ◌≤◌, ◌<◌, ◌+◌, ◌^◌, ◌==◌, ◌∷◌, [], ◌++◌, ◌∙◌, ℕ, zero, suc, Bool, true, false, not, if◌then◌else◌, List, Option, Some, None, filter, is_some, length, map, max, option_map, option_to_list, slice_get, refl, sym, ap, subst, arith, append-nil}
 use Rattle.std.specs.List.{cons_option}
 use Rattle.std.specs.Option.{IfSome, option_map_or}

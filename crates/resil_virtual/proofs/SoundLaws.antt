@@ -43,7 +43,7 @@ module _ (pool : VirtualPool) (arrivals : List Arrival) (next : ℕ) (h : List T
   abbrev idle2 : List Idle
   idle2 = idle_next pool h (idle_after pool h) t
 
-  -- What is asked of a pool with what is due next.
+  -- What the next due thing needs of a pool.
   pub record IsNext (next2 : ℕ) : Type 0 where
     pub may : IsAllowed pool.limits ev t.event
     pub later : last_at h ≤ t.at

@@ -13,8 +13,8 @@ use Rattle.resil_virtual.specs.Simulated.{GoesOn, opening}
 use Rattle.resil_virtual.specs.declared.arrival.Arrival.{Arrival}
 use Rattle.resil_virtual.specs.declared.virtual_pool.VirtualPool.{VirtualPool}
 
--- The workers that have no job: when each of them may end, if ever. The one that has been idle longest is the first. It takes a job; one that is
--- handed over is run by the worker that fell idle last.
+-- The workers that have no job: when each of them may end, if ever. The one that has been idle longest is the first. It takes a job; a job
+-- that goes directly to an idle worker goes to the one that fell idle last.
 abbrev pub free_by : VirtualPool → List JdkEvent → List (Option ℕ) → JdkEvent → ℕ → List (Option ℕ)
 free_by pool events free (Submit id First) at = free ++ Some (at + pool.idle_for) ∷ []
 free_by pool events free (Submit id Handed) at = take (length free - 1) free

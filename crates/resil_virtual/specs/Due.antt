@@ -133,8 +133,8 @@ finished_last other (event ∷ events) = finished_last (is_finish event) events
 abbrev pub just_finished : List JdkEvent → Bool
 just_finished events = finished_last false events
 
--- Who takes a job: the worker that has just finished one, which isn't among the idle ones; else one that was woken, when it looks; else one whose
--- time to end comes, which looks once more.
+-- The worker that takes a job: the one that has just finished one, which isn't among the idle ones; else one that was woken, when it looks;
+-- else one whose time to end comes, which looks once more.
 abbrev pub without_taker : Bool → ℕ → List Idle → List Idle
 without_taker own at idle = if own then idle else if list_any (looks_at at) idle then without_first (looks_at at) idle else without_first (ends_at at) idle
 
@@ -146,7 +146,7 @@ fallen end = record { end = end; look = None }
 abbrev pub begun : VirtualPool → ℕ → Idle
 begun pool at = record { end = Some (at + pool.wakes + pool.idle_for); look = Some (at + pool.wakes) }
 
--- Who is idle after an event. A job that is handed over is run by the worker that fell idle last.
+-- The idle workers after an event. A job that goes directly to an idle worker goes to the one that fell idle last.
 abbrev pub idle_by : VirtualPool → List JdkEvent → List Idle → JdkEvent → ℕ → List Idle
 idle_by pool events idle (Submit id First) at = idle ++ begun pool at ∷ []
 idle_by pool events idle (Submit id Queued) at = wake_first (at + pool.wakes) idle

@@ -85,7 +85,7 @@ late_burst =
     ∷ take 9 1100 ∷ take 10 1100 ∷ take 11 1100 ∷ take 12 1100 ∷ take 13 1100
     ∷ finish 9 1110 ∷ finish 10 1110 ∷ finish 11 1110 ∷ finish 12 1110 ∷ finish 13 1110 ∷ []
 
--- No queue: the third job is handed to the worker that fell idle last, at 20, so the other one ends 50 after it fell idle, at 10.
+-- No queue: the third job goes directly to the worker that fell idle last, at 20, so the other one ends 50 after it fell idle, at 10.
 abbrev pub handed_load : List Arrival
 handed_load = job 1 0 20 ∷ job 2 0 10 ∷ job 3 30 5 ∷ []
 
