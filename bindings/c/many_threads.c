@@ -8,7 +8,7 @@
 
 enum { MANY = 1024, FEW = 16, LATER = 10 * FEW, STACK = 128 * 1024 };
 
-/* Where jobs wait for each other: the first ones that come are a group, then the next ones, and so on. */
+/* The place where jobs wait for each other: the first ones that come are a group, then the next ones, and so on. */
 struct hall {
     pthread_mutex_t lock;
     pthread_cond_t complete;

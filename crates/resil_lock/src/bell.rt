@@ -159,7 +159,7 @@ impl Sleeper {
     }
 
     /// Call this when the worker has found no job. It waits until there may be something to do: at most 1 ms at first, and at most 64 ms
-    /// after some empty looks.
+    /// after some empty polls.
     pub(crate) fn wait<R: Wait>(&mut self, rt: &R, bell: &Bell) {
         let searches = self.searches
             || bell.change_searcher(NONE, AWAKE)

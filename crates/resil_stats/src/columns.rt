@@ -155,7 +155,7 @@ fn gather_column(events: &[JdkEvent], levels: &[Level], start: usize, end: usize
     }
 }
 
-// Where a column ends that begins after the first `done` events: at the end of its span of time, or after as many events as a column has.
+// The end of a column that begins after the first `done` events: the end of its span of time, or after as many events as a column has.
 fn column_end(times: Option<&[u64]>, window: Window, done: usize) -> usize
     requires order { window.before ≤ done }
     requires more { done < window.end }
