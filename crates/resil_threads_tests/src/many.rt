@@ -1,4 +1,4 @@
-//! A pool of more workers than one by `Limits` may have.
+//! A pool of as many workers as a pool may have.
 
 use crate::shared::{assert_that, opened, passed};
 use resil_executor::{WorkPool, Workers, work_while_with};
@@ -12,10 +12,10 @@ use std::sync::{Arc, Wait};
 use std::thread;
 use std::time::{Clock, Duration};
 
-/// How many workers there are, and how many works wait for each other.
-const MANY: u32 = 256;
+/// The number of workers, and of jobs that wait for each other.
+const MANY: u32 = 1_024;
 
-/// Ends once as many of its kind have come as there are workers, or after a minute. It answers whether they have.
+/// A job that ends once as many of its kind have begun as there are workers, or after a minute. It answers whether they have.
 #[derive(Drop)]
 struct Crowd(Arc<AtomicU32>);
 
@@ -26,17 +26,17 @@ impl Answers for Crowd {
 impl<R: Clock> WorkAt<&R> for Crowd {
     fn run(self, rt: &mut &R) -> bool {
         self.0.fetch_add(1, SeqCst);
-        for _ in 0..60_000 {
+        for _ in 0..6_000 {
             if self.0.load(SeqCst) >= MANY {
                 return true;
             }
-            thread::sleep(*rt, Duration::from_millis(1));
+            thread::sleep(*rt, Duration::from_millis(10));
         }
         false
     }
 }
 
-/// As many works as there are workers, submitted.
+/// Submits as many jobs as there are workers.
 fn submitted<R: Abort + Wait>(
     rt: &R,
     alloc: Global,
@@ -45,16 +45,16 @@ fn submitted<R: Abort + Wait>(
 ) -> Vec<Pending<Crowd>> {
     let mut all = Vec::new(alloc);
     for _ in 0..MANY {
-        let work = Crowd(passed(rt, came.clone()));
-        let accepted = pool.submit(rt, alloc, work).ok();
-        let (_id, pending) = accepted.expect(rt, "a work accepted");
+        let job = Crowd(passed(rt, came.clone()));
+        let accepted = pool.submit(rt, alloc, job).ok();
+        let (_id, pending) = accepted.expect(rt, "a job accepted");
         passed(rt, all.push(pending));
     }
     all
 }
 
 #[test]
-fn works_of_256_workers_wait_for_each_other(rt: HostRuntime) -> Result<(), AdmitError> {
+fn jobs_of_1024_workers_wait_for_each_other(rt: HostRuntime) -> Result<(), AdmitError> {
     let alloc = rt.alloc();
     let came = passed(&rt, Arc::new(alloc, AtomicU32::new(0)));
     let (pool, closer) = opened(alloc, (MANY, MANY, 8), NoRecord)?;
@@ -63,7 +63,7 @@ fn works_of_256_workers_wait_for_each_other(rt: HostRuntime) -> Result<(), Admit
     drop(work_while_with(&rt, &pool, closer, workers, || ()));
     for pending in all {
         let met = matches!(pending.wait(&rt), Ok(true));
-        assert_that(&rt, met, "a work that met all others");
+        assert_that(&rt, met, "a job that met all others");
     }
     Ok(())
 }
