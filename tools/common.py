@@ -84,11 +84,6 @@ def called(words):
     return [os.environ["RESIL_LOOK_BUILT" if words[:1] in (["judge"], ["stats"], ["timeline"], ["simulate"]) else "RESIL_BUILT"], *words]
 
 
-def lay_out_cases(folder):
-    """The cases of cases/ and examples/ as files of a folder, as tools/lib.sh lays them out."""
-    subprocess.run(["bash", "-c", '. tools/lib.sh && unpack_cases "$1"', ME, folder], cwd=ROOT, check=True)
-
-
 def case_names():
     return [line.split()[0] for line in (OUT / "cases/names").read_text().splitlines()]
 

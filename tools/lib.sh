@@ -129,34 +129,10 @@ make_folder() {
 
 # Cases: those of cases/, and examples/.
 
-# Lays out all cases in a folder, which is made anew: FOLDER/NAME.resil, NAME.out and NAME.how of each, NAME.told of one that has
-# lines on standard error, and a line 'FOLDER/NAME PLACE' of the file names.
+# Lays out all cases in a folder, as tools/cases.py does.
 unpack_cases() {
-    local file name status space words
     export cases=$1
-    rm -rf "$cases"
-    for file in cases/*/ examples/*/; do
-        mkdir -p "$cases/$(basename "$file")" || return
-    done
-    LC_ALL=C awk -v to="$cases" -f tools/cases.awk cases/*/*.cases || return
-    for file in examples/*/*.resil; do
-        name=${file#examples/}
-        name=${name%.resil}
-        if [ -e "$cases/$name.how" ]; then
-            echo "$file: cases/ has a case of that name" >&2
-            return 1
-        fi
-        cp "$file" "examples/$name.out" "$cases/${name%/*}" || return
-        words=("${name%/*}")
-        status=0
-        space=-
-        [ ! -f "examples/$name.args" ] || mapfile -t words <"examples/$name.args"
-        [ ! -f "examples/$name.status" ] || status=$(<"examples/$name.status")
-        [ ! -f "examples/$name.space" ] || space=$(<"examples/$name.space")
-        printf '%s\n' "$status" "$space" ${words[@]+"${words[@]}"} >"$cases/$name.how"
-        echo "$name $file" >>"$cases/names"
-    done
-    LC_ALL=C sort -o "$cases/names" "$cases/names"
+    tools/cases.py "$cases"
 }
 
 case_names() {
