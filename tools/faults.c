@@ -55,11 +55,6 @@ static atomic_int has_refused_growth;
 enum { NO_FAULT, FAULT, THREAD_AFTER_GROWTH };
 static atomic_int *has_met;
 
-static long number(const char *name, long otherwise) {
-    const char *text = getenv(name);
-    return text ? atol(text) : otherwise;
-}
-
 /* What runs in a row come to. */
 struct runs {
     long first, last;
@@ -142,34 +137,32 @@ static void sweep(long *fault, long n, const char *shown) {
     _exit(0);
 }
 
+/* What the environment may set, and from which n on a sweep goes over it. */
+enum { NOT_SWEPT = -1 };
 static const struct {
     const char *name;
-    long *fault, from;
-} swept[] = {
+    long *value, from;
+} faults[] = {
     {"FAULT_GROWTH", &growth, 1}, {"FAULT_GROWTH_ON", &growth_on, 1}, {"FAULT_THREAD", &thread, 1},
-    {"FAULT_READ", &failing_read, 1}, {"FAULT_WRITE", &room, 0},
+    {"FAULT_READ", &failing_read, 1}, {"FAULT_WRITE", &room, 0}, {"FAULT_THREAD_AFTER", &thread_after, NOT_SWEPT},
+    {"FAULT_ZERO", &takes_none, NOT_SWEPT}, {"FAULT_PIECE", &piece, NOT_SWEPT}, {"FAULT_INTERRUPT", &interruptions, NOT_SWEPT},
 };
+static const size_t fault_count = sizeof faults / sizeof *faults;
 
 __attribute__((constructor)) static void initialise(void) {
     const char *name = getenv("FAULT_SWEEP"), *shown = getenv("FAULT_SHOWN");
     size_t i;
     next_start = (start_thread *)dlsym(RTLD_NEXT, "pthread_create");
-    failing_read = number("FAULT_READ", 0);
-    room = number("FAULT_WRITE", -1);
-    takes_none = number("FAULT_ZERO", 0);
-    piece = number("FAULT_PIECE", 0);
-    interruptions = number("FAULT_INTERRUPT", 0);
-    thread = number("FAULT_THREAD", 0);
-    thread_after = number("FAULT_THREAD_AFTER", 0);
-    growth_on = number("FAULT_GROWTH_ON", 0);
-    growth = number("FAULT_GROWTH", 0);
+    for (i = 0; i < fault_count; i++)
+        if (getenv(faults[i].name) != NULL)
+            *faults[i].value = atol(getenv(faults[i].name));
     if (name == NULL || shown == NULL) {
         alarm(100);
         return;
     }
-    for (i = 0; i < sizeof swept / sizeof *swept; i++)
-        if (strcmp(name, swept[i].name) == 0) {
-            sweep(swept[i].fault, swept[i].from, shown);
+    for (i = 0; i < fault_count; i++)
+        if (faults[i].from != NOT_SWEPT && strcmp(name, faults[i].name) == 0) {
+            sweep(faults[i].value, faults[i].from, shown);
             return;
         }
     errno = EINVAL;
