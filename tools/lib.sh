@@ -17,6 +17,15 @@ need_rt() {
     exit 127
 }
 
+# Those of these commands that aren't there, as "there is no" goes on.
+missing() {
+    local name names=
+    for name in "$@"; do
+        command -v "$name" >/dev/null || names+="${names:+ and no }$name"
+    done
+    echo "$names"
+}
+
 # Makes a folder of all commands of the path but for the toolchain's.
 make_path() {
     local folders at
@@ -99,6 +108,16 @@ add_counts() {
         skipped=$((skipped + ${BASH_REMATCH[4]:-0}))
     else
         fail "$2 broke off: $(tail -n 20 "$1")"
+    fi
+}
+
+# Counts the tests that passed, by the status and the log of cargo test. Another status than 0 has failed, and so has no test at all.
+add_tests() {
+    local count
+    count=$(grep -c '^test .* ok$' "$2")
+    passed=$((passed + count))
+    if [ "$1" -ne 0 ] || [ "$count" -eq 0 ]; then
+        fail "$3 failed: $(tail -n 20 "$2")"
     fi
 }
 
