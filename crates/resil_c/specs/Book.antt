@@ -18,8 +18,8 @@ use Rattle.resil_rule.specs.declared.event.Reply.TheVariants as reply
 use Rattle.resil_rule.specs.declared.event.Event.{Event}
 use Rattle.resil_rule.specs.declared.event.Event.TheVariants.{Submit, Take}
 use Rattle.resil_c.specs.declared.pool.plain_data.PoolCounts.{PoolCounts}
-use Rattle.resil_c.specs.declared.pool.plain_data.OpenError.{OpenError}
-use Rattle.resil_c.specs.declared.pool.plain_data.OpenError.TheVariants as opening
+use Rattle.resil_c.specs.declared.pool.plain_data.BookError.{BookError}
+use Rattle.resil_c.specs.declared.pool.plain_data.BookError.TheVariants as opening
 
 -- what the rule keeps over the callers' jobs; the last events; how many submissions were refused, and how many jobs are finished
 pub record BookView : Type 0 where
@@ -73,7 +73,7 @@ opened_book sizes callers kept = record {
 }
 
 -- why a book isn't made: the first range that is broken, or out of memory if none is
-abbrev pub IsOpenRefusal : Sizes → ℕ → OpenError → Type 0
+abbrev pub IsOpenRefusal : Sizes → ℕ → BookError → Type 0
 IsOpenRefusal sizes callers opening.CoreRange = ¬ IsWideCore sizes.core
 IsOpenRefusal sizes callers opening.MaxRange = IsWideCore sizes.core × ¬ IsWideMax sizes.core sizes.max
 IsOpenRefusal sizes callers opening.QueueRange = IsWideCore sizes.core × IsWideMax sizes.core sizes.max × ¬ IsQueue sizes.queue

@@ -11,20 +11,20 @@ use Rattle.resil_rule.specs.declared.event.Reply.{Reply}
 use Rattle.resil_rule.specs.declared.event.Reply.TheVariants.{Core, Queued, Extra, Full, Closed}
 use Rattle.resil_rule.specs.declared.event.Event.{Event}
 use Rattle.resil_rule.specs.declared.event.Event.TheVariants.{Submit, Take, Finish, IdleEnd, Close, Resized}
-use Rattle.resil_c.specs.declared.pool.plain_data.OpenError.{OpenError}
-use Rattle.resil_c.specs.declared.pool.plain_data.OpenError.TheVariants as opening
+use Rattle.resil_c.specs.declared.pool.plain_data.BookError.{BookError}
+use Rattle.resil_c.specs.declared.pool.plain_data.BookError.TheVariants as opening
 use Rattle.resil_c.specs.declared.pool.plain_data.PoolJob.{PoolJob}
 use Rattle.resil_c.specs.declared.pool.plain_data.PoolEvent.{PoolEvent}
 
 -- why a pool isn't made, by what the rule says about its sizes and about memory
-abbrev pub from_rule : AdmitError → OpenError
+abbrev pub from_rule : AdmitError → BookError
 from_rule why.CoreOutOfRange = opening.CoreRange
 from_rule why.MaxOutOfRange = opening.MaxRange
 from_rule why.QueueOutOfRange = opening.QueueRange
 from_rule _ = opening.Memory
 
 -- the same as a number
-abbrev pub open_number : OpenError → ℕ
+abbrev pub open_number : BookError → ℕ
 open_number opening.Memory = 1
 open_number opening.CoreRange = 2
 open_number opening.MaxRange = 3

@@ -11,7 +11,7 @@ ghost use Rattle.resil_permit.specs.History.{holders, in_use_count};
 ghost use Rattle.resil_c.specs.Handles.{Has, AreBoth, UnlessEmpty};
 
 use crate::EMPTY;
-use crate::permit::handle::Handle;
+use crate::permit::handle::PermitHandle;
 use crate::permit::owned_pass::OwnedPass;
 use resil_permit::{Attempt, PermitError};
 use std::alloc::Global;
@@ -20,7 +20,7 @@ use std::alloc::Global;
 ///
 /// 0: made. 1: out of memory. 2: `max` is above 65,535. After 1 and 2 `out` is unchanged.
 #[unsafe(no_mangle)]
-pub extern "C" fn resil_permit_new(alloc: Global, max: u32, out: &mut Handle) -> u8
+pub extern "C" fn resil_permit_new(alloc: Global, max: u32, out: &mut PermitHandle) -> u8
     ensures answers { result ≤ 2 }
     ensures made { result ≡ 0 → Has (λ p. (p.source.max ≡ max) × (p.seen ≡ []) × (held_by p ≡ 0)) out.new.value }
     ensures retired { result ≡ 0 → Has (λ p. retired_by p ≡ 0) out.new.value }
@@ -35,7 +35,7 @@ pub extern "C" fn resil_permit_new(alloc: Global, max: u32, out: &mut Handle) ->
     let Ok(pass) = Box::new(alloc, pass) else {
         return 1;
     };
-    *out = Handle::of(pass);
+    *out = PermitHandle::of(pass);
     0
 }
 
@@ -45,9 +45,9 @@ pub extern "C" fn resil_permit_new(alloc: Global, max: u32, out: &mut Handle) ->
 #[unsafe(no_mangle)]
 pub extern "C" fn resil_permit_split(
     alloc: Global,
-    handle: Handle,
-    back: &mut Handle,
-    out: &mut Handle,
+    handle: PermitHandle,
+    back: &mut PermitHandle,
+    out: &mut PermitHandle,
 ) -> u8
     ensures answers { (result ≤ 1) ⊎ (result ≡ 255) }
     ensures back { result ≤ 1 → back.new.value ≡ handle.value }
@@ -64,14 +64,14 @@ pub extern "C" fn resil_permit_split(
         return EMPTY;
     };
     let second = pass.split();
-    *back = Handle::of(pass);
+    *back = PermitHandle::of(pass);
     let Ok(second) = second else {
         return 1;
     };
     let Ok(second) = Box::new(alloc, second) else {
         return 1;
     };
-    *out = Handle::of(second);
+    *out = PermitHandle::of(second);
     0
 }
 
@@ -79,7 +79,7 @@ pub extern "C" fn resil_permit_split(
 ///
 /// 0: taken. 1: all permits in use were held. 2: contended: another thread came in between, and nothing was done. 255: empty.
 #[unsafe(no_mangle)]
-pub extern "C" fn resil_permit_try_once(handle: Handle, back: &mut Handle) -> u8
+pub extern "C" fn resil_permit_try_once(handle: PermitHandle, back: &mut PermitHandle) -> u8
     ensures answers { (result ≤ 2) ⊎ (result ≡ 255) }
     ensures pass { UnlessEmpty IsSamePass handle.value back.new.value }
     ensures taken { result ≡ 0 → AreBoth (λ p q. IsTry p q Taken) handle.value back.new.value }
@@ -95,7 +95,7 @@ pub extern "C" fn resil_permit_try_once(handle: Handle, back: &mut Handle) -> u8
         return EMPTY;
     };
     let attempt = pass.try_once();
-    *back = Handle::of(pass);
+    *back = PermitHandle::of(pass);
     match attempt {
         Attempt::Taken => 0,
         Attempt::Full => 1,
@@ -107,7 +107,7 @@ pub extern "C" fn resil_permit_try_once(handle: Handle, back: &mut Handle) -> u8
 ///
 /// 0: given back. 1: the pass holds no permit, and nothing was done. 255: empty.
 #[unsafe(no_mangle)]
-pub extern "C" fn resil_permit_leave(handle: Handle, back: &mut Handle) -> u8
+pub extern "C" fn resil_permit_leave(handle: PermitHandle, back: &mut PermitHandle) -> u8
     ensures answers { (result ≤ 1) ⊎ (result ≡ 255) }
     ensures pass { UnlessEmpty IsSamePass handle.value back.new.value }
     ensures gave { result ≡ 0 → AreBoth (λ p q. AppendsEvent p (Gave p.number) (λ _. Unit {0}) q) handle.value back.new.value }
@@ -121,7 +121,7 @@ pub extern "C" fn resil_permit_leave(handle: Handle, back: &mut Handle) -> u8
         return EMPTY;
     };
     let gave = pass.leave();
-    *back = Handle::of(pass);
+    *back = PermitHandle::of(pass);
     if gave { 0 } else { 1 }
 }
 
@@ -129,7 +129,7 @@ pub extern "C" fn resil_permit_leave(handle: Handle, back: &mut Handle) -> u8
 ///
 /// 0: retired. 1: the pass holds no permit, and nothing was done. 255: empty.
 #[unsafe(no_mangle)]
-pub extern "C" fn resil_permit_retire(handle: Handle, back: &mut Handle) -> u8
+pub extern "C" fn resil_permit_retire(handle: PermitHandle, back: &mut PermitHandle) -> u8
     ensures answers { (result ≤ 1) ⊎ (result ≡ 255) }
     ensures pass { UnlessEmpty IsSamePass handle.value back.new.value }
     ensures kept_back { result ≡ 0 → AreBoth (λ p q. AppendsEvent p (Retired p.number) (λ _. Unit {0}) q) handle.value back.new.value }
@@ -143,7 +143,7 @@ pub extern "C" fn resil_permit_retire(handle: Handle, back: &mut Handle) -> u8
         return EMPTY;
     };
     let kept_back = pass.retire();
-    *back = Handle::of(pass);
+    *back = PermitHandle::of(pass);
     if kept_back { 0 } else { 1 }
 }
 
@@ -151,7 +151,7 @@ pub extern "C" fn resil_permit_retire(handle: Handle, back: &mut Handle) -> u8
 ///
 /// 0: raised. 1: the pass has retired no permit, and nothing was done. 255: empty.
 #[unsafe(no_mangle)]
-pub extern "C" fn resil_permit_raise(handle: Handle, back: &mut Handle) -> u8
+pub extern "C" fn resil_permit_raise(handle: PermitHandle, back: &mut PermitHandle) -> u8
     ensures answers { (result ≤ 1) ⊎ (result ≡ 255) }
     ensures pass { UnlessEmpty IsSamePass handle.value back.new.value }
     ensures raised { result ≡ 0 → AreBoth (λ p q. AppendsEvent p (Raised p.number) (λ _. Unit {0}) q) handle.value back.new.value }
@@ -165,13 +165,13 @@ pub extern "C" fn resil_permit_raise(handle: Handle, back: &mut Handle) -> u8
         return EMPTY;
     };
     let raised = pass.raise();
-    *back = Handle::of(pass);
+    *back = PermitHandle::of(pass);
     if raised { 0 } else { 1 }
 }
 
 /// How many permits the pass has retired and not raised again. The pass comes back unchanged. 0 if the handle is empty.
 #[unsafe(no_mangle)]
-pub extern "C" fn resil_permit_retired(handle: Handle, back: &mut Handle) -> u32
+pub extern "C" fn resil_permit_retired(handle: PermitHandle, back: &mut PermitHandle) -> u32
     ensures back { IfSome handle.value (λ _. back.new.value ≡ handle.value) }
     ensures retired { IfSome handle.value (λ p. result ≡ retired_by p) }
     ensures empty { handle.value ≡ nothing → (result ≡ 0) × (back.new ≡ back.old) }
@@ -180,13 +180,13 @@ pub extern "C" fn resil_permit_retired(handle: Handle, back: &mut Handle) -> u32
         return 0;
     };
     let retired = pass.retired();
-    *back = Handle::of(pass);
+    *back = PermitHandle::of(pass);
     retired
 }
 
 /// The number of free permits at this point: those in use that no pass holds. 0 if the handle is empty.
 #[unsafe(no_mangle)]
-pub extern "C" fn resil_permit_available(handle: Handle, back: &mut Handle) -> u32
+pub extern "C" fn resil_permit_available(handle: PermitHandle, back: &mut PermitHandle) -> u32
     ensures pass { UnlessEmpty IsSamePass handle.value back.new.value }
     ensures seen { UnlessEmpty HasSeenMore handle.value back.new.value }
     ensures free { UnlessEmpty (λ p q. result + length (holders q.seen) ≡ in_use_count p.source.max q.seen) handle.value back.new.value }
@@ -198,12 +198,12 @@ pub extern "C" fn resil_permit_available(handle: Handle, back: &mut Handle) -> u
         return 0;
     };
     let free = pass.available();
-    *back = Handle::of(pass);
+    *back = PermitHandle::of(pass);
     free
 }
 
 /// Frees a pass. A permit that it holds or has retired is never given back. For an empty handle it does nothing.
 #[unsafe(no_mangle)]
-pub extern "C" fn resil_permit_free(handle: Handle) {
+pub extern "C" fn resil_permit_free(handle: PermitHandle) {
     drop(handle.into_pass());
 }

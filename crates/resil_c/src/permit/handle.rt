@@ -12,13 +12,13 @@ use std::marker::Model;
 /// It points to bytes, since C must not know what is there. If a handle is dropped, its pass stays on the heap.
 #[repr(C)]
 #[derive(Drop)]
-pub struct Handle {
+pub struct PermitHandle {
     at: *mut u8,
     alloc: Global,
     ghost value: { Option PassView },
 }
 
-impl Model for Handle {
+impl Model for PermitHandle {
     ghost use Rattle.resil_c.specs.Handles.{handle_owns};
     ghost use Rattle.resil_c.specs.contracts.permit.owned_pass.OwnedPass.{the_row};
 
@@ -26,14 +26,14 @@ impl Model for Handle {
 }
 
 // A handle may go to another thread, since its pass may, and any thread may free the block.
-unsafe impl Send for Handle {}
+unsafe impl Send for PermitHandle {}
 
-impl Handle {
-    fn of_parts(parts: BoxParts<OwnedPass, Global>) -> Handle
+impl PermitHandle {
+    fn of_parts(parts: BoxParts<OwnedPass, Global>) -> PermitHandle
         ensures { result.value ≡ Some parts.value }
     {
         let BoxParts { at, alloc } = parts;
-        Handle {
+        PermitHandle {
             at: at.cast::<u8>(),
             alloc,
         }
@@ -43,7 +43,7 @@ impl Handle {
     fn into_parts(self) -> Option<BoxParts<OwnedPass, Global>>
         ensures { self.value ≡ option_map (λ parts. parts.value) result }
     {
-        let Handle { at, alloc } = self;
+        let PermitHandle { at, alloc } = self;
         if at.is_null() {
             None
         } else {
@@ -55,10 +55,10 @@ impl Handle {
     }
 
     // The handle of a pass on the heap.
-    pub(crate) fn of(pass: Box<OwnedPass>) -> Handle
+    pub(crate) fn of(pass: Box<OwnedPass>) -> PermitHandle
         ensures { result.value ≡ Some pass.value }
     {
-        Handle::of_parts(BoxParts::of(pass))
+        PermitHandle::of_parts(BoxParts::of(pass))
     }
 
     // The pass of a handle, or nothing if it is empty.

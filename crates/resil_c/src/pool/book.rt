@@ -12,7 +12,7 @@ ghost use Rattle.resil_rule.specs.RuleState.{HasNoneToPick};
 ghost use Rattle.resil_c.specs.Book.{in_64_bits, opened_book, has_caller, answer_to, next_id, counts_of, AreCallers, IsOpenRefusal, IsSubmitted, IsPicked, IsBookOf, Follows};
 ghost use Rattle.resil_c.specs.PlainData.{submit_number};
 
-use crate::pool::plain_data::{MAX_CALLERS, OpenError, PoolCounts, by_rule};
+use crate::pool::plain_data::{BookError, MAX_CALLERS, PoolCounts, by_rule};
 use resil_rule::{
     AdmitError, Event, Id, LastEvents, Origin, Picked, Record, Refusal, Reply, Rule, Sizes, Slot,
 };
@@ -63,7 +63,7 @@ impl Book {
         queue: u32,
         callers: u32,
         kept: u32,
-    ) -> Result<Book, OpenError>
+    ) -> Result<Book, BookError>
         ensures opened { IfOk result (λ b. b ≡ opened_book (record { core = core; max = max; queue = queue }) callers kept) }
         ensures history { IfOk result (IsBookOf []) }
         ensures in_range { OnOk result (AreSizes (record { core = core; max = max; queue = queue }) × AreCallers callers) }
@@ -71,11 +71,11 @@ impl Book {
     {
         let sizes = Sizes::new(core, max, queue)?;
         if callers < 1 || callers > MAX_CALLERS {
-            return Err(OpenError::CallersRange);
+            return Err(BookError::CallersRange);
         }
         let rule = Rule::new(alloc, sizes, callers as usize + 1)?;
         let Ok(last) = LastEvents::new(alloc, kept as usize) else {
-            return Err(OpenError::Memory);
+            return Err(BookError::Memory);
         };
         Ok(Book {
             rule,

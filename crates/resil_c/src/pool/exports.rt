@@ -17,7 +17,7 @@ ghost use Rattle.resil_c.specs.PlainData.{submit_number, slot_of, plain_event};
 
 use crate::EMPTY;
 use crate::pool::book::Book;
-use crate::pool::handle::Handle;
+use crate::pool::handle::PoolHandle;
 use crate::pool::plain_data::{
     CLOSED, PoolCounts, PoolEvent, PoolJob, open_number, origin_number, plain_event, plain_job,
     submit_number,
@@ -39,7 +39,7 @@ pub extern "C" fn resil_pool_new(
     queue: u32,
     callers: u32,
     kept: u32,
-    out: &mut Handle,
+    out: &mut PoolHandle,
 ) -> u8
     ensures answers { result ≤ 5 }
     ensures made { result ≡ 0 → out.new.value ≡ Some (opened_book (record { core = core; max = max; queue = queue }) callers kept) }
@@ -57,7 +57,7 @@ pub extern "C" fn resil_pool_new(
     let Ok(book) = Box::new(alloc, book) else {
         return 1;
     };
-    *out = Handle::of(book);
+    *out = PoolHandle::of(book);
     0
 }
 
@@ -67,8 +67,8 @@ pub extern "C" fn resil_pool_new(
 /// far. 6: the pool doesn't have this caller. After 5 and 6 nothing was changed. 255: the handle is empty.
 #[unsafe(no_mangle)]
 pub extern "C" fn resil_pool_submit(
-    handle: Handle,
-    back: &mut Handle,
+    handle: PoolHandle,
+    back: &mut PoolHandle,
     caller: u16,
     number: u64,
     work: u64,
@@ -83,7 +83,7 @@ pub extern "C" fn resil_pool_submit(
         return EMPTY;
     };
     let answer = book.submit(Id { caller, number }, work);
-    *back = Handle::of(book);
+    *back = PoolHandle::of(book);
     submit_number(answer)
 }
 
@@ -94,8 +94,8 @@ pub extern "C" fn resil_pool_submit(
 /// have this caller. After 5 and 6 nothing was changed, and `number` is unchanged. 255: the handle is empty.
 #[unsafe(no_mangle)]
 pub extern "C" fn resil_pool_submit_next(
-    handle: Handle,
-    back: &mut Handle,
+    handle: PoolHandle,
+    back: &mut PoolHandle,
     caller: u16,
     work: u64,
     number: &mut u64,
@@ -113,7 +113,7 @@ pub extern "C" fn resil_pool_submit_next(
     };
     let id = book.next_id(caller);
     let answer = submit_number(book.submit(id, work));
-    *back = Handle::of(book);
+    *back = PoolHandle::of(book);
     if answer <= CLOSED {
         *number = id.number;
     }
@@ -125,7 +125,11 @@ pub extern "C" fn resil_pool_submit_next(
 ///
 /// 0: a job with its own worker. 1: a job of the queue. 2: there is none to pick, and nothing was changed. 255: the handle is empty.
 #[unsafe(no_mangle)]
-pub extern "C" fn resil_pool_pick(handle: Handle, back: &mut Handle, job: &mut PoolJob) -> u8
+pub extern "C" fn resil_pool_pick(
+    handle: PoolHandle,
+    back: &mut PoolHandle,
+    job: &mut PoolJob,
+) -> u8
     ensures answers { (result ≤ 2) ⊎ (result ≡ 255) }
     ensures own { result ≡ 0 → AreBoth (IsPicked origin.OwnStart (slot_of job.new) job.new.work) handle.value back.new.value }
     ensures taken { result ≡ 1 → AreBoth (IsPicked origin.Queue (slot_of job.new) job.new.work) handle.value back.new.value }
@@ -140,7 +144,7 @@ pub extern "C" fn resil_pool_pick(handle: Handle, back: &mut Handle, job: &mut P
         return EMPTY;
     };
     let picked = book.pick();
-    *back = Handle::of(book);
+    *back = PoolHandle::of(book);
     let Some(picked) = picked else {
         return 2;
     };
@@ -153,8 +157,8 @@ pub extern "C" fn resil_pool_pick(handle: Handle, back: &mut Handle, job: &mut P
 /// 0: ended. 1: no such job is out, and nothing was changed. 255: the handle is empty.
 #[unsafe(no_mangle)]
 pub extern "C" fn resil_pool_finish(
-    handle: Handle,
-    back: &mut Handle,
+    handle: PoolHandle,
+    back: &mut PoolHandle,
     caller: u16,
     number: u64,
     place: u32,
@@ -173,7 +177,7 @@ pub extern "C" fn resil_pool_finish(
     let id = Id { caller, number };
     let place = place as usize;
     let finished = book.finish(Slot { id, place });
-    *back = Handle::of(book);
+    *back = PoolHandle::of(book);
     if finished { 0 } else { 1 }
 }
 
@@ -183,7 +187,12 @@ pub extern "C" fn resil_pool_finish(
 /// the maximum size at `new` was greater than 64. 2: it is, and the maximum size isn't from the core size to the one at
 /// `new`. After 1 and 2 nothing was changed. 255: the handle is empty.
 #[unsafe(no_mangle)]
-pub extern "C" fn resil_pool_resize(handle: Handle, back: &mut Handle, core: u32, max: u32) -> u8
+pub extern "C" fn resil_pool_resize(
+    handle: PoolHandle,
+    back: &mut PoolHandle,
+    core: u32,
+    max: u32,
+) -> u8
     ensures answers { (result ≤ 2) ⊎ (result ≡ 255) }
     ensures core { IfSome handle.value (λ b. (result ≡ 1) ↔ ¬ IsCoreOf b.rule.limits core) }
     ensures max { IfSome handle.value (λ b. (result ≡ 2) ↔ IsCoreOf b.rule.limits core × ¬ AreSizesWithin b.rule.limits core max) }
@@ -197,7 +206,7 @@ pub extern "C" fn resil_pool_resize(handle: Handle, back: &mut Handle, core: u32
         return EMPTY;
     };
     let answer = book.resize(core, max);
-    *back = Handle::of(book);
+    *back = PoolHandle::of(book);
     match answer {
         Ok(()) => 0,
         Err(AdmitError::CoreOutOfRange) => 1,
@@ -210,7 +219,7 @@ pub extern "C" fn resil_pool_resize(handle: Handle, back: &mut Handle, core: u32
 ///
 /// 0: ended. 1: none may end, and nothing was changed. 255: the handle is empty.
 #[unsafe(no_mangle)]
-pub extern "C" fn resil_pool_idle_end(handle: Handle, back: &mut Handle) -> u8
+pub extern "C" fn resil_pool_idle_end(handle: PoolHandle, back: &mut PoolHandle) -> u8
     ensures answers { (result ≤ 1) ⊎ (result ≡ 255) }
     ensures ends { IfSome handle.value (λ b. (result ≡ 0) ↔ MayEndIdle b.rule) }
     ensures event { result ≡ 0 → AreBoth (λ b c. c.rule ≡ with_idle_end b.rule) handle.value back.new.value }
@@ -223,7 +232,7 @@ pub extern "C" fn resil_pool_idle_end(handle: Handle, back: &mut Handle) -> u8
         return EMPTY;
     };
     let ended = book.idle_end();
-    *back = Handle::of(book);
+    *back = PoolHandle::of(book);
     if ended { 0 } else { 1 }
 }
 
@@ -231,7 +240,7 @@ pub extern "C" fn resil_pool_idle_end(handle: Handle, back: &mut Handle) -> u8
 ///
 /// 0: closed. 1: it was closed already, and nothing was changed. 255: the handle is empty.
 #[unsafe(no_mangle)]
-pub extern "C" fn resil_pool_close(handle: Handle, back: &mut Handle) -> u8
+pub extern "C" fn resil_pool_close(handle: PoolHandle, back: &mut PoolHandle) -> u8
     ensures answers { (result ≤ 1) ⊎ (result ≡ 255) }
     ensures closes { IfSome handle.value (λ b. (result ≡ 0) ↔ (b.rule.closed ≡ false)) }
     ensures event { result ≡ 0 → AreBoth (λ b c. c.rule ≡ with_close b.rule) handle.value back.new.value }
@@ -244,7 +253,7 @@ pub extern "C" fn resil_pool_close(handle: Handle, back: &mut Handle) -> u8
         return EMPTY;
     };
     let closed = book.close();
-    *back = Handle::of(book);
+    *back = PoolHandle::of(book);
     if closed { 0 } else { 1 }
 }
 
@@ -253,8 +262,8 @@ pub extern "C" fn resil_pool_close(handle: Handle, back: &mut Handle) -> u8
 /// 0: written. 255: the handle is empty, and `counts` is unchanged.
 #[unsafe(no_mangle)]
 pub extern "C" fn resil_pool_numbers(
-    handle: Handle,
-    back: &mut Handle,
+    handle: PoolHandle,
+    back: &mut PoolHandle,
     counts: &mut PoolCounts,
 ) -> u8
     ensures answers { (result ≡ 0) ⊎ (result ≡ 255) }
@@ -269,13 +278,13 @@ pub extern "C" fn resil_pool_numbers(
         return EMPTY;
     };
     *counts = book.numbers();
-    *back = Handle::of(book);
+    *back = PoolHandle::of(book);
     0
 }
 
 /// How many of the last events are kept now. 0 if the handle is empty.
 #[unsafe(no_mangle)]
-pub extern "C" fn resil_pool_event_count(handle: Handle, back: &mut Handle) -> usize
+pub extern "C" fn resil_pool_event_count(handle: PoolHandle, back: &mut PoolHandle) -> usize
     ensures same { IfSome handle.value (λ _. back.new.value ≡ handle.value) }
     ensures count { IfSome handle.value (λ b. result ≡ length b.last.events) }
     ensures empty { handle.value ≡ nothing → (result ≡ 0) × (back.new ≡ back.old) }
@@ -284,13 +293,13 @@ pub extern "C" fn resil_pool_event_count(handle: Handle, back: &mut Handle) -> u
         return 0;
     };
     let count = book.event_count();
-    *back = Handle::of(book);
+    *back = PoolHandle::of(book);
     count
 }
 
 /// How many events came before those that are kept. 0 if the handle is empty.
 #[unsafe(no_mangle)]
-pub extern "C" fn resil_pool_lost(handle: Handle, back: &mut Handle) -> u64
+pub extern "C" fn resil_pool_lost(handle: PoolHandle, back: &mut PoolHandle) -> u64
     ensures same { IfSome handle.value (λ _. back.new.value ≡ handle.value) }
     ensures lost { IfSome handle.value (λ b. result ≡ b.last.lost) }
     ensures history { IfSome handle.value (λ b. (events : List EventOf) → IsBookOf events b → IsLastOf events b.last) }
@@ -300,7 +309,7 @@ pub extern "C" fn resil_pool_lost(handle: Handle, back: &mut Handle) -> u64
         return 0;
     };
     let lost = book.lost();
-    *back = Handle::of(book);
+    *back = PoolHandle::of(book);
     lost
 }
 
@@ -309,8 +318,8 @@ pub extern "C" fn resil_pool_lost(handle: Handle, back: &mut Handle) -> u64
 /// 0: written. 1: the index isn't below the number of kept events, and `event` is unchanged. 255: the handle is empty.
 #[unsafe(no_mangle)]
 pub extern "C" fn resil_pool_event(
-    handle: Handle,
-    back: &mut Handle,
+    handle: PoolHandle,
+    back: &mut PoolHandle,
     index: usize,
     event: &mut PoolEvent,
 ) -> u8
@@ -326,7 +335,7 @@ pub extern "C" fn resil_pool_event(
         return EMPTY;
     };
     let found = book.event(index);
-    *back = Handle::of(book);
+    *back = PoolHandle::of(book);
     let Some(found) = found else {
         return 1;
     };
@@ -336,6 +345,6 @@ pub extern "C" fn resil_pool_event(
 
 /// Frees a pool, with all that is in it. For an empty handle it does nothing.
 #[unsafe(no_mangle)]
-pub extern "C" fn resil_pool_free(handle: Handle) {
+pub extern "C" fn resil_pool_free(handle: PoolHandle) {
     drop(handle.into_book());
 }

@@ -12,13 +12,13 @@ use std::marker::Model;
 /// It points to bytes, since C must not know what is there. If a handle is dropped, its pool stays on the heap.
 #[repr(C)]
 #[derive(Drop)]
-pub struct Handle {
+pub struct PoolHandle {
     at: *mut u8,
     alloc: Global,
     ghost value: { Option BookView },
 }
 
-impl Model for Handle {
+impl Model for PoolHandle {
     ghost use Rattle.resil_c.specs.Handles.{handle_owns};
     ghost use Rattle.resil_c.specs.contracts.pool.book.Book.{the_row};
 
@@ -26,14 +26,14 @@ impl Model for Handle {
 }
 
 // A handle may go to another thread, since its pool may, and any thread may free the block.
-unsafe impl Send for Handle {}
+unsafe impl Send for PoolHandle {}
 
-impl Handle {
-    fn of_parts(parts: BoxParts<Book, Global>) -> Handle
+impl PoolHandle {
+    fn of_parts(parts: BoxParts<Book, Global>) -> PoolHandle
         ensures { result.value ≡ Some parts.value }
     {
         let BoxParts { at, alloc } = parts;
-        Handle {
+        PoolHandle {
             at: at.cast::<u8>(),
             alloc,
         }
@@ -43,7 +43,7 @@ impl Handle {
     fn into_parts(self) -> Option<BoxParts<Book, Global>>
         ensures { self.value ≡ option_map (λ parts. parts.value) result }
     {
-        let Handle { at, alloc } = self;
+        let PoolHandle { at, alloc } = self;
         if at.is_null() {
             None
         } else {
@@ -55,10 +55,10 @@ impl Handle {
     }
 
     // The handle of a pool on the heap.
-    pub(crate) fn of(book: Box<Book>) -> Handle
+    pub(crate) fn of(book: Box<Book>) -> PoolHandle
         ensures { result.value ≡ Some book.value }
     {
-        Handle::of_parts(BoxParts::of(book))
+        PoolHandle::of_parts(BoxParts::of(book))
     }
 
     // The pool of a handle, or nothing if it is empty.

@@ -13,7 +13,7 @@ pub(crate) const CLOSED: u8 = 4;
 
 /// Why a pool isn't made.
 #[derive(Clone, Copy, Debug, PartialEq, Eq)]
-pub enum OpenError {
+pub enum BookError {
     /// Out of memory.
     Memory,
     /// The core size isn't from 1 to 1,024.
@@ -26,18 +26,18 @@ pub enum OpenError {
     CallersRange,
 }
 
-impl From<AdmitError> for OpenError {
+impl From<AdmitError> for BookError {
     ghost use Rattle.resil_c.specs.PlainData.{from_rule};
     ghost use Rattle.std.specs.Prelude.{◌≡◌};
 
     ghost from_gives = { λ why error. error ≡ from_rule why };
 
-    fn from(why: AdmitError) -> OpenError {
+    fn from(why: AdmitError) -> BookError {
         match why {
-            AdmitError::CoreOutOfRange => OpenError::CoreRange,
-            AdmitError::MaxOutOfRange => OpenError::MaxRange,
-            AdmitError::QueueOutOfRange => OpenError::QueueRange,
-            _ => OpenError::Memory,
+            AdmitError::CoreOutOfRange => BookError::CoreRange,
+            AdmitError::MaxOutOfRange => BookError::MaxRange,
+            AdmitError::QueueOutOfRange => BookError::QueueRange,
+            _ => BookError::Memory,
         }
     }
 }
@@ -102,15 +102,15 @@ pub struct PoolEvent {
     pub max: u32,
 }
 
-pub(crate) fn open_number(error: OpenError) -> u8
+pub(crate) fn open_number(error: BookError) -> u8
     ensures { result ≡ open_number error }
 {
     match error {
-        OpenError::Memory => 1,
-        OpenError::CoreRange => 2,
-        OpenError::MaxRange => 3,
-        OpenError::QueueRange => 4,
-        OpenError::CallersRange => 5,
+        BookError::Memory => 1,
+        BookError::CoreRange => 2,
+        BookError::MaxRange => 3,
+        BookError::QueueRange => 4,
+        BookError::CallersRange => 5,
     }
 }
 

@@ -5,16 +5,16 @@ use Rattle.resil_c.proofs.Walks.{free_all, look_at, get, get_in, sets, agg, sub,
 use Rattle.resil_c.proofs.Walks.{Stays, stay_dropped, walk_of, Goes-dropped, proved_at, leaves, ◌≡◌, Some, ghosts}
 use Rattle.std.specs.contracts.alloc.Global as heap
 use Rattle.std.proofs.alloc.Global.TheLaws as heap_laws
-use Rattle.resil_c.specs.contracts.pool.book.Book as pool
-use Rattle.resil_c.specs.contracts.pool.handle.Handle as handle
+use Rattle.resil_c.specs.contracts.permit.owned_pass.OwnedPass as pass
+use Rattle.resil_c.specs.contracts.permit.handle.PermitHandle as handle
 use Rattle.resil_c.proofs.Parts.{word, Parts, word_good, parts_tell}
-use Rattle.resil_c.specs.contracts.pool.handle.Handle.of_parts.{ended, clauses}
-use Rattle.resil_c.specs.contracts.pool.handle.Handle.of_parts.Key.{name as #self}
-use Rattle.resil_c.proofs.pool.handle.Handle.of_parts.Statement.{statement}
-use Rattle.resil_c.proofs.pool.handle.Handle.of_parts.Code as code
+use Rattle.resil_c.specs.contracts.permit.handle.PermitHandle.of_parts.{ended, clauses}
+use Rattle.resil_c.specs.contracts.permit.handle.PermitHandle.of_parts.Key.{name as #self}
+use Rattle.resil_c.proofs.permit.handle.PermitHandle.of_parts.Statement.{statement}
+use Rattle.resil_c.proofs.permit.handle.PermitHandle.of_parts.Code as code
 
 abbrev From : RattleType
-From = Parts pool.the_row heap.the_row heap_laws.the_row_laws ghosts
+From = Parts pass.the_row heap.the_row heap_laws.the_row_laws ghosts
 
 abbrev stayed : Stays ended.signature.params ended.kept
 stayed = (stay_dropped (plain (λ _. From)) yes, tt)
@@ -26,8 +26,8 @@ of_parts_spec 𝓤 𝓛 𝓜 𝓡 wired =
     let d = z.0.3.0 in let made : handle.the_row.Denot = record { at = d.at; alloc = d.alloc; value = Some d.value } in
     let Post : Val → SProp 𝓤 = (walk_of 𝓛 ended stayed c).post z in let Run : List Val → SProp 𝓤 = λ ws. WpFn 𝓤 H 𝓣.C 𝓣.Λ fn ws Post in
     qed 𝓛 ((‵ ftrue ⊛ ‵ (owns (types_at ended.signature.params z.0.0) z.0.3 z.0.4)) ∷ raw ((c z.0.0 z.0.3).requires z.1) ∷ []) ∵ split ! $ move ! (1 ∷ []) $ fsplit ! $
-    parts_tell pool.the_row heap.the_row heap_laws.the_row_laws ghosts ! d z.0.4.0 (λ b o h is fits.
-    let w : Val = word b o h in let good = word_good pool.the_row heap.the_row heap_laws.the_row_laws ghosts b o h fits in
+    parts_tell pass.the_row heap.the_row heap_laws.the_row_laws ghosts ! d z.0.4.0 (λ b o h is fits.
+    let w : Val = word b o h in let good = word_good pass.the_row heap.the_row heap_laws.the_row_laws ghosts b o h fits in
     use1 𝓛 (‵ (handle.the_row.own_val made (w ∷ []))) (id⊢ 𝓤 _) $
     suffices ! (Run (w ∷ [])) (subst (λ (us : List Val). ent 𝓤 (Run (w ∷ [])) (Run us)) (sym (λ i. is i ++ [])) (id⊢ 𝓤 (Run (w ∷ [])))) $
     enter ! 𝓣.C 𝓣.Λ fn (w ∷ []) Post $ alloc_all ! (λ l. pass_all ! refl (good, tt) $

@@ -2,7 +2,7 @@
 use denote.Param.Send.{IsSend, owning_send, sendable}
 use Rattle.std.proofs.alloc.Global.TheSendSync as heap
 use Rattle.resil_c.specs.contracts.pool.book.Book as pool
-use Rattle.resil_c.specs.contracts.pool.handle.Handle.{the_row, the_type}
+use Rattle.resil_c.specs.contracts.pool.handle.PoolHandle.{the_row, the_type}
 use Rattle.resil_c.proofs.Handles.{owned_keyless}
 use Rattle.resil_c.proofs.pool.book.Book.TheSendSync as known
 

@@ -2,7 +2,7 @@
 use denote.Param.Send.{IsSend, owning_send, sendable}
 use Rattle.std.proofs.alloc.Global.TheSendSync as heap
 use Rattle.resil_c.specs.contracts.permit.owned_pass.OwnedPass as pass
-use Rattle.resil_c.specs.contracts.permit.handle.Handle.{the_row, the_type}
+use Rattle.resil_c.specs.contracts.permit.handle.PermitHandle.{the_row, the_type}
 use Rattle.resil_c.proofs.Handles.{owned_keyless}
 use Rattle.resil_c.proofs.permit.owned_pass.OwnedPass.TheSendSync as known
 

@@ -6,16 +6,16 @@ use Rattle.resil_c.proofs.Walks.{look_at, get, get_in, sets, sets_last, env, agg
 use Rattle.resil_c.proofs.Walks.{block_ptr, null_ptr, ptr_val, in_a_block, tests_null, lone, types_at, type_at, plain, layout, nothing, Stays, stay_dropped}
 use Rattle.resil_c.proofs.Walks.{walk_of, Goes-dropped, bare, never, fst∗, sem, after, Ptr-Good, Good, Some-of, none_of, proved_at, leaves, Option, None}
 use Rattle.resil_c.proofs.Walks.{Some, ghosts, and_tt}
-use Rattle.resil_c.specs.Book.{BookView}
+use Rattle.resil_permit.specs.Passes.{PassView}
 use Rattle.std.specs.contracts.alloc.Global as heap
 use Rattle.std.proofs.alloc.Global.TheLaws as heap_laws
-use Rattle.resil_c.specs.contracts.pool.book.Book as owner
-use Rattle.resil_c.specs.contracts.pool.handle.Handle as handle
+use Rattle.resil_c.specs.contracts.permit.owned_pass.OwnedPass as owner
+use Rattle.resil_c.specs.contracts.permit.handle.PermitHandle as handle
 use Rattle.resil_c.proofs.Parts.{beside, word, either_of, Parts, block, word_good, null_good, fields_out, parts_in, tested}
-use Rattle.resil_c.specs.contracts.pool.handle.Handle.into_parts.{ended, clauses}
-use Rattle.resil_c.specs.contracts.pool.handle.Handle.into_parts.Key.{name as #self}
-use Rattle.resil_c.proofs.pool.handle.Handle.into_parts.Statement.{statement}
-use Rattle.resil_c.proofs.pool.handle.Handle.into_parts.Code as code
+use Rattle.resil_c.specs.contracts.permit.handle.PermitHandle.into_parts.{ended, clauses}
+use Rattle.resil_c.specs.contracts.permit.handle.PermitHandle.into_parts.Key.{name as #self}
+use Rattle.resil_c.proofs.permit.handle.PermitHandle.into_parts.Statement.{statement}
+use Rattle.resil_c.proofs.permit.handle.PermitHandle.into_parts.Code as code
 
 abbrev To : RattleType
 To = Parts owner.the_row heap.the_row heap_laws.the_row_laws ghosts
@@ -35,7 +35,7 @@ into_parts_spec 𝓤 𝓛 𝓜 𝓡 wired =
     let Post : Val → SProp 𝓤 = (walk_of 𝓛 ended stayed c).post z in let Run : List Val → SProp 𝓤 = λ ws. WpFn 𝓤 H 𝓣.C 𝓣.Λ fn ws Post in
     qed 𝓛 ((‵ ftrue ⊛ ‵ (owns (types_at ended.signature.params z.0.0) z.0.3 z.0.4)) ∷ raw ((c z.0.0 z.0.3).requires z.1) ∷ []) ∵ split ! $ move ! (1 ∷ []) $ fsplit ! $
     either_of d.value
-    (λ none. rewrite ! 0 (λ (o : Option BookView). ‵ (From.own_val (record { at = d.at; alloc = d.alloc; value = o }) vs)) none refl $ fsplit ! $ move ! (1 ∷ []) $ fpick ! (λ null. drop ! $
+    (λ none. rewrite ! 0 (λ (o : Option PassView). ‵ (From.own_val (record { at = d.at; alloc = d.alloc; value = o }) vs)) none refl $ fsplit ! $ move ! (1 ∷ []) $ fpick ! (λ null. drop ! $
     fields_out R Z L ghosts ! d.at d.alloc vs (λ h is fits.
     let w : Val = beside vnull h in let told : vs ≡ w ∷ [] = is ∙ ap (λ (p : Ptr). beside (ptr_val p) h ∷ []) null in let good = null_good R Z L ghosts h fits in
     drop ! $ suffices ! (Run (w ∷ [])) (subst (λ (us : List Val). ent 𝓤 (Run (w ∷ [])) (Run us)) (sym (λ i. told i ++ [])) (id⊢ 𝓤 (Run (w ∷ [])))) $
@@ -49,7 +49,7 @@ into_parts_spec 𝓤 𝓛 𝓜 𝓡 wired =
     -- [what is left of the handle; the clause; no parts; nothing; the tokens]
     returns ! (look_at ! 0 refl) $ free_all ! refl $ keep ! (4 ∷ 0 ∷ 2 ∷ 1 ∷ []) $ by ! (leaves 𝓛 ended stayed c z (live 0 vnil) None (tt, tt) (tt, tt)))
     (λ wrong. absurd wrong)))))
-    (λ x some. rewrite ! 0 (λ (o : Option BookView). ‵ (From.own_val (record { at = d.at; alloc = d.alloc; value = o }) vs)) some refl $ fsplit ! $
+    (λ x some. rewrite ! 0 (λ (o : Option PassView). ‵ (From.own_val (record { at = d.at; alloc = d.alloc; value = o }) vs)) some refl $ fsplit ! $
     fields_out R Z L ghosts ! d.at d.alloc vs (λ h is fits. move ! (1 ∷ []) $
     in_a_block ! d.at (block R Z L ghosts d.alloc x) (fst∗ 𝓤 (never 𝓤) (sem 𝓛 (ghosts.dealloc_token d.alloc (bare (lone R.mir)) null_ptr))) (λ b o lies.
     use1 𝓛 (given (denote.RawPtr.Testable (block_ptr b o)) (‵ (block R Z L ghosts d.alloc x (block_ptr b o)))) (tested 𝓛 R d.alloc (block_ptr b o) x) $ learn ! (λ may.
