@@ -54,8 +54,9 @@ enum Fault<'a> {
     Other(&'static str),
 }
 
-impl fmt::Display for Explained<'_> {
-    fn fmt<W: fmt::Write>(&self, f: &mut fmt::Formatter<W>) -> fmt::Result {
+impl Explained<'_> {
+    // Where the fault is: the line if it is known, the layer, and the table's title.
+    fn write_place<W: fmt::Write>(&self, f: &mut fmt::Formatter<W>) -> fmt::Result {
         match self.line {
             Some(line) => {
                 let number = line.number;
@@ -75,7 +76,11 @@ impl fmt::Display for Explained<'_> {
             let text = ShownBytes(line.text);
             write!(f, ", `{text}`")?;
         }
-        f.write_str(": ")?;
+        f.write_str(": ")
+    }
+
+    // What is wrong there.
+    fn write_fault<W: fmt::Write>(&self, f: &mut fmt::Formatter<W>) -> fmt::Result {
         let key = ShownBytes(self.key.as_bytes());
         match self.fault {
             Fault::Unknown(words) => {
@@ -121,6 +126,13 @@ impl fmt::Display for Explained<'_> {
             ),
             Fault::Other(allowed) => f.write_str(allowed),
         }
+    }
+}
+
+impl fmt::Display for Explained<'_> {
+    fn fmt<W: fmt::Write>(&self, f: &mut fmt::Formatter<W>) -> fmt::Result {
+        self.write_place(f)?;
+        self.write_fault(f)
     }
 }
 
