@@ -2,7 +2,7 @@
 
 use crate::place::{Line, NameList};
 use csv::{ByteRecord, ReaderBuilder};
-use resil_heads::forms::{Body, Form, Row};
+use resil_heads::forms::{Body, Form, RowForm};
 use resil_heads::subject::Subject;
 use resil_input::csv_rows::has_fields;
 use std::alloc::Global;
@@ -12,20 +12,20 @@ use std::fmt;
 #[derive(Clone, Copy)]
 pub(crate) enum RowFault {
     /// It has this many fields, not as many as this header; and the row that its first field names, if it names one.
-    Width(usize, &'static [&'static str], Option<Row>),
+    Width(usize, &'static [&'static str], Option<RowForm>),
     /// It is a resize, and that needs this header.
     Resize(&'static [&'static str]),
     /// A field, and what it must be.
     Field(&'static str, Form),
     /// The first field, and what it may be.
-    Word(&'static str, &'static [Row]),
+    Word(&'static str, &'static [RowForm]),
 }
 
 // Writes the form of a row under a header: the names of the fields that it uses.
 fn write_row<W: fmt::Write>(
     f: &mut fmt::Formatter<W>,
     header: &[&str],
-    (word, used): Row,
+    (word, used): RowForm,
 ) -> fmt::Result {
     write!(f, "; write `{word}")?;
     for (index, column) in header.iter().enumerate().skip(1) {
@@ -118,7 +118,7 @@ fn start_of(record: &ByteRecord) -> usize {
 }
 
 // The row that a record's first field names, if it names one.
-fn row_of(body: Body, record: &ByteRecord) -> Option<Row> {
+fn row_of(body: Body, record: &ByteRecord) -> Option<RowForm> {
     let word = record.get(0)?;
     let found = body.rows.iter().find(|row| row.0.as_bytes() == word);
     found.copied()

@@ -17,7 +17,7 @@ use Rattle.resil_heads.specs.declared.error.HeadError.{HeadError}
 use Rattle.resil_heads.specs.declared.error.HeadError.TheVariants as error
 use Rattle.resil_heads.specs.declared.pool_head.Moment.{Moment}
 use Rattle.resil_heads.specs.declared.pool_head.PoolHead.{PoolHead}
-use Rattle.resil_heads.specs.declared.pool_head.Recorded.{Recorded}
+use Rattle.resil_heads.specs.declared.pool_head.RecorderHead.{RecorderHead}
 use Rattle.resil_heads.specs.declared.pool_head.Uses.{Uses}
 
 -- the keys of the head of a `run`; the last three are read past
@@ -94,7 +94,7 @@ pub record RecordedView : Type 0 where
   pub owner : List ℕ
   pub began : Option Moment
 
-abbrev pub recorded_view : Recorded → RecordedView
+abbrev pub recorded_view : RecorderHead → RecordedView
 recorded_view r = record { idle_for = r.idle_for; made = r.made; owner = string_bytes r.owner; began = r.began }
 
 -- what a recorder wrote in a table, if it is used

@@ -182,7 +182,7 @@ impl Key {
 }
 
 /// A row by its first field, and the fields that it uses, by their place.
-pub type Row = (&'static str, &'static [usize]);
+pub type RowForm = (&'static str, &'static [usize]);
 
 /// The bodies of a command.
 #[derive(Clone, Copy)]
@@ -192,7 +192,7 @@ pub struct Body {
     /// What each field may be in a row that uses it.
     pub forms: &'static [Form],
     /// The rows, or none if there is one kind of row, which uses the first two fields. Fields beyond the header are ignored.
-    pub rows: &'static [Row],
+    pub rows: &'static [RowForm],
     /// Whether there is a shorter header too, without the last row and the last two fields, which are those of a resize.
     pub has_resizes: bool,
 }

@@ -89,7 +89,7 @@ pub struct Moment {
 
 /// What a recorder wrote in a head.
 #[derive(Drop)]
-pub struct Recorded {
+pub struct RecorderHead {
     /// After how many microseconds an idle worker may end, if the head says that.
     pub idle_for: Option<u64>,
     /// How many of the first events recreate the state in which the file begins. This may be more than there are events.
@@ -108,7 +108,7 @@ pub struct PoolHead {
     /// Its name, empty if it has none.
     pub name: String,
     /// What its recorder wrote.
-    pub recorded: Recorded,
+    pub recorded: RecorderHead,
     /// What of its history is drawn.
     pub drawing: Drawing,
 }
@@ -205,14 +205,14 @@ fn began_at(is_used: bool, table: &Table) -> Result<Option<Moment>, HeadFault>
 }
 
 // What a recorder wrote in a table, if it is used. Errors: `BadValue`, `Memory`.
-fn parse_recorded(alloc: Global, uses: Uses, table: &Table) -> Result<Recorded, HeadFault>
+fn parse_recorded(alloc: Global, uses: Uses, table: &Table) -> Result<RecorderHead, HeadFault>
     ensures { GivesBy recorded_view result (parse_recorded uses (table_view table.now)) }
 {
     let idle_for = idle_for_at(uses.idle_for, table)?;
     let made = made_at(uses.made, table)?;
     let owner = owner_at(alloc, uses.owner, table)?;
     let began = began_at(uses.began, table)?;
-    Ok(Recorded {
+    Ok(RecorderHead {
         idle_for,
         made,
         owner,

@@ -11,11 +11,11 @@ use Rattle.resil_look.specs.declared.look.LookRequest.TheVariants.{Simulate}
 use Rattle.resil_simulate.specs.Command.{IsSimulateRefusal, text_of}
 use Rattle.resil_simulate.specs.declared.command.LoadView.TheVariants as load_view
 use Rattle.resil_view.specs.Command.{IsViewRefusal, IsViewText}
-use Rattle.resil_view.specs.declared.command.View.{View}
-use Rattle.resil_view.specs.declared.command.View.TheVariants.{Judge, Stats, Timeline}
+use Rattle.resil_view.specs.declared.command.HistoryView.{HistoryView}
+use Rattle.resil_view.specs.declared.command.HistoryView.TheVariants.{Judge, Stats, Timeline}
 
 -- the view that a word asks for
-abbrev pub view_named : List ℕ → Option View
+abbrev pub view_named : List ℕ → Option HistoryView
 view_named word = if is_same word (codes "judge") then Some Judge else if is_same word (codes "stats") then Some Stats else if is_same word (codes "timeline") then Some Timeline else None
 
 -- what a single word asks for

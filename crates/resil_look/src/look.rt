@@ -15,21 +15,15 @@ use resil_heads::length::is_too_long;
 use resil_heads::{CommandError, made_output, too_long_output};
 use resil_input::io::{Input, InputReader, OutputWriter, ReadError, read_up_to};
 use resil_input::output::{Output, write_output};
-use resil_simulate::command::{self, LoadView, Progress};
-use resil_view::{View, view_text};
+use resil_simulate::command::{self, LoadView, MAX_LOAD_LEN, Progress};
+use resil_view::{HistoryView, MAX_HISTORY_LEN, view_text};
 use std::alloc::Global;
-
-/// The maximum length of a history, in bytes: 16 mebibytes.
-const MAX_HISTORY_LEN: usize = 16_777_216;
-
-/// The maximum length of a load, in bytes: 4 mebibytes.
-const MAX_LOAD_LEN: usize = 4_194_304;
 
 /// What the arguments ask for.
 #[derive(Clone, Copy, Debug, PartialEq, Eq)]
 pub(crate) enum LookRequest {
     /// A view of a history.
-    View(View),
+    View(HistoryView),
     /// The outcome of a load.
     Simulate(LoadView),
 }
@@ -59,15 +53,15 @@ fn request_named(word: &str) -> Option<LookRequest>
 }
 
 /// The view that a word asks for.
-pub(crate) fn view_named(word: &str) -> Option<View>
+pub(crate) fn view_named(word: &str) -> Option<HistoryView>
     ensures { result ≡ view_named word.now }
 {
     if word == "judge" {
-        Some(View::Judge)
+        Some(HistoryView::Judge)
     } else if word == "stats" {
-        Some(View::Stats)
+        Some(HistoryView::Stats)
     } else if word == "timeline" {
-        Some(View::Timeline)
+        Some(HistoryView::Timeline)
     } else {
         None
     }

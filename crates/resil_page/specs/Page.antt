@@ -15,7 +15,7 @@ use Rattle.resil_replay.specs.Replay.{IsReplayText, IsReplayRefusal}
 use Rattle.resil_simulate.specs.Command.{IsSimulateRefusal, text_of}
 use Rattle.resil_simulate.specs.declared.command.LoadView.TheVariants.{Numbers, History}
 use Rattle.resil_view.specs.Command.{IsViewRefusal, IsViewText}
-use Rattle.resil_view.specs.declared.command.View.TheVariants.{Judge, Stats, Timeline}
+use Rattle.resil_view.specs.declared.command.HistoryView.TheVariants.{Judge, Stats, Timeline}
 
 -- the command of a number
 abbrev pub command_of : ℕ → Option Command

@@ -10,15 +10,9 @@ use resil_heads::{CommandError, made_output, too_long_output};
 use resil_input::io::MAX_INPUT_LEN;
 use resil_input::output::Output;
 use resil_replay::{audit, replay};
-use resil_simulate::command::{self, LoadView, Untold};
-use resil_view::{View, view_text};
+use resil_simulate::command::{self, LoadView, MAX_LOAD_LEN, Untold};
+use resil_view::{HistoryView, MAX_HISTORY_LEN, view_text};
 use std::alloc::Global;
-
-/// The greatest length of a history, in bytes: 16 mebibytes.
-const MAX_HISTORY_LEN: usize = 16_777_216;
-
-/// The greatest length of a load, in bytes: 4 mebibytes.
-const MAX_LOAD_LEN: usize = 4_194_304;
 
 /// A command of one thread, or what the page needs of a head.
 #[derive(Clone, Copy, Debug, PartialEq, Eq)]
@@ -28,7 +22,7 @@ pub(crate) enum Command {
     /// `audit`.
     Audit,
     /// `judge`, `stats` or `timeline`.
-    View(View),
+    View(HistoryView),
     /// `simulate`.
     Simulate(LoadView),
     /// What the head of an input says.
@@ -42,9 +36,9 @@ pub(crate) fn command_of(number: u8) -> Option<Command>
     match number {
         0 => Some(Command::Replay),
         1 => Some(Command::Audit),
-        2 => Some(Command::View(View::Judge)),
-        3 => Some(Command::View(View::Stats)),
-        4 => Some(Command::View(View::Timeline)),
+        2 => Some(Command::View(HistoryView::Judge)),
+        3 => Some(Command::View(HistoryView::Stats)),
+        4 => Some(Command::View(HistoryView::Timeline)),
         5 => Some(Command::Simulate(LoadView::Numbers)),
         6 => Some(Command::Simulate(LoadView::History)),
         7 => Some(Command::Head(HeadOf::History)),
@@ -53,7 +47,7 @@ pub(crate) fn command_of(number: u8) -> Option<Command>
     }
 }
 
-/// The greatest length of an input of a command, in bytes: that of the program. A head is taken with an input as long as the command that reads
+/// The maximum length of an input of a command, in bytes: that of the program. A head is taken with an input as long as the command that reads
 /// such heads takes.
 pub(crate) fn limit_of(command: Command) -> usize
     ensures { result ≡ limit_of command }

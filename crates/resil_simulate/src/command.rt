@@ -34,6 +34,9 @@ impl Progress for Untold {
     fn done(&mut self, _count: usize, _of: usize) {}
 }
 
+/// The maximum length of an input with a load, in bytes: 4 mebibytes.
+pub const MAX_LOAD_LEN: usize = 4_194_304;
+
 /// What is written of a load.
 #[derive(Clone, Copy, Debug, PartialEq, Eq)]
 pub enum LoadView {

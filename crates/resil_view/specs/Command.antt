@@ -11,8 +11,8 @@ use Rattle.resil_stats.specs.declared.window.Extent.{Extent}
 use Rattle.resil_view.specs.Judge.{AnyEvents, IsAnyBody, IsJudgeRefusal, IsJudgeText, IsJudgment, IsPoolRefusal}
 use Rattle.resil_view.specs.Numbers.{IsStatsRefusal, IsStatsText, jdk_events}
 use Rattle.resil_view.specs.Read.{IsReadFrom, AreRead, AreInOrder}
-use Rattle.resil_view.specs.declared.command.View.{View}
-use Rattle.resil_view.specs.declared.command.View.TheVariants as view
+use Rattle.resil_view.specs.declared.command.HistoryView.{HistoryView}
+use Rattle.resil_view.specs.declared.command.HistoryView.TheVariants as view
 
 -- what is used of the head of a history that is drawn: when the first event was, and what is to be drawn
 abbrev pub drawn_uses : Uses
@@ -32,7 +32,7 @@ IsTimelineText input text = (said : PoolHeadView) × (events : AnyEvents) × (ti
     × IsReadFrom (pool_head_of drawn_uses) IsAnyBody input said events times results × AreRead results × AreInOrder times × IsPictureText (extent_of said.drawing) said.name said.limits events times text
 
 -- the text of a view of the history that is read of the input: its verdict, its numbers, or its chart with its name
-abbrev pub IsViewText : View → List ℕ → List ℕ → Type 0
+abbrev pub IsViewText : HistoryView → List ℕ → List ℕ → Type 0
 IsViewText view.Judge = IsJudgeText
 IsViewText view.Stats = IsStatsText
 IsViewText view.Timeline = IsTimelineText
@@ -42,7 +42,7 @@ abbrev pub IsShownRefusal : List ℕ → InputRefusal → Type 0
 IsShownRefusal = IsPoolRefusal drawn_uses
 
 -- a refusal of a view
-abbrev pub IsViewRefusal : View → List ℕ → InputRefusal → Type 0
+abbrev pub IsViewRefusal : HistoryView → List ℕ → InputRefusal → Type 0
 IsViewRefusal view.Judge = IsJudgeRefusal
 IsViewRefusal view.Stats = IsStatsRefusal
 IsViewRefusal view.Timeline = IsShownRefusal

@@ -14,9 +14,12 @@ use crate::numbers::numbers_text;
 use resil_heads::CommandError;
 use std::alloc::Global;
 
+/// The maximum length of an input with a history, in bytes: 16 mebibytes.
+pub const MAX_HISTORY_LEN: usize = 16_777_216;
+
 /// What the arguments ask for.
 #[derive(Clone, Copy, Debug, PartialEq, Eq)]
-pub enum View {
+pub enum HistoryView {
     /// `judge`: say whether a history is legal.
     Judge,
     /// `stats`: count the events of a history, and write its numbers.
@@ -32,12 +35,12 @@ pub enum View {
 /// In this order: `Refused` as `NoBody`; as `Head`; as `BadHeader` or `BadRow`, as `audit` refuses a history without times; as
 /// `BadResult` if a result can't be read; as `Load` for `TimeGoesBack`; of `stats` as `Head` for `BadValue` if by the head more
 /// events restate a state than there are. `Memory` may come at any step.
-pub fn view_text(alloc: Global, view: View, input: &[u8]) -> Result<Vec<u8>, CommandError>
+pub fn view_text(alloc: Global, view: HistoryView, input: &[u8]) -> Result<Vec<u8>, CommandError>
     ensures { MatchResult result (λ text. IsViewText view input.now text.items) (IsError (IsViewRefusal view input.now)) }
 {
     match view {
-        View::Judge => judge_text(alloc, input),
-        View::Stats => numbers_text(alloc, input),
-        View::Timeline => drawn_text(alloc, input),
+        HistoryView::Judge => judge_text(alloc, input),
+        HistoryView::Stats => numbers_text(alloc, input),
+        HistoryView::Timeline => drawn_text(alloc, input),
     }
 }

@@ -11,6 +11,6 @@ mod numbers;
 mod read;
 mod subject;
 
-pub use command::{View, view_text};
+pub use command::{HistoryView, MAX_HISTORY_LEN, view_text};
 pub use drawn::DRAWN_USES;
 pub use judge::judges_as_audit;

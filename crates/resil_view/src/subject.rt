@@ -1,6 +1,6 @@
 //! What a view of a history says of its inputs to the code that explains what is wrong with one.
 
-use crate::command::View;
+use crate::command::HistoryView;
 use crate::drawn::DRAWN_USES;
 use crate::judge::{AnyHistory, Events, own_limits, read_any};
 use crate::numbers::USES;
@@ -28,16 +28,16 @@ fn fault_of_numbers(alloc: Global, head: &[u8]) -> HeadFault {
     }
 }
 
-impl Subject for View {
+impl Subject for HistoryView {
     fn keys(self) -> &'static [Key] {
         POOL_KEYS
     }
 
     fn fault_in(self, alloc: Global, head: &[u8]) -> Option<HeadFault> {
         match self {
-            View::Judge => read_pool_head(alloc, Uses::NONE, head).err(),
-            View::Stats => Some(fault_of_numbers(alloc, head)),
-            View::Timeline => read_pool_head(alloc, DRAWN_USES, head).err(),
+            HistoryView::Judge => read_pool_head(alloc, Uses::NONE, head).err(),
+            HistoryView::Stats => Some(fault_of_numbers(alloc, head)),
+            HistoryView::Timeline => read_pool_head(alloc, DRAWN_USES, head).err(),
         }
     }
 
