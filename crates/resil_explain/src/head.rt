@@ -55,7 +55,7 @@ enum Fault<'a> {
 }
 
 impl Explained<'_> {
-    // Where the fault is: the line if it is known, the layer, and the table's title.
+    // The place of the fault: the line if it is known, the layer, and the title of the table.
     fn write_place<W: fmt::Write>(&self, f: &mut fmt::Formatter<W>) -> fmt::Result {
         match self.line {
             Some(line) => {
