@@ -1,5 +1,5 @@
 -- A pool before all else, and one in which nothing is due any more.
-use Rattle.std.proofs.Common.{inl, inr, ◌⊎◌, ◌≡◌, ◌≤◌, ◌<◌, ◌+◌, ◌^◌, ◌==◌, ◌∷◌, [], ◌++◌, ◌∙◌, ℕ, zero, suc, Bool, true, false, not, if◌then◌else◌, List, Option, Some, None, filter, is_some, length, map, max, option_map, option_to_list, slice_get, refl, sym, ap, subst, arith, append-nil}
+use Rattle.std.proofs.Common.{inl, inr, ◌⊎◌, ◌≡◌, ◌≤◌, ◌<◌, ◌+◌, ◌*◌, ◌^◌, ◌==◌, ◌∷◌, [], ◌++◌, ◌∙◌, ℕ, zero, suc, Bool, true, false, not, if◌then◌else◌, List, Option, Some, None, filter, is_some, length, map, max, option_map, option_to_list, slice_get, refl, sym, ap, subst, arith, append-nil}
 use Rattle.std.specs.List.{cons_option}
 use Rattle.std.specs.Option.{IfSome, option_map_or}
 use Rattle.std.proofs.lemmas.Grind.{common_steps}
@@ -14,8 +14,8 @@ use Rattle.resil_jdk.specs.Timed.{events_in}
 use Rattle.resil_jdk.specs.declared.timed.TimedJdkEvent.{TimedJdkEvent}
 use Rattle.resil_virtual.specs.Load.{IsLoad}
 use Rattle.resil_virtual.specs.Due.{end_at, ends_due, ends_of, finishes, front, has_spare, idle_after, just_finished, looks_due, looks_of, next_due, own_takes, submission, submissions_of, take_at}
-use Rattle.resil_virtual.specs.Simulated.{IsSimulated, opening}
-use Rattle.resil_virtual.specs.Pool.{AreParts, AreSound, ids_to_come, job_of, kept, own, staying, submitted_end, submitted_run}
+use Rattle.resil_virtual.specs.Simulated.{IsSimulated, history_after, opening}
+use Rattle.resil_virtual.specs.Pool.{AreParts, AreSound, ids_to_come, job_of, kept, left, own, staying, submitted_end, submitted_run}
 use Rattle.resil_virtual.specs.declared.arrival.Arrival.{Arrival}
 use Rattle.resil_virtual.specs.declared.idle.Idle.{Idle}
 use Rattle.resil_virtual.specs.declared.virtual_pool.VirtualPool.{VirtualPool}
@@ -134,6 +134,13 @@ module _ (pool : VirtualPool) (arrivals : List Arrival) (next : ℕ) (h : List T
     few = few;
   }
 
+-- ---- What has happened once the next event has.
+
+pub told : (p q : VirtualPool) (a b : List Arrival) (m n : ℕ) (t : TimedJdkEvent) → q ≡ p → b ≡ a → n ≡ m → next_due p a (history_after p a m) ≡ Some t → history_after q b (n + 1) ≡ history_after p a m ++ t ∷ []
+told p q a b m n t plan load steps is =
+    let one : n + 1 ≡ suc m = omega (arith, steps) in
+    rw (plan, load, one) (ap (λ (o : Option TimedJdkEvent). history_after p a m ++ option_to_list o) is)
+
 -- ---- The opening.
 
 pub opened-parts : (pool : VirtualPool) (arrivals : List Arrival) → IsLoad pool.idle_for pool.wakes arrivals → AreJdkLimits pool.limits → pool.idle_for < 2 ^ 64 → AreParts pool arrivals 0 0 0 false [] [] [] (opening pool)
@@ -200,3 +207,10 @@ opened-parts pool arrivals load sizes fits = nothing pool.time_out refl (opening
       jobs_are = refl;
       idle_are = refl;
     })
+
+pub opened-left : (pool : VirtualPool) (arrivals : List Arrival) → left pool arrivals 0 (opening pool) ≤ 5 * length arrivals
+opened-left pool arrivals = go pool.time_out refl
+  where
+    go : (b : Bool) → pool.time_out ≡ b → left pool arrivals 0 (opening pool) ≤ 5 * length arrivals
+    go true is = rw is (omega arith)
+    go false is = rw is (omega arith)

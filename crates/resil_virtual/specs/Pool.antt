@@ -15,11 +15,11 @@ use Rattle.resil_jdk.specs.Timed.{events_in, times_in}
 use Rattle.resil_jdk.specs.declared.timed.TimedJdkEvent.{TimedJdkEvent}
 use Rattle.resil_virtual.specs.Load.{IsLoad, earliest_ends_of, latest, runs_of}
 use Rattle.resil_virtual.specs.Due.{earliest_end_of, ends_at, finishes, idle_after, just_finished, last_at, looks_at, looks_of, next_due, none_waits, submissions_at, submissions_of, takes_of}
-use Rattle.resil_virtual.specs.Simulated.{opening}
+use Rattle.resil_virtual.specs.Simulated.{history_after, opening}
 use Rattle.resil_virtual.specs.declared.arrival.Arrival.{Arrival}
 use Rattle.resil_virtual.specs.declared.due.RunningJob.{RunningJob}
 use Rattle.resil_virtual.specs.declared.idle.Idle.{Idle}
-use Rattle.resil_virtual.specs.declared.pool.RunningPool.{RunningPool}
+use Rattle.resil_virtual.specs.declared.pool.Simulation.{Simulation}
 use Rattle.resil_virtual.specs.declared.virtual_pool.VirtualPool.{VirtualPool}
 
 -- whether a worker looks, or may end, at a time
@@ -135,15 +135,30 @@ pub record AreParts (pool : VirtualPool) (arrivals : List Arrival) (next workers
   pub jobs_are : map finish_at jobs ≡ finishes arrivals history
   pub idle_are : idle ≡ idle_after pool history
 
-abbrev pub IsPool : RunningPool → Type 0
-IsPool s = AreParts s.plan s.arrivals.now s.next s.workers s.time s.own_look s.queue.items s.running.items s.idle.items s.history.items
+-- What others see of a simulation: its pool, its load, and what has happened so far, with the opening.
+abbrev pub plan_of : Simulation → VirtualPool
+plan_of s = s.plan
+
+abbrev pub arrivals_of : Simulation → List Arrival
+arrivals_of s = s.arrivals.now
+
+abbrev pub history_of : Simulation → List TimedJdkEvent
+history_of s = history_after s.plan s.arrivals.now s.steps
+
+abbrev pub HasParts : Simulation → List TimedJdkEvent → Type 0
+HasParts s history = AreParts s.plan s.arrivals.now s.next s.workers s.time s.own_look s.queue.items s.running.items s.idle.items history
 
 -- how much is left to do, by a number that each event lowers
 abbrev pub left : VirtualPool → List Arrival → ℕ → List TimedJdkEvent → ℕ
 left pool arrivals next history = 5 * (length arrivals - next) + 3 * length (waiting (events_in history)) + 2 * length (running (events_in history)) + length (idle_after pool history)
 
-abbrev pub left_in : RunningPool → ℕ
-left_in s = left s.plan s.arrivals.now s.next s.history.items
+abbrev pub left_in : Simulation → ℕ
+left_in s = left s.plan s.arrivals.now s.next (history_of s)
+
+-- What is true of a simulation between two events: `parts.sound` has what is true of what has happened.
+pub record IsPool (s : Simulation) : Type 0 where
+  pub parts : HasParts s (history_of s)
+  pub counted : s.steps + left_in s ≤ 5 * length s.arrivals.now
 
 -- a job that begins at a time
 abbrev pub begun_at : ℕ → Arrival → RunningJob
@@ -162,5 +177,5 @@ to_worker Extra job = begun_at job.at job ∷ []
 to_worker _ job = []
 
 -- what is due next in a pool
-abbrev pub due_in : RunningPool → Option TimedJdkEvent
-due_in s = next_due s.plan s.arrivals.now s.history.items
+abbrev pub due_in : Simulation → Option TimedJdkEvent
+due_in s = next_due s.plan s.arrivals.now (history_of s)

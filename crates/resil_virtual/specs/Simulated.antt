@@ -1,5 +1,5 @@
 -- What the history of a load in virtual time is.
-use Rattle.std.specs.Prelude.{◌≡◌, ◌≤◌, ◌++◌, ◌∷◌, [], true, List, Some, None, if◌then◌else◌}
+use Rattle.std.specs.Prelude.{ℕ, zero, suc, ◌≡◌, ◌≤◌, ◌++◌, ◌∷◌, [], true, List, Some, None, option_to_list, if◌then◌else◌}
 use Rattle.resil_rule.specs.Timed.{AreAscending}
 use Rattle.resil_jdk.specs.Admission.{IsLegal}
 use Rattle.resil_jdk.specs.History.{kept_size, running, waiting, workers}
@@ -13,6 +13,11 @@ use Rattle.resil_virtual.specs.declared.virtual_pool.VirtualPool.{VirtualPool}
 -- What is set before all else: that core workers time out, if they do.
 abbrev pub opening : VirtualPool → List TimedJdkEvent
 opening pool = if pool.time_out then record { event = TimeOut true; at = 0 } ∷ [] else []
+
+-- What has happened after some steps: the opening, and then at each step what was due next.
+abbrev pub history_after : VirtualPool → List Arrival → ℕ → List TimedJdkEvent
+history_after pool arrivals zero = opening pool
+history_after pool arrivals (suc steps) = history_after pool arrivals steps ++ option_to_list (next_due pool arrivals (history_after pool arrivals steps))
 
 -- What is due next happens, until nothing is.
 abbrev pub GoesOn : VirtualPool → List Arrival → List TimedJdkEvent → List TimedJdkEvent → Type 0

@@ -1,8 +1,8 @@
 //! A pool in virtual time: what would happen to a load on sizes that nobody has tried.
 //!
 //! A load says when jobs come, and how long each runs. `simulate` runs it by the rule of the JDK's `ThreadPoolExecutor`, without a
-//! thread or a clock, and returns what happens as a history with times. `specs/Due.antt` says what is due next, and
-//! `specs/Simulated.antt` that it happens until nothing is due.
+//! thread or a clock, and returns what happens as a history with times; `Simulation` hands out one event after another, and keeps none.
+//! `specs/Due.antt` says what is due next, and `specs/Simulated.antt` that it happens until nothing is due.
 #![tactic(auto)]
 
 ghost use Rattle.std.specs.Prelude.{IfOk};
@@ -19,7 +19,7 @@ mod virtual_pool;
 
 pub use arrival::Arrival;
 pub use laws::{one_history, same_at_once, worked_loads};
-use pool::RunningPool;
+pub use pool::Simulation;
 use resil_jdk::TimedJdkEvent;
 use std::alloc::{AllocError, Global};
 pub use virtual_pool::VirtualPool;
@@ -50,7 +50,13 @@ pub fn simulate(
     requires { IsLoad pool.now.idle_for pool.now.wakes arrivals.now }
     ensures simulated { IfOk result (λ history. IsSimulated pool.now arrivals.now history.items) }
 {
-    let mut virtual_pool = RunningPool::new(alloc, *pool, arrivals)?;
-    while virtual_pool.step()? {}
-    Ok(virtual_pool.history)
+    let mut history = Vec::new(alloc);
+    if let Some(timed) = pool.opening() {
+        history.push(timed)?;
+    }
+    let mut simulation = Simulation::new(alloc, *pool, arrivals);
+    while let Some(timed) = simulation.next()? {
+        history.push(timed)?;
+    }
+    Ok(history)
 }

@@ -4,14 +4,14 @@
 //! that began first; a look of a woken worker, if a job waits; the submission that comes then; an end of an idle worker, which takes a
 //! job if one waits.
 
-ghost use Rattle.std.specs.Prelude.{◌≡◌, ◌<◌, ◌+◌, ◌^◌, ◌++◌, ◌==◌, ◌∷◌, [], IfOk, None as nothing, OnOk, Some, length, map, option_map, slice_get, if◌then◌else◌};
-ghost use Rattle.std.specs.Bool.{OnTrue, OnFalse};
+ghost use Rattle.std.specs.Prelude.{◌≡◌, ◌<◌, ◌+◌, ◌^◌, ◌++◌, ◌==◌, ◌∷◌, [], IfNone, IfOk, IfSome, None as nothing, OnOk, Some, length, map, option_map, slice_get, if◌then◌else◌};
 ghost use Rattle.std.specs.Option.{option_map_or};
 ghost use Rattle.resil_jdk.specs.RuleView.{begins};
 ghost use Rattle.resil_jdk.specs.Timed.{events_in};
 ghost use Rattle.resil_virtual.specs.Load.{IsLoad};
-ghost use Rattle.resil_virtual.specs.Due.{earliest, end_at, end_from, ends_due, finishes, has_spare, idle_by, is_finish, looks_due, own_takes, sooner, submissions_due, take_at};
-ghost use Rattle.resil_virtual.specs.Pool.{IsPool, due_in, left_in, reply_by, to_queue, to_worker};
+ghost use Rattle.resil_virtual.specs.Due.{earliest, end_at, end_from, ends_due, finishes, has_spare, idle_by, looks_due, own_takes, sooner, submissions_due, take_at};
+ghost use Rattle.resil_virtual.specs.Pool.{HasParts, IsPool, arrivals_of, due_in, history_of, left, left_in, plan_of, reply_by, to_queue, to_worker};
+ghost use Rattle.resil_virtual.specs.Simulated.{IsSimulated, opening};
 
 use crate::arrival::Arrival;
 use crate::due::sooner;
@@ -23,9 +23,20 @@ use resil_rule::Id;
 use std::alloc::{AllocError, Global};
 use std::collections::VecDeque;
 
-/// A pool in virtual time.
+/// A load that a pool runs, one event after another. It keeps what the pool needs to go on, and none of the events.
+///
+/// ```
+/// let limits = JdkLimits::new(1, 1, 1)?;
+/// let plan = VirtualPool { limits, time_out: false, idle_for: 0, wakes: 0 };
+/// let job = Arrival { id: Id { caller: 1, number: 1 }, at: 0, takes: 500, earliest_end: 0 };
+/// let arrivals = [job];
+/// let mut simulation = Simulation::new(alloc, plan, &arrivals);
+/// while let Some(timed) = simulation.next()? {
+///     println!(rt; "{} {:?}", timed.at, timed.event)?;
+/// }
+/// ```
 #[derive(Drop)]
-pub(crate) struct RunningPool<'a> {
+pub struct Simulation<'a> {
     plan: VirtualPool,
     // The load, and how many of its jobs were submitted.
     arrivals: &'a [Arrival],
@@ -41,8 +52,8 @@ pub(crate) struct RunningPool<'a> {
     // The time of the last event, and whether it is a finish, whose worker looks for a job at once.
     time: u64,
     own_look: bool,
-    // What happened.
-    pub(crate) history: Vec<TimedJdkEvent>,
+    // How many events were handed out. With the pool and the load they say what has happened.
+    steps: u128,
 }
 
 // The take of a job at a time, if both are there.
@@ -85,25 +96,16 @@ fn first_event(
     sooner(own, later)
 }
 
-impl<'a> RunningPool<'a> {
-    /// A pool before any job comes. Errors: `AllocError` when out of memory.
-    pub(crate) fn new(
-        alloc: Global,
-        plan: VirtualPool,
-        arrivals: &'a [Arrival],
-    ) -> Result<RunningPool<'a>, AllocError>
+impl<'a> Simulation<'a> {
+    /// A load before its first job comes. What has happened so far is the opening of the pool, `VirtualPool::opening`, which `next` doesn't
+    /// hand out. It doesn't allocate.
+    pub fn new(alloc: Global, plan: VirtualPool, arrivals: &'a [Arrival]) -> Simulation<'a>
         requires { IsLoad plan.idle_for plan.wakes arrivals.now }
-        ensures pool { IfOk result IsPool }
-        ensures load { IfOk result (λ pool. (pool.plan ≡ plan) × (pool.arrivals.now ≡ arrivals.now)) }
+        ensures pool { IsPool result }
+        ensures load { (plan_of result ≡ plan) × (arrivals_of result ≡ arrivals.now) }
+        ensures history { history_of result ≡ opening plan }
     {
-        let mut history = Vec::new(alloc);
-        if plan.time_out {
-            history.push(TimedJdkEvent {
-                event: JdkEvent::TimeOut(true),
-                at: 0,
-            })?;
-        }
-        Ok(RunningPool {
+        Simulation {
             plan,
             arrivals,
             next: 0,
@@ -113,8 +115,8 @@ impl<'a> RunningPool<'a> {
             idle: Vec::new(alloc),
             time: 0,
             own_look: false,
-            history,
-        })
+            steps: 0,
+        }
     }
 
     // The job that waits longest.
@@ -133,8 +135,8 @@ impl<'a> RunningPool<'a> {
 
     // Whether there are more workers than may stay.
     fn has_spare(&self) -> bool
-        requires { IsPool self.now }
-        ensures { result ≡ has_spare self.now.plan (events_in self.now.history.items) }
+        requires { HasParts self.now (history_of self.now) }
+        ensures { result ≡ has_spare self.now.plan (events_in (history_of self.now)) }
     {
         let kept = if self.plan.time_out {
             0
@@ -168,8 +170,8 @@ impl<'a> RunningPool<'a> {
 
     // The take of the worker that has just finished a job.
     fn next_own(&self) -> Option<TimedJdkEvent>
-        requires { IsPool self.now }
-        ensures { result ≡ earliest (λ timed. timed.at) (own_takes self.now.history.items) }
+        requires { HasParts self.now (history_of self.now) }
+        ensures { result ≡ earliest (λ timed. timed.at) (own_takes (history_of self.now)) }
     {
         if !self.own_look {
             return None;
@@ -179,8 +181,8 @@ impl<'a> RunningPool<'a> {
 
     // The finish that comes first.
     fn next_finish(&self) -> Option<TimedJdkEvent>
-        requires { IsPool self.now }
-        ensures { result ≡ earliest (λ timed. timed.at) (finishes self.now.arrivals.now self.now.history.items) }
+        requires { HasParts self.now (history_of self.now) }
+        ensures { result ≡ earliest (λ timed. timed.at) (finishes self.now.arrivals.now (history_of self.now)) }
     {
         match self.running.first() {
             Some(job) => Some(TimedJdkEvent {
@@ -193,8 +195,8 @@ impl<'a> RunningPool<'a> {
 
     // The take of the woken worker that looks first.
     fn next_look(&self) -> Option<TimedJdkEvent>
-        requires { IsPool self.now }
-        ensures { result ≡ earliest (λ timed. timed.at) (looks_due self.now.history.items self.now.idle.items) }
+        requires { HasParts self.now (history_of self.now) }
+        ensures { result ≡ earliest (λ timed. timed.at) (looks_due (history_of self.now) self.now.idle.items) }
     {
         take_at(self.front(), first_look(&self.idle))
     }
@@ -208,8 +210,8 @@ impl<'a> RunningPool<'a> {
 
     // The submission that comes next.
     fn next_submission(&self) -> Option<TimedJdkEvent>
-        requires { IsPool self.now }
-        ensures { result ≡ earliest (λ timed. timed.at) (submissions_due self.now.plan self.now.arrivals.now self.now.history.items) }
+        requires { HasParts self.now (history_of self.now) }
+        ensures { result ≡ earliest (λ timed. timed.at) (submissions_due self.now.plan self.now.arrivals.now (history_of self.now)) }
     {
         match self.next_job() {
             Some(job) => Some(TimedJdkEvent {
@@ -225,8 +227,8 @@ impl<'a> RunningPool<'a> {
 
     // The end that comes first, or the take of that worker if a job waits.
     fn next_end(&self) -> Option<TimedJdkEvent>
-        requires { IsPool self.now }
-        ensures { result ≡ earliest (λ timed. timed.at) (ends_due self.now.plan self.now.history.items self.now.idle.items) }
+        requires { HasParts self.now (history_of self.now) }
+        ensures { result ≡ earliest (λ timed. timed.at) (ends_due self.now.plan (history_of self.now) self.now.idle.items) }
     {
         let front = self.front();
         let first = first_end(&self.idle);
@@ -241,7 +243,7 @@ impl<'a> RunningPool<'a> {
 
     // What happens next.
     fn next_event(&self) -> Option<TimedJdkEvent>
-        requires { IsPool self.now }
+        requires { HasParts self.now (history_of self.now) }
         ensures { result ≡ due_in self.now }
     {
         first_event(
@@ -290,23 +292,13 @@ impl<'a> RunningPool<'a> {
         Ok(())
     }
 
-    // The event has happened. Errors: `AllocError` when out of memory.
-    fn record(&mut self, timed: TimedJdkEvent) -> Result<(), AllocError>
-        ensures { OnOk result ((self.new ≡ record self.old { own_look = is_finish timed.event; time = timed.at; history = self.new.history }) × (self.new.history.items ≡ self.old.history.items ++ timed ∷ [])) }
-    {
-        self.own_look = matches!(timed.event, JdkEvent::Finish(_));
-        self.time = timed.at;
-        self.history.push(timed)?;
-        Ok(())
-    }
-
     // The next job is submitted. Errors: `AllocError` when out of memory.
     fn submit(&mut self, id: Id, reply: JdkReply, at: u64) -> Result<(), AllocError>
-        requires pool { IsPool self.old }
+        requires pool { HasParts self.old (history_of self.old) }
         requires due { due_in self.old ≡ Some (record { event = JdkEvent.Submit id reply; at = at }) }
-        ensures pool { OnOk result (IsPool self.new) }
-        ensures less { OnOk result (left_in self.new < left_in self.old) }
-        ensures load { OnOk result ((self.new.plan ≡ self.old.plan) × (self.new.arrivals.now ≡ self.old.arrivals.now)) }
+        ensures pool { OnOk result (HasParts self.new (history_of self.old ++ (record { event = JdkEvent.Submit id reply; at = at }) ∷ [])) }
+        ensures less { OnOk result (left self.new.plan self.new.arrivals.now self.new.next (history_of self.old ++ (record { event = JdkEvent.Submit id reply; at = at }) ∷ []) < left_in self.old) }
+        ensures load { OnOk result ((self.new.plan ≡ self.old.plan) × (self.new.arrivals.now ≡ self.old.arrivals.now) × (self.new.steps ≡ self.old.steps)) }
     {
         let Some(job) = self.next_job() else {
             return Ok(());
@@ -315,10 +307,9 @@ impl<'a> RunningPool<'a> {
         pass(&mut self.idle, none_waits, job.at);
         self.place(job, reply)?;
         self.next += 1;
-        self.record(TimedJdkEvent {
-            event: JdkEvent::Submit { id: job.id, reply },
-            at: job.at,
-        })
+        self.own_look = false;
+        self.time = job.at;
+        Ok(())
     }
 
     // The job at the front of the queue.
@@ -330,11 +321,11 @@ impl<'a> RunningPool<'a> {
 
     // A worker takes the job at the front of the queue. Errors: `AllocError` when out of memory.
     fn take(&mut self, id: Id, at: u64) -> Result<(), AllocError>
-        requires pool { IsPool self.old }
+        requires pool { HasParts self.old (history_of self.old) }
         requires due { due_in self.old ≡ Some (take_at id at) }
-        ensures pool { OnOk result (IsPool self.new) }
-        ensures less { OnOk result (left_in self.new < left_in self.old) }
-        ensures load { OnOk result ((self.new.plan ≡ self.old.plan) × (self.new.arrivals.now ≡ self.old.arrivals.now)) }
+        ensures pool { OnOk result (HasParts self.new (history_of self.old ++ (take_at id at) ∷ [])) }
+        ensures less { OnOk result (left self.new.plan self.new.arrivals.now self.new.next (history_of self.old ++ (take_at id at) ∷ []) < left_in self.old) }
+        ensures load { OnOk result ((self.new.plan ≡ self.old.plan) × (self.new.arrivals.now ≡ self.old.arrivals.now) × (self.new.steps ≡ self.old.steps)) }
     {
         let Some(job) = self.front_job() else {
             return Ok(());
@@ -343,17 +334,16 @@ impl<'a> RunningPool<'a> {
         remove_taker(&mut self.idle, self.own_look, at);
         self.queue.pop_front();
         self.running.run(job, at)?;
-        self.record(TimedJdkEvent {
-            event: JdkEvent::Take(id),
-            at,
-        })
+        self.own_look = false;
+        self.time = at;
+        Ok(())
     }
 
     // When a worker that falls idle at a time may end, if ever.
     fn end_from(&self, at: u64) -> Option<u64>
-        requires pool { IsPool self.now }
+        requires pool { HasParts self.now (history_of self.now) }
         requires fits { at + self.now.plan.idle_for < 2 ^ 64 }
-        ensures { result ≡ end_from self.now.plan (events_in self.now.history.items) at }
+        ensures { result ≡ end_from self.now.plan (events_in (history_of self.now)) at }
     {
         if self.has_spare() {
             Some(at + self.plan.idle_for)
@@ -364,11 +354,11 @@ impl<'a> RunningPool<'a> {
 
     // A job is finished. Its worker is idle if no job waits. Errors: `AllocError` when out of memory.
     fn finish(&mut self, id: Id, at: u64) -> Result<(), AllocError>
-        requires pool { IsPool self.old }
+        requires pool { HasParts self.old (history_of self.old) }
         requires due { due_in self.old ≡ Some (record { event = JdkEvent.Finish id; at = at }) }
-        ensures pool { OnOk result (IsPool self.new) }
-        ensures less { OnOk result (left_in self.new < left_in self.old) }
-        ensures load { OnOk result ((self.new.plan ≡ self.old.plan) × (self.new.arrivals.now ≡ self.old.arrivals.now)) }
+        ensures pool { OnOk result (HasParts self.new (history_of self.old ++ (record { event = JdkEvent.Finish id; at = at }) ∷ [])) }
+        ensures less { OnOk result (left self.new.plan self.new.arrivals.now self.new.next (history_of self.old ++ (record { event = JdkEvent.Finish id; at = at }) ∷ []) < left_in self.old) }
+        ensures load { OnOk result ((self.new.plan ≡ self.old.plan) × (self.new.arrivals.now ≡ self.old.arrivals.now) × (self.new.steps ≡ self.old.steps)) }
     {
         let none_waits = self.no_job_waits();
         let end = self.end_from(at);
@@ -377,46 +367,65 @@ impl<'a> RunningPool<'a> {
         if none_waits {
             self.idle.push(Idle { end, look: None })?;
         }
-        self.record(TimedJdkEvent {
-            event: JdkEvent::Finish(id),
-            at,
-        })
+        self.own_look = true;
+        self.time = at;
+        Ok(())
     }
 
-    // An idle worker ends. Errors: `AllocError` when out of memory.
-    fn end(&mut self, at: u64) -> Result<(), AllocError>
-        requires pool { IsPool self.old }
+    // An idle worker ends.
+    fn end(&mut self, at: u64)
+        requires pool { HasParts self.old (history_of self.old) }
         requires due { due_in self.old ≡ Some (end_at at) }
-        ensures pool { OnOk result (IsPool self.new) }
-        ensures less { OnOk result (left_in self.new < left_in self.old) }
-        ensures load { OnOk result ((self.new.plan ≡ self.old.plan) × (self.new.arrivals.now ≡ self.old.arrivals.now)) }
+        ensures pool { HasParts self.new (history_of self.old ++ end_at at ∷ []) }
+        ensures less { left self.new.plan self.new.arrivals.now self.new.next (history_of self.old ++ end_at at ∷ []) < left_in self.old }
+        ensures load { (self.new.plan ≡ self.old.plan) × (self.new.arrivals.now ≡ self.old.arrivals.now) × (self.new.steps ≡ self.old.steps) }
     {
         pass(&mut self.idle, true, at);
         remove_first(&mut self.idle, false, at);
         self.workers -= 1;
-        self.record(TimedJdkEvent {
-            event: JdkEvent::IdleEnd,
-            at,
-        })
+        self.own_look = false;
+        self.time = at;
     }
 
-    /// Carries out what happens next, and says whether anything did. Errors: `AllocError` when out of memory.
-    pub(crate) fn step(&mut self) -> Result<bool, AllocError>
-        requires pool { IsPool self.old }
+    // Carries out the event that is due. Errors: `AllocError` when out of memory.
+    fn carry_out(&mut self, timed: TimedJdkEvent) -> Result<(), AllocError>
+        requires pool { HasParts self.old (history_of self.old) }
+        requires due { due_in self.old ≡ Some timed }
+        ensures pool { OnOk result (HasParts self.new (history_of self.old ++ timed ∷ [])) }
+        ensures less { OnOk result (left self.new.plan self.new.arrivals.now self.new.next (history_of self.old ++ timed ∷ []) < left_in self.old) }
+        ensures load { OnOk result ((self.new.plan ≡ self.old.plan) × (self.new.arrivals.now ≡ self.old.arrivals.now) × (self.new.steps ≡ self.old.steps)) }
+    {
+        match timed.event {
+            JdkEvent::Submit { id, reply } => self.submit(id, reply, timed.at),
+            JdkEvent::Take(id) => self.take(id, timed.at),
+            JdkEvent::Finish(id) => self.finish(id, timed.at),
+            _ => {
+                self.end(timed.at);
+                Ok(())
+            }
+        }
+    }
+
+    /// Carries out what happens next, and returns it: the event that follows on `history_of`. `None` when nothing is due any more: then what has
+    /// happened is the history of the load.
+    ///
+    /// # Errors
+    ///
+    /// `AllocError` when out of memory. Nothing is known of the simulation after it.
+    pub fn next(&mut self) -> Result<Option<TimedJdkEvent>, AllocError>
+        requires { IsPool self.old }
         ensures pool { OnOk result (IsPool self.new) }
-        ensures less { IfOk result (λ one. OnTrue one (left_in self.new < left_in self.old)) }
-        ensures none { IfOk result (λ one. OnFalse one (due_in self.new ≡ nothing)) }
-        ensures load { OnOk result ((self.new.plan ≡ self.old.plan) × (self.new.arrivals.now ≡ self.old.arrivals.now)) }
+        ensures load { OnOk result ((plan_of self.new ≡ plan_of self.old) × (arrivals_of self.new ≡ arrivals_of self.old)) }
+        ensures event { IfOk result (λ next. IfSome next (λ timed. history_of self.new ≡ history_of self.old ++ timed ∷ [])) }
+        ensures less { IfOk result (λ next. IfSome next (λ timed. left_in self.new < left_in self.old)) }
+        ensures same { IfOk result (λ next. IfNone next (self.new ≡ self.old)) }
+        ensures end { IfOk result (λ next. IfNone next (IsSimulated (plan_of self.new) (arrivals_of self.new) (history_of self.new))) }
     {
         let Some(timed) = self.next_event() else {
-            return Ok(false);
+            return Ok(None);
         };
-        match timed.event {
-            JdkEvent::Submit { id, reply } => self.submit(id, reply, timed.at)?,
-            JdkEvent::Take(id) => self.take(id, timed.at)?,
-            JdkEvent::Finish(id) => self.finish(id, timed.at)?,
-            _ => self.end(timed.at)?,
-        }
-        Ok(true)
+        self.carry_out(timed)?;
+        self.steps += 1;
+        Ok(Some(timed))
     }
 }

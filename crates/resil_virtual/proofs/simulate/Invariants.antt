@@ -1,12 +1,13 @@
 use Rattle.std.proofs.Common.{◌≡◌}
-use Rattle.resil_virtual.specs.Pool.{IsPool, left_in}
+use Rattle.resil_virtual.specs.Pool.{IsPool, arrivals_of, history_of, left_in, plan_of}
 use Rattle.resil_virtual.proofs.simulate.Given as goal
 
-abbrev pub invariant-loop-virtual_pool : goal.invariant-loop-virtual_pool
-invariant-loop-virtual_pool l = record {
-  pool : IsPool l.virtual_pool;
-  load : (l.virtual_pool.plan ≡ l.pool) × (l.virtual_pool.arrivals.now ≡ l.arrivals);
+abbrev pub invariant-loop-simulation : goal.invariant-loop-simulation
+invariant-loop-simulation l = record {
+  pool : IsPool l.simulation;
+  load : (plan_of l.simulation ≡ l.pool) × (arrivals_of l.simulation ≡ l.arrivals);
+  told : l.history.items ≡ history_of l.simulation;
 }
 
-abbrev pub decreases-loop-virtual_pool : goal.decreases-loop-virtual_pool
-decreases-loop-virtual_pool l = left_in l.virtual_pool
+abbrev pub decreases-loop-simulation : goal.decreases-loop-simulation
+decreases-loop-simulation l = left_in l.simulation

@@ -4,9 +4,10 @@ use Rattle.resil_rule.specs.declared.event.Id.{Id}
 use Rattle.resil_virtual.specs.Due.{earliest, end_at, ends_of, front, has_spare, take_at}
 use Rattle.resil_jdk.specs.Timed.{events_in}
 use Rattle.resil_jdk.specs.declared.timed.TimedJdkEvent.{TimedJdkEvent}
+use Rattle.resil_virtual.specs.Pool.{history_of}
 use Rattle.resil_virtual.proofs.CauseLaws.{at_of}
 use Rattle.resil_virtual.proofs.FirstLaws.{earliest-map}
-use Rattle.resil_virtual.proofs.pool.RunningPool.next_end.Goals as goal
+use Rattle.resil_virtual.proofs.pool.Simulation.next_end.Goals as goal
 
 abbrev Ends : List ℕ → Option Id → Bool → Option TimedJdkEvent
 Ends times o spare = earliest at_of (option_map_or (λ id. map (take_at id) times) o (if spare then map end_at times else []))
@@ -27,13 +28,13 @@ returns-then-is_some c =
     let times = rw c.deref.ensures.value at c.first_end-first.ensures in
     c.take_at.ensures ∙ ap (λ (at : Option ℕ). option_map_or (λ id. option_map (take_at id) at) c.front-front.result None) times
     ∙ ap (λ (o : Option Id). option_map_or (λ id. option_map (take_at id) (earliest (λ at. at) (ends_of s.idle.items))) o None) ids
-    ∙ last-take (ends_of s.idle.items) (front (events_in s.history.items)) (has_spare s.plan (events_in s.history.items)) (c.if-is_some.ensures ∙ ap (λ (o : Option Id). is_some o) ids)
+    ∙ last-take (ends_of s.idle.items) (front (events_in (history_of s))) (has_spare s.plan (events_in (history_of s))) (c.if-is_some.ensures ∙ ap (λ (o : Option Id). is_some o) ids)
 
 pub returns : goal.returns
 returns c =
     let s = c.args.self.now in
     let ids = c.front-front.ensures ∙ ap (λ (ids : List Id). slice_get ids 0) c.requires.queue_is in
     let times = rw c.deref.ensures.value at c.first_end-first.ensures in
-    let spare : has_spare s.plan (events_in s.history.items) ≡ true = search rules in
+    let spare : has_spare s.plan (events_in (history_of s)) ≡ true = search rules in
     c.end_at.ensures ∙ ap (option_map end_at) times
-    ∙ first-end (ends_of s.idle.items) (front (events_in s.history.items)) (has_spare s.plan (events_in s.history.items)) (c.if-is_some.ensures ∙ ap (λ (o : Option Id). is_some o) ids) spare
+    ∙ first-end (ends_of s.idle.items) (front (events_in (history_of s))) (has_spare s.plan (events_in (history_of s))) (c.if-is_some.ensures ∙ ap (λ (o : Option Id). is_some o) ids) spare

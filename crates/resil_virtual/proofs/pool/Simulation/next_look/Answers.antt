@@ -3,9 +3,10 @@ use Rattle.std.specs.Option.{option_map_or}
 use Rattle.resil_rule.specs.declared.event.Id.{Id}
 use Rattle.resil_virtual.specs.Due.{earliest, front, looks_of, take_at}
 use Rattle.resil_jdk.specs.Timed.{events_in}
+use Rattle.resil_virtual.specs.Pool.{history_of}
 use Rattle.resil_virtual.proofs.CauseLaws.{at_of}
 use Rattle.resil_virtual.proofs.FirstLaws.{earliest-map}
-use Rattle.resil_virtual.proofs.pool.RunningPool.next_look.Goals as goal
+use Rattle.resil_virtual.proofs.pool.Simulation.next_look.Goals as goal
 
 first-take : (times : List ℕ) (o : Option Id) → option_map_or (λ id. option_map (take_at id) (earliest (λ at. at) times)) o None ≡ earliest at_of (option_map_or (λ id. map (take_at id) times) o [])
 first-take times None = refl
@@ -17,4 +18,4 @@ returns c =
     let ids = c.front.ensures ∙ ap (λ (ids : List Id). slice_get ids 0) c.requires.queue_is in
     let times = rw c.deref.ensures.value at c.first_look.ensures in
     c.take_at.ensures ∙ ap (λ (at : Option ℕ). option_map_or (λ id. option_map (take_at id) at) c.front.result None) times
-    ∙ ap (λ (o : Option Id). option_map_or (λ id. option_map (take_at id) (earliest (λ at. at) (looks_of s.idle.items))) o None) ids ∙ first-take (looks_of s.idle.items) (front (events_in s.history.items))
+    ∙ ap (λ (o : Option Id). option_map_or (λ id. option_map (take_at id) (earliest (λ at. at) (looks_of s.idle.items))) o None) ids ∙ first-take (looks_of s.idle.items) (front (events_in (history_of s)))

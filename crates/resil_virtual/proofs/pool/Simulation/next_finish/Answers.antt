@@ -5,7 +5,7 @@ use Rattle.resil_jdk.specs.declared.timed.TimedJdkEvent.{TimedJdkEvent}
 use Rattle.resil_virtual.specs.declared.due.RunningJob.{RunningJob}
 use Rattle.resil_virtual.proofs.CauseLaws.{at_of}
 use Rattle.resil_virtual.proofs.FirstLaws.{earliest-map}
-use Rattle.resil_virtual.proofs.pool.RunningPool.next_finish.Goals as goal
+use Rattle.resil_virtual.proofs.pool.Simulation.next_finish.Goals as goal
 
 first-finish : (jobs : List RunningJob) (finishes : List TimedJdkEvent) → map finish_at jobs ≡ finishes → (o : Option RunningJob) → o ≡ earliest (λ job. job.due) jobs → option_map finish_at o ≡ earliest at_of finishes
 first-finish jobs finishes are o is = ap (option_map finish_at) is ∙ sym (earliest-map finish_at (λ job. job.due) at_of (λ job. refl) jobs) ∙ ap (earliest at_of) are
