@@ -143,7 +143,7 @@ told p q a b m n t plan load steps is =
 
 -- ---- The opening.
 
-pub opened-parts : (pool : VirtualPool) (arrivals : List Arrival) → IsLoad pool.idle_for pool.wakes arrivals → AreJdkLimits pool.limits → pool.idle_for < 2 ^ 64 → AreParts pool arrivals 0 0 0 false [] [] [] (opening pool)
+pub opened-parts : (pool : VirtualPool) (arrivals : List Arrival) → IsLoad pool.idle_for pool.wakes arrivals → AreJdkLimits pool.limits → pool.idle_for < 2 ^ 64 → AreParts pool arrivals 0 0 0 false 0 [] [] [] (opening pool)
 opened-parts pool arrivals load sizes fits = nothing pool.time_out refl (opening pool) refl refl
   where
     low : (a : Option Arrival) → IfSome a (λ a. 0 ≤ max a.at (submitted_end arrivals 0) + submitted_run pool arrivals 0)
@@ -154,7 +154,7 @@ opened-parts pool arrivals load sizes fits = nothing pool.time_out refl (opening
     any None = tt
     any (Some a) = omega arith
 
-    nothing : (b : Bool) → pool.time_out ≡ b → (h : List TimedJdkEvent) → opening pool ≡ h → h ≡ (if b then record { event = TimeOut true; at = 0 } ∷ [] else []) → AreParts pool arrivals 0 0 0 false [] [] [] h
+    nothing : (b : Bool) → pool.time_out ≡ b → (h : List TimedJdkEvent) → opening pool ≡ h → h ≡ (if b then record { event = TimeOut true; at = 0 } ∷ [] else []) → AreParts pool arrivals 0 0 0 false 0 [] [] [] h
     nothing true is h opens are = rw are (record {
       sound = record {
         load = load;
@@ -178,7 +178,7 @@ opened-parts pool arrivals load sizes fits = nothing pool.time_out refl (opening
       own_is = refl;
       queue_is = refl;
       runs_are = λ k d within. absurd (omega (arith, within));
-      jobs_are = refl;
+      jobs_are = record { begun = []; same = λ of_job. refl; ordered = omega arith; finishes_are = refl };
       idle_are = refl;
     })
     nothing false is h opens are = rw are (record {
@@ -204,7 +204,7 @@ opened-parts pool arrivals load sizes fits = nothing pool.time_out refl (opening
       own_is = refl;
       queue_is = refl;
       runs_are = λ k d within. absurd (omega (arith, within));
-      jobs_are = refl;
+      jobs_are = record { begun = []; same = λ of_job. refl; ordered = omega arith; finishes_are = refl };
       idle_are = refl;
     })
 

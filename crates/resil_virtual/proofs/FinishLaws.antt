@@ -103,7 +103,7 @@ module _ (pool : VirtualPool) (arrivals : List Arrival) (next : ℕ) (h : List T
     own2 = rw (just-is false ev (Finish id), none2) refl
 
     -- its finish is gone
-    once : times id (running ev) ≤ 1
+    pub once : times id (running ev) ≤ 1
     once = let all = jobs-conserved pool.limits ev was.legal id in omega (arith, all.sum, all.once)
 
     jobs2 : (x : Id) → times x (ids_to_come arrivals (h ++ t ∷ [])) ≡ times x (running ev2)

@@ -15,6 +15,11 @@ module _ {X : Type 0} (at : X → ℕ) where
   some-sooner : (x y : X) → ((at y < at x) × (sooner at (Some x) (Some y) ≡ Some y)) ⊎ ((at x ≤ at y) × (sooner at (Some x) (Some y) ≡ Some x))
   some-sooner x y = elim (lt-cases (at y) (at x)) [ inl is ↦ inl (is.1, rw is.0 refl) | inr is ↦ inr (is.1, rw is.0 refl) ]
 
+  pub sooner-one : (a b : Option X) (t : X) → sooner at a b ≡ Some t → (a ≡ Some t) ⊎ (b ≡ Some t)
+  sooner-one None b t is = inr is
+  sooner-one (Some x) None t is = inl is
+  sooner-one (Some x) (Some y) t is = elim (some-sooner x y) [ inl yx ↦ inr (sym yx.1 ∙ is) | inr xy ↦ inl (sym xy.1 ∙ is) ]
+
   pub none-other : (a : Option X) → sooner at a None ≡ a
   none-other None = refl
   none-other (Some x) = refl
@@ -110,8 +115,3 @@ times-more Y time ys i d within first next was is =
     one : (o : Option ℕ) → earliest (λ at. at) (cons_option o []) ≡ o
     one None = refl
     one (Some at) = refl
-
--- the first so far and the next one
-pub first-more : (X : Type 0) (at : X → ℕ) (xs : List X) (i : ℕ) (d : X) → i < length xs → (first : Option X) (best : X) → first ≡ earliest at (take i xs) → Some best ≡ sooner at first (Some (get_or xs i d)) → Some best ≡ earliest at (take (i + 1) xs)
-first-more X at xs i d within first best was is =
-    is ∙ ap (λ (a : Option X). sooner at a (Some (get_or xs i d))) was ∙ sym (ap (earliest at) (take_more xs i d within) ∙ earliest-append at (take i xs) (get_or xs i d ∷ []))

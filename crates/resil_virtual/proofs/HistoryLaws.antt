@@ -16,7 +16,8 @@ use Rattle.resil_rule.specs.Timed.{AreAscending}
 use Rattle.resil_jdk.specs.Timed.{events_in, times_in}
 use Rattle.resil_jdk.specs.declared.timed.TimedJdkEvent.{TimedJdkEvent}
 use Rattle.resil_virtual.specs.declared.arrival.Arrival.{Arrival}
-use Rattle.resil_virtual.specs.declared.due.RunningJob.{RunningJob}
+use Rattle.resil_virtual.specs.Jobs.{id_of}
+use Rattle.resil_virtual.specs.declared.jobs.RunningJob.{RunningJob}
 use Rattle.resil_virtual.specs.Due.{begun_id, finish_from, finish_of, finishes, idle_after, idle_from, idle_next, is_to_come, last_at, next_due, submissions_at, submissions_of, submitted_at}
 use Rattle.resil_virtual.specs.Simulated.{GoesOn, OneHistory, opening}
 use Rattle.resil_virtual.specs.declared.idle.Idle.{Idle}
@@ -134,7 +135,7 @@ filter-mapped : {X Y : Type 0} (f : X → Y) (p : Y → Bool) (xs : List X) → 
 filter-mapped f p [] = refl
 filter-mapped f p (x ∷ xs) = let rest = filter-mapped f p xs in grind (arith, rest, cases_Bool (p (f x)))
 
-pub others-are : (id : Id) (jobs : List RunningJob) → filter (is_of_other id) (map finish_at jobs) ≡ map finish_at (filter (λ job. not (is_same_id id job.id)) jobs)
+pub others-are : (id : Id) (jobs : List RunningJob) → filter (is_of_other id) (map finish_at jobs) ≡ map finish_at (filter (λ job. not (is_same_id id (id_of job))) jobs)
 others-are id jobs = filter-mapped finish_at (is_of_other id) jobs
 
 -- ---- What was due.

@@ -10,6 +10,7 @@ pub mod IdleLaws
 mod ListLaws
 pub mod LoadLaws
 pub mod PoolLaws
+pub mod RunningLaws
 pub mod SoundLaws
 pub mod SubmitLaws
 pub mod TakeLaws

@@ -1,10 +1,11 @@
 -- The parts of a pool after each event.
-use Rattle.std.proofs.Common.{inl, inr, ◌⊎◌, ◌≡◌, ◌≤◌, ◌<◌, ◌+◌, ◌-◌, ◌*◌, ◌^◌, ◌==◌, ◌∷◌, [], ◌++◌, ◌∙◌, ℕ, Bool, true, false, not, if◌then◌else◌, All, List, Option, Some, None, drop, filter, length, map, option_map, option_to_list, slice_get, take, refl, sym, ap, subst, arith, append_assoc, append-nil, length-append}
+use Rattle.std.proofs.Common.{inl, inr, ◌⊎◌, ◌≡◌, ◌≤◌, ◌<◌, ◌+◌, ◌-◌, ◌*◌, ◌^◌, ◌==◌, ◌∷◌, [], ◌++◌, ◌∙◌, ℕ, Bool, true, false, if◌then◌else◌, All, List, Option, Some, None, drop, filter, length, map, option_map, option_to_list, slice_get, take, refl, sym, ap, subst, arith, append_assoc, append-nil, length-append}
 use Rattle.std.specs.List.{list_any}
 use Rattle.std.proofs.lemmas.List.{drop-map, length-map, map-append}
-use Rattle.std.proofs.lemmas.List.Elements.{All-drop, All-push}
+use Rattle.std.proofs.lemmas.List.Elements.{All-cons, All-drop, All-nil, All-push}
 use Rattle.std.proofs.lemmas.Option.{slice_get-map, slice_get_within}
-use Rattle.resil_rule.specs.History.{is_among, is_same_id}
+use Rattle.std.specs.Option.{IfSome, option_map_or}
+use Rattle.resil_rule.specs.History.{is_among, times}
 use Rattle.resil_rule.specs.declared.event.Id.{Id}
 use Rattle.resil_rule.proofs.TimesLaws.{same-length}
 use Rattle.resil_jdk.specs.Admission.{reply_after}
@@ -17,14 +18,16 @@ use Rattle.resil_jdk.specs.declared.event.JdkEvent.TheVariants.{Submit, Take, Fi
 use Rattle.resil_jdk.proofs.WorkerLaws.{workers-within_opening}
 use Rattle.resil_jdk.specs.Timed.{events_in}
 use Rattle.resil_jdk.specs.declared.timed.TimedJdkEvent.{TimedJdkEvent}
-use Rattle.resil_virtual.specs.Due.{earliest, earliest_end_of, end_at, end_from, ends_at, ends_due, fallen, finish_from, finishes, front, has_spare, idle_after, idle_by, idle_next, just_finished, looks_at, looks_due, next_due, none_waits, own_takes, passed, sooner, submission, submissions_due, take_at, takes_of, without_first, without_taker}
-use Rattle.resil_virtual.specs.Pool.{AreParts, HasRun, begun_at, finish_at, ids_to_come, job_of, left, reply_by, to_queue, to_worker}
+use Rattle.resil_virtual.specs.Due.{earliest, earliest_end_of, end_at, end_from, ends_at, ends_due, ends_of, fallen, finish_from, finishes, front, has_spare, idle_after, idle_by, idle_next, is_finish, just_finished, last_at, looks_at, looks_due, looks_of, next_due, none_waits, own_takes, passed, sooner, submission, submissions_at, submissions_due, take_at, takes_of, without_first, without_taker}
+use Rattle.resil_virtual.specs.Pool.{AreInOrder, AreParts, AreRunning, HasRun, finish_at, ids_to_come, job_of, left, reply_by, to_queue, to_worker}
+use Rattle.resil_virtual.specs.Jobs.{IsSoonest, SameJobs, begun_at, id_of}
 use Rattle.resil_virtual.specs.declared.arrival.Arrival.{Arrival}
-use Rattle.resil_virtual.specs.declared.due.RunningJob.{RunningJob}
+use Rattle.resil_virtual.specs.declared.jobs.RunningJob.{RunningJob}
 use Rattle.resil_virtual.specs.declared.idle.Idle.{Idle}
 use Rattle.resil_virtual.specs.declared.virtual_pool.VirtualPool.{VirtualPool}
-use Rattle.resil_virtual.proofs.FirstLaws.{earliest-append}
-use Rattle.resil_virtual.proofs.HistoryLaws.{events-are, finishes-done, finishes-same, idle-pushed, is_of_other, last-is, others-are}
+use Rattle.resil_virtual.proofs.FirstLaws.{among, earliest-append, sooner-one}
+use Rattle.resil_virtual.proofs.RunningLaws.{first-running, running-less, running-many, running-more}
+use Rattle.resil_virtual.proofs.HistoryLaws.{events-are, finishes-done, finishes-same, idle-pushed, last-is}
 use Rattle.resil_virtual.proofs.ListLaws.{all-at}
 use Rattle.resil_virtual.proofs.CauseLaws.{IsReached, at_of, cause, jobs-are, reached, within-bound}
 use Rattle.resil_virtual.proofs.LoadLaws.{all-runs}
@@ -39,8 +42,8 @@ abbrev reply-of : JdkEvent → JdkReply
 reply-of (Submit id answer) = answer
 reply-of _ = Full
 
-module _ (pool : VirtualPool) (arrivals : List Arrival) (next workers_now now : ℕ) (own_look : Bool) (queue : List Arrival) (jobs : List RunningJob) (idle : List Idle) (h : List TimedJdkEvent)
-    (was : AreParts pool arrivals next workers_now now own_look queue jobs idle h) where
+module _ (pool : VirtualPool) (arrivals : List Arrival) (next workers_now now : ℕ) (own_look : Bool) (steps : ℕ) (queue : List Arrival) (jobs : List RunningJob) (idle : List Idle) (h : List TimedJdkEvent)
+    (was : AreParts pool arrivals next workers_now now own_look steps queue jobs idle h) where
   abbrev ev : List JdkEvent
   ev = events_in h
 
@@ -54,7 +57,7 @@ module _ (pool : VirtualPool) (arrivals : List Arrival) (next workers_now now : 
 
   jobs-many : length jobs ≡ length (running ev)
   jobs-many =
-      sym (length-map jobs finish_at) ∙ ap length was.jobs_are ∙ sym (length-map (finishes arrivals h) (λ (f : TimedJdkEvent). job_of f.event)) ∙ same-length (ids_to_come arrivals h) (running ev) was.sound.jobs
+      running-many arrivals steps jobs h was.jobs_are ∙ sym (length-map (finishes arrivals h) (λ (f : TimedJdkEvent). job_of f.event)) ∙ same-length (ids_to_come arrivals h) (running ev) was.sound.jobs
 
   -- the answer to the next submission
   pub reply-now : reply_by pool.limits workers_now (length queue) (length jobs) ≡ reply_after pool.limits ev
@@ -130,9 +133,9 @@ module _ (pool : VirtualPool) (arrivals : List Arrival) (next workers_now now : 
         let within = within-bound pool arrivals next h was.sound t is id take-cause.0 in let run = taken.run2 pool arrivals next h was.sound id at is take-cause.0 take-cause.1 (reached pool arrivals next h was.sound t is) in
         let takes = (front-job job there).1 in let fits = was.sound.in_time.fits in omega (arith, within, run, takes, fits)
 
-    pub taken-parts : (job : Arrival) → slice_get queue 0 ≡ Some job
-        → AreParts pool arrivals next workers_now at false (drop 1 queue) (jobs ++ begun_at at job ∷ []) (without_taker own_look at (map (passed false at) idle)) (h ++ t ∷ [])
-    taken-parts job there =
+    pub taken-parts : (job : Arrival) → slice_get queue 0 ≡ Some job → (jobs2 : List RunningJob) → SameJobs (begun_at at steps job ∷ jobs) jobs2
+        → AreParts pool arrivals next workers_now at false (steps + 1) (drop 1 queue) jobs2 (without_taker own_look at (map (passed false at) idle)) (h ++ t ∷ [])
+    taken-parts job there jobs2 more =
         let r = reached pool arrivals next h was.sound t is in let c = take-cause in let j = front-job job there in
         let w = workers-more pool arrivals next h was.sound t (taken.may pool arrivals next h was.sound id at is c.0 c.1 r) in let before = was.workers_are in
         record {
@@ -142,8 +145,8 @@ module _ (pool : VirtualPool) (arrivals : List Arrival) (next workers_now now : 
           own_is = rw (events-are h t) (sym (just-is false ev (Take id)));
           queue_is = rw (events-are h t) (sym (drop-map (λ (job : Arrival). job.id) 1 queue) ∙ ap (drop 1) was.queue_is ∙ sym (taken.waits2 pool arrivals next h was.sound id at is c.0 c.1 r));
           runs_are = All-drop (HasRun arrivals) 1 queue was.runs_are;
-          jobs_are = map-append finish_at jobs (begun_at at job ∷ []) ∙ ap (λ (fs : List TimedJdkEvent). fs ++ finish_at (begun_at at job) ∷ []) was.jobs_are
-              ∙ ap (λ (f : TimedJdkEvent). finishes arrivals h ++ f ∷ []) (rw (j.0, j.1, j.2) refl) ∙ sym (taken.begun pool arrivals next h was.sound id at is c.0 c.1 r);
+          jobs_are = running-more arrivals steps jobs h was.jobs_are (begun_at at steps job ∷ []) jobs2 (h ++ t ∷ []) (omega arith, omega arith) more
+              (taken.begun pool arrivals next h was.sound id at is c.0 c.1 r ∙ ap (λ (f : TimedJdkEvent). finishes arrivals h ++ f ∷ []) (rw (j.0, j.1, j.2) refl));
           idle_are = ap (λ (b : Bool). without_taker b at (map (passed false at) idle)) was.own_is ∙ ap (λ (w : List Idle). without_taker (just_finished ev) at (map (passed false at) w)) was.idle_are
               ∙ sym (taken.same-idle pool arrivals next h was.sound id at is c.0 c.1 r) ∙ sym (idle-pushed pool h t);
         }
@@ -180,13 +183,79 @@ module _ (pool : VirtualPool) (arrivals : List Arrival) (next workers_now now : 
       ])
     ]
 
+    abbrev IsPlain : TimedJdkEvent → Type 0
+    IsPlain t = is_finish t.event ≡ false
+
+    plain-map : (g : ℕ → TimedJdkEvent) → ((n : ℕ) → is_finish (g n).event ≡ false) → (ns : List ℕ) → All IsPlain (map g ns)
+    plain-map g plain [] = All-nil IsPlain
+    plain-map g plain (n ∷ ns) = All-cons IsPlain (g n) (map g ns) (plain n) (plain-map g plain ns)
+
+    plain-own : (b : Bool) (o : Option Id) → All IsPlain (if b then option_to_list (option_map (λ id. take_at id (last_at h)) o) else [])
+    plain-own true None = All-nil IsPlain
+    plain-own true (Some x) = All-cons IsPlain (take_at x (last_at h)) [] refl (All-nil IsPlain)
+    plain-own false o = All-nil IsPlain
+
+    plain-looks : (o : Option Id) → All IsPlain (option_map_or (λ id. map (take_at id) (looks_of idle)) o [])
+    plain-looks None = All-nil IsPlain
+    plain-looks (Some x) = plain-map (take_at x) (λ n. refl) (looks_of idle)
+
+    plain-job : (o : Option Arrival) → All IsPlain (option_to_list (option_map (submission pool.limits ev) o))
+    plain-job None = All-nil IsPlain
+    plain-job (Some a) = All-cons IsPlain (submission pool.limits ev a) [] refl (All-nil IsPlain)
+
+    plain-ends : (o : Option Id) (b : Bool) → All IsPlain (option_map_or (λ id. map (take_at id) (ends_of idle)) o (if b then map end_at (ends_of idle) else []))
+    plain-ends None true = plain-map end_at (λ n. refl) (ends_of idle)
+    plain-ends None false = All-nil IsPlain
+    plain-ends (Some x) b = plain-map (take_at x) (λ n. refl) (ends_of idle)
+
+    not-plain : (ts : List TimedJdkEvent) → All IsPlain ts → earliest at_of ts ≡ Some f → ⊥
+    not-plain ts all first = cc (among at_of IsPlain ts all f first)
+
+    abbrev first_look : Option TimedJdkEvent
+    first_look = earliest at_of (looks_due h idle)
+
+    abbrev first_job : Option TimedJdkEvent
+    first_job = earliest at_of (submissions_due pool arrivals h)
+
+    abbrev first_end : Option TimedJdkEvent
+    first_end = earliest at_of (ends_due pool h idle)
+
+    -- it is the first finish
+    finish-first : earliest at_of (finishes arrivals h) ≡ Some f
+    finish-first = elim (sooner-one at_of (earliest at_of (own_takes h)) (sooner at_of (earliest at_of (finishes arrivals h)) (sooner at_of first_look (sooner at_of first_job first_end))) f (sym due-is ∙ is)) [
+      | inl first ↦ absurd (not-plain (own_takes h) (plain-own (just_finished ev) (front ev)) first)
+      | inr rest ↦ (elim (sooner-one at_of (earliest at_of (finishes arrivals h)) (sooner at_of first_look (sooner at_of first_job first_end)) f rest) [
+        | inl first ↦ first
+        | inr rest ↦ (elim (sooner-one at_of first_look (sooner at_of first_job first_end) f rest) [
+          | inl first ↦ absurd (not-plain (looks_due h idle) (plain-looks (front ev)) first)
+          | inr rest ↦ (elim (sooner-one at_of first_job first_end f rest) [
+            | inl first ↦ absurd (not-plain (submissions_due pool arrivals h) (plain-job (slice_get arrivals (length (submissions_at h)))) first)
+            | inr first ↦ absurd (not-plain (ends_due pool h idle) (plain-ends (front ev) (has_spare pool ev)) first)
+          ])
+        ])
+      ])
+    ]
+
+    -- the jobs without the one that is finished
+    finished-jobs : (o : Option RunningJob) (jobs2 : List RunningJob) → IsSoonest o jobs → IfSome o (λ job. SameJobs (job ∷ jobs2) jobs) → AreRunning arrivals (steps + 1) jobs2 (h ++ f ∷ [])
+    finished-jobs None jobs2 soon same = absurd (cc (first-running arrivals steps jobs h was.jobs_are None soon ∙ finish-first))
+    finished-jobs (Some x) jobs2 soon same =
+        let first : finish_at x ≡ f = cc (first-running arrivals steps jobs h was.jobs_are (Some x) soon ∙ finish-first) in
+        let most = done.once pool arrivals next h was.sound id at is finish-cause (reached pool arrivals next h was.sound f is) in let before = was.sound.jobs id in
+        let ids = ap (times id) (ap (map (λ (f : TimedJdkEvent). job_of f.event)) (sym was.jobs_are.finishes_are) ∙ ids-are was.jobs_are.begun) in
+        running-less arrivals steps jobs h was.jobs_are id x jobs2 (h ++ f ∷ []) (ap (λ (t : TimedJdkEvent). job_of t.event) first) same (omega (arith, most, before, ids)) (finishes-done arrivals h f id refl refl)
+      where
+        ids-are : (xs : List RunningJob) → map (λ f. job_of f.event) (map finish_at xs) ≡ map id_of xs
+        ids-are [] = refl
+        ids-are (x ∷ xs) = ap (λ (ids : List Id). id_of x ∷ ids) (ids-are xs)
+
     pub finish-fits : at + pool.idle_for < 2 ^ 64
     finish-fits =
         let within = done.in-time pool arrivals next h was.sound id at is finish-cause (reached pool arrivals next h was.sound f is) in let fits = was.sound.in_time.fits in omega (arith, within, fits)
 
-    pub finished-parts : (idle2 : List Idle) → idle2 ≡ idle_next pool h idle f
-        → AreParts pool arrivals next workers_now at true queue (filter (λ job. not (is_same_id id job.id)) jobs) idle2 (h ++ f ∷ [])
-    finished-parts idle2 same =
+    pub finished-parts : (o : Option RunningJob) (jobs2 : List RunningJob) → IsSoonest o jobs → IfSome o (λ job. SameJobs (job ∷ jobs2) jobs) → (idle2 : List Idle) → idle2 ≡ idle_next pool h idle f
+        → AreParts pool arrivals next workers_now at true (steps + 1) queue jobs2 idle2 (h ++ f ∷ [])
+    finished-parts o jobs2 soon rest idle2 same =
         let r = reached pool arrivals next h was.sound f is in let c = finish-cause in let n = done.counts pool arrivals next h was.sound id at is c r in
         record {
           sound = done.finished-sound pool arrivals next h was.sound id at is c r;
@@ -195,7 +264,7 @@ module _ (pool : VirtualPool) (arrivals : List Arrival) (next workers_now now : 
           own_is = rw (events-are h f) (sym (just-is false ev (Finish id)));
           queue_is = rw (events-are h f) (was.queue_is ∙ sym (done.waits pool arrivals next h was.sound id at is c r));
           runs_are = was.runs_are;
-          jobs_are = sym (others-are id jobs) ∙ ap (filter (is_of_other id)) was.jobs_are ∙ sym (finishes-done arrivals h f id refl refl);
+          jobs_are = finished-jobs o jobs2 soon rest;
           idle_are = same ∙ ap (λ (w : List Idle). idle_next pool h w f) was.idle_are ∙ sym (idle-pushed pool h f);
         }
 
@@ -238,7 +307,7 @@ module _ (pool : VirtualPool) (arrivals : List Arrival) (next workers_now now : 
     pub some-worker : 1 ≤ workers_now
     some-worker = let w = end-counts.0 in let before = was.workers_are in omega (arith, w, before)
 
-    pub ended-parts : AreParts pool arrivals next (workers_now - 1) at false queue jobs (without_first (ends_at at) (map (passed true at) idle)) (h ++ e ∷ [])
+    pub ended-parts : AreParts pool arrivals next (workers_now - 1) at false (steps + 1) queue jobs (without_first (ends_at at) (map (passed true at) idle)) (h ++ e ∷ [])
     ended-parts =
         let r = reached pool arrivals next h was.sound e is in let c = end-cause in let w = end-counts.0 in let before = was.workers_are in
         record {
@@ -248,7 +317,7 @@ module _ (pool : VirtualPool) (arrivals : List Arrival) (next workers_now now : 
           own_is = rw (events-are h e) (sym (just-is false ev IdleEnd));
           queue_is = rw (events-are h e) (was.queue_is ∙ sym (ended.waits2 pool arrivals next h was.sound at is c.0 c.1 c.2 r));
           runs_are = was.runs_are;
-          jobs_are = was.jobs_are ∙ sym (finishes-same arrivals h e refl refl);
+          jobs_are = running-more arrivals steps jobs h was.jobs_are [] jobs (h ++ e ∷ []) (omega arith) (λ of_job. refl) (finishes-same arrivals h e refl refl ∙ sym (append-nil (finishes arrivals h)));
           idle_are = ap (λ (w : List Idle). without_first (ends_at at) (map (passed true at) w)) was.idle_are ∙ sym (ended.same-idle pool arrivals next h was.sound at is c.0 c.1 c.2 r) ∙ sym (idle-pushed pool h e);
         }
 
@@ -333,11 +402,11 @@ module _ (pool : VirtualPool) (arrivals : List Arrival) (next workers_now now : 
     queued-are Full is by = submitted.waits-on pool arrivals next h was.sound a there at-once Full is by refl refl ∙ sym (append-nil (waiting ev))
     queued-are Closed is by = submitted.waits-on pool arrivals next h was.sound a there at-once Closed is by refl refl ∙ sym (append-nil (waiting ev))
 
-    its-finish : finishes arrivals h ++ finish_from arrivals a.at a.id ∷ [] ≡ finishes arrivals h ++ finish_at (begun_at a.at a) ∷ []
+    its-finish : finishes arrivals h ++ finish_from arrivals a.at a.id ∷ [] ≡ finishes arrivals h ++ finish_at (begun_at a.at steps a) ∷ []
     its-finish = let its = submitted.takes pool arrivals next h was.sound a there at-once in rw (its.0, its.1) refl
 
     worked-are : (reply : JdkReply) (is : next_due pool arrivals h ≡ Some (record { event = Submit a.id reply; at = a.at })) → reply ≡ reply_after pool.limits ev
-        → finishes arrivals (h ++ record { event = Submit a.id reply; at = a.at } ∷ []) ≡ finishes arrivals h ++ map finish_at (to_worker reply a)
+        → finishes arrivals (h ++ record { event = Submit a.id reply; at = a.at } ∷ []) ≡ finishes arrivals h ++ map finish_at (to_worker steps reply a)
     worked-are Core is by = submitted.begins pool arrivals next h was.sound a there at-once Core is by refl ∙ its-finish
     worked-are Handed is by = submitted.begins pool arrivals next h was.sound a there at-once Handed is by refl ∙ its-finish
     worked-are Extra is by = submitted.begins pool arrivals next h was.sound a there at-once Extra is by refl ∙ its-finish
@@ -345,6 +414,15 @@ module _ (pool : VirtualPool) (arrivals : List Arrival) (next workers_now now : 
     worked-are Queued is by = finishes-same arrivals h _ refl refl ∙ sym (append-nil (finishes arrivals h))
     worked-are Full is by = finishes-same arrivals h _ refl refl ∙ sym (append-nil (finishes arrivals h))
     worked-are Closed is by = finishes-same arrivals h _ refl refl ∙ sym (append-nil (finishes arrivals h))
+
+    ordered-worker : (reply : JdkReply) → AreInOrder steps (steps + 1) (to_worker steps reply a)
+    ordered-worker Core = (omega arith, omega arith)
+    ordered-worker Handed = (omega arith, omega arith)
+    ordered-worker Extra = (omega arith, omega arith)
+    ordered-worker First = omega arith
+    ordered-worker Queued = omega arith
+    ordered-worker Full = omega arith
+    ordered-worker Closed = omega arith
 
     takes-its : (reply : JdkReply) → All (HasRun arrivals) queue → All (HasRun arrivals) (queue ++ to_queue reply a)
     takes-its First all = All-push (HasRun arrivals) queue a all (submitted.takes pool arrivals next h was.sound a there at-once)
@@ -355,9 +433,9 @@ module _ (pool : VirtualPool) (arrivals : List Arrival) (next workers_now now : 
     takes-its Full all = subst (All (HasRun arrivals)) (sym (append-nil queue)) all
     takes-its Closed all = subst (All (HasRun arrivals)) (sym (append-nil queue)) all
 
-    pub submitted-parts : (idle2 : List Idle) → idle2 ≡ idle_next pool h idle s
-        → AreParts pool arrivals (next + 1) (workers_now + begins reply) a.at false (queue ++ to_queue reply a) (jobs ++ to_worker reply a) idle2 (h ++ s ∷ [])
-    submitted-parts idle2 same =
+    pub submitted-parts : (jobs2 : List RunningJob) → SameJobs (to_worker steps reply a ++ jobs) jobs2 → (idle2 : List Idle) → idle2 ≡ idle_next pool h idle s
+        → AreParts pool arrivals (next + 1) (workers_now + begins reply) a.at false (steps + 1) (queue ++ to_queue reply a) jobs2 idle2 (h ++ s ∷ [])
+    submitted-parts jobs2 more idle2 same =
         let w = workers-more pool arrivals next h was.sound s (submitted.may pool arrivals next h was.sound a there at-once reply is by-rule) in let b = begins-is reply in let before = was.workers_are in
         record {
           sound = submitted.submitted-sound pool arrivals next h was.sound a there at-once reply is by-rule;
@@ -366,7 +444,7 @@ module _ (pool : VirtualPool) (arrivals : List Arrival) (next workers_now now : 
           own_is = rw (events-are h s) (sym (just-is false ev (Submit a.id reply)));
           queue_is = rw (events-are h s) (map-append (λ (job : Arrival). job.id) queue (to_queue reply a) ∙ ap (λ (ids : List Id). ids ++ map (λ (job : Arrival). job.id) (to_queue reply a)) was.queue_is ∙ sym (queued-are reply is by-rule));
           runs_are = takes-its reply was.runs_are;
-          jobs_are = map-append finish_at jobs (to_worker reply a) ∙ ap (λ (fs : List TimedJdkEvent). fs ++ map finish_at (to_worker reply a)) was.jobs_are ∙ sym (worked-are reply is by-rule);
+          jobs_are = running-more arrivals steps jobs h was.jobs_are (to_worker steps reply a) jobs2 (h ++ s ∷ []) (ordered-worker reply) more (worked-are reply is by-rule);
           idle_are = same ∙ ap (λ (w : List Idle). idle_next pool h w s) was.idle_are ∙ sym (idle-pushed pool h s);
         }
 

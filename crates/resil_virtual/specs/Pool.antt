@@ -1,5 +1,5 @@
 -- What is true of a pool in virtual time between two steps.
-use Rattle.std.specs.Prelude.{ℕ, ◌≡◌, ◌≤◌, ◌<◌, ◌+◌, ◌-◌, ◌*◌, ◌==◌, ◌&&◌, ◌⊎◌, ◌^◌, ◌++◌, ◌∷◌, [], Bool, false, List, Option, Some, All, IfSome, filter, is_some, length, map, max, nat_lt, not, slice_get, sum, take, if◌then◌else◌}
+use Rattle.std.specs.Prelude.{ℕ, suc, ◌≡◌, ◌≤◌, ◌<◌, ◌+◌, ◌-◌, ◌*◌, ◌==◌, ◌&&◌, ◌⊎◌, ◌^◌, ◌++◌, ◌∷◌, [], Bool, false, List, Option, Some, All, IfSome, filter, is_some, length, map, max, nat_lt, not, slice_get, sum, take, if◌then◌else◌}
 use Rattle.resil_rule.specs.Limits.{Sizes}
 use Rattle.resil_rule.specs.History.{times}
 use Rattle.resil_rule.specs.Timed.{AreAscending}
@@ -17,7 +17,8 @@ use Rattle.resil_virtual.specs.Load.{IsLoad, earliest_ends_of, latest, runs_of}
 use Rattle.resil_virtual.specs.Due.{earliest_end_of, ends_at, finishes, idle_after, just_finished, last_at, looks_at, looks_of, next_due, none_waits, submissions_at, submissions_of, takes_of}
 use Rattle.resil_virtual.specs.Simulated.{history_after, opening}
 use Rattle.resil_virtual.specs.declared.arrival.Arrival.{Arrival}
-use Rattle.resil_virtual.specs.declared.due.RunningJob.{RunningJob}
+use Rattle.resil_virtual.specs.Jobs.{SameJobs, begun_at, id_of}
+use Rattle.resil_virtual.specs.declared.jobs.RunningJob.{RunningJob}
 use Rattle.resil_virtual.specs.declared.idle.Idle.{Idle}
 use Rattle.resil_virtual.specs.declared.pool.Simulation.{Simulation}
 use Rattle.resil_virtual.specs.declared.virtual_pool.VirtualPool.{VirtualPool}
@@ -28,7 +29,7 @@ is_free by_look at worker = if by_look then looks_at at worker else ends_at at w
 
 -- the finish of a job that runs
 abbrev pub finish_at : RunningJob → TimedJdkEvent
-finish_at job = record { event = Finish job.id; at = job.due }
+finish_at job = record { event = Finish (id_of job); at = job.due }
 
 -- the jobs that finishes are of
 abbrev pub job_of : JdkEvent → Id
@@ -124,15 +125,27 @@ pub record AreSound (pool : VirtualPool) (arrivals : List Arrival) (next : ℕ) 
 abbrev pub HasRun : List Arrival → Arrival → Type 0
 HasRun arrivals job = (takes_of arrivals job.id ≡ job.takes) × (earliest_end_of arrivals job.id ≡ job.earliest_end)
 
+-- Jobs in the order in which they began, from one place in it up to another one.
+abbrev pub AreInOrder : ℕ → ℕ → List RunningJob → Type 0
+AreInOrder low high [] = low ≤ high
+AreInOrder low high (job ∷ jobs) = (low ≤ job.order) × AreInOrder (suc job.order) high jobs
+
+-- The jobs that run are those whose finishes are to come.
+pub record AreRunning (arrivals : List Arrival) (steps : ℕ) (jobs : List RunningJob) (history : List TimedJdkEvent) : Type 0 where
+  pub begun : List RunningJob
+  pub same : SameJobs begun jobs
+  pub ordered : AreInOrder 0 steps begun
+  pub finishes_are : map finish_at begun ≡ finishes arrivals history
+
 -- What is true of the parts of a pool.
-pub record AreParts (pool : VirtualPool) (arrivals : List Arrival) (next workers_now now : ℕ) (own_look : Bool) (queue : List Arrival) (jobs : List RunningJob) (idle : List Idle) (history : List TimedJdkEvent) : Type 0 where
+pub record AreParts (pool : VirtualPool) (arrivals : List Arrival) (next workers_now now : ℕ) (own_look : Bool) (steps : ℕ) (queue : List Arrival) (jobs : List RunningJob) (idle : List Idle) (history : List TimedJdkEvent) : Type 0 where
   pub sound : AreSound pool arrivals next history
   pub workers_are : workers_now ≡ workers (events_in history)
   pub now_is : now ≡ last_at history
   pub own_is : own_look ≡ just_finished (events_in history)
   pub queue_is : map (λ job. job.id) queue ≡ waiting (events_in history)
   pub runs_are : All (HasRun arrivals) queue
-  pub jobs_are : map finish_at jobs ≡ finishes arrivals history
+  pub jobs_are : AreRunning arrivals steps jobs history
   pub idle_are : idle ≡ idle_after pool history
 
 -- What others see of a simulation: its pool, its load, and what has happened so far, with the opening.
@@ -145,8 +158,8 @@ arrivals_of s = s.arrivals.now
 abbrev pub history_of : Simulation → List TimedJdkEvent
 history_of s = history_after s.plan s.arrivals.now s.steps
 
-abbrev pub HasParts : Simulation → List TimedJdkEvent → Type 0
-HasParts s history = AreParts s.plan s.arrivals.now s.next s.workers s.time s.own_look s.queue.items s.running.items s.idle.items history
+abbrev pub HasParts : Simulation → ℕ → List TimedJdkEvent → Type 0
+HasParts s steps history = AreParts s.plan s.arrivals.now s.next s.workers s.time s.own_look steps s.queue.items s.running.items s.idle.items history
 
 -- how much is left to do, by a number that each event lowers
 abbrev pub left : VirtualPool → List Arrival → ℕ → List TimedJdkEvent → ℕ
@@ -157,12 +170,8 @@ left_in s = left s.plan s.arrivals.now s.next (history_of s)
 
 -- What is true of a simulation between two events: `parts.sound` has what is true of what has happened.
 pub record IsPool (s : Simulation) : Type 0 where
-  pub parts : HasParts s (history_of s)
+  pub parts : HasParts s s.steps (history_of s)
   pub counted : s.steps + left_in s ≤ 5 * length s.arrivals.now
-
--- a job that begins at a time
-abbrev pub begun_at : ℕ → Arrival → RunningJob
-begun_at at job = record { id = job.id; due = max (at + job.takes) job.earliest_end }
 
 -- where a job goes that is answered so: into the queue, or to a worker
 abbrev pub to_queue : JdkReply → Arrival → List Arrival
@@ -170,11 +179,11 @@ to_queue First job = job ∷ []
 to_queue Queued job = job ∷ []
 to_queue _ job = []
 
-abbrev pub to_worker : JdkReply → Arrival → List RunningJob
-to_worker Core job = begun_at job.at job ∷ []
-to_worker Handed job = begun_at job.at job ∷ []
-to_worker Extra job = begun_at job.at job ∷ []
-to_worker _ job = []
+abbrev pub to_worker : ℕ → JdkReply → Arrival → List RunningJob
+to_worker steps Core job = begun_at job.at steps job ∷ []
+to_worker steps Handed job = begun_at job.at steps job ∷ []
+to_worker steps Extra job = begun_at job.at steps job ∷ []
+to_worker steps _ job = []
 
 -- what is due next in a pool
 abbrev pub due_in : Simulation → Option TimedJdkEvent

@@ -1,34 +1,55 @@
 //! The jobs that run, and the one that finishes first.
 
-ghost use Rattle.std.specs.Prelude.{◌≡◌, ◌<◌, ◌+◌, ◌^◌, ◌++◌, ◌∷◌, [], OnOk, filter, length, not};
-ghost use Rattle.resil_rule.specs.History.{is_same_id};
-ghost use Rattle.resil_virtual.specs.Due.{earliest};
-ghost use Rattle.resil_virtual.specs.Pool.{begun_at};
+ghost use Rattle.std.specs.Prelude.{◌≡◌, ◌<◌, ◌+◌, ◌^◌, ◌∷◌, [], IfSome, OnOk, length};
+ghost use Rattle.resil_virtual.specs.Jobs.{IsSoonest, SameJobs, begun_at, id_of};
 
 use crate::arrival::Arrival;
-use crate::due::{RunningJob, first_due, first_job};
 use resil_rule::Id;
 use std::alloc::{AllocError, Global};
+use std::cmp::Reverse;
+use std::collections::BinaryHeap;
 use std::marker::Model;
 
-/// The jobs that run, in the order in which they began. The one that finishes first is kept next to them. So a pool looks through them
-/// once for each finish, and not for each event.
+/// A job that runs. One that finishes sooner is less than another one; of two that finish at one moment, the one that began first is.
+#[derive(Clone, Copy, PartialEq, Eq, PartialOrd, Ord)]
+pub(crate) struct RunningJob {
+    // When it finishes.
+    pub(crate) due: u64,
+    // Its place in the order in which jobs begin.
+    pub(crate) order: u128,
+    // Its id.
+    pub(crate) caller: u16,
+    pub(crate) number: u64,
+}
+
+impl RunningJob {
+    /// Its id.
+    pub(crate) fn id(&self) -> Id
+        ensures { result ≡ id_of self.now }
+    {
+        Id {
+            caller: self.caller,
+            number: self.number,
+        }
+    }
+}
+
+/// The jobs that run. What is due is kept in a heap, so that a start and a finish take time by the logarithm of their number.
 #[derive(Drop)]
 pub(crate) struct RunningJobs {
-    items: Vec<RunningJob>,
-    first: Option<RunningJob>,
+    heap: BinaryHeap<Reverse<RunningJob>>,
 }
 
 impl Model for RunningJobs {
-    ghost use Rattle.std.specs.Prelude.{◌≡◌};
-    ghost use Rattle.resil_virtual.specs.Due.{earliest};
-    ghost use Rattle.resil_virtual.specs.Jobs.{JobsView};
+    ghost use Rattle.std.specs.Prelude.{map};
+    ghost use Rattle.std.specs.BinaryHeap.{IsHeap, heap_items};
+    ghost use Rattle.resil_virtual.specs.Jobs.{JobsView, soonest_first};
 
     ghost Value = { JobsView };
 
-    ghost view = { λ j. record { items = j.items.items } };
+    ghost view = { λ j. record { items = map (λ last. last.0) (heap_items j.heap) } };
 
-    ghost invariant = { λ j. j.first ≡ earliest (λ job. job.due) j.items.items };
+    ghost invariant = { λ j. IsHeap soonest_first (heap_items j.heap) };
 }
 
 impl RunningJobs {
@@ -37,8 +58,7 @@ impl RunningJobs {
         ensures { result.items ≡ [] }
     {
         RunningJobs {
-            items: Vec::new(alloc),
-            first: None,
+            heap: BinaryHeap::new(alloc),
         }
     }
 
@@ -46,35 +66,41 @@ impl RunningJobs {
     pub(crate) fn len(&self) -> usize
         ensures { result ≡ length self.now.items }
     {
-        self.items.len()
+        self.heap.as_slice().len()
     }
 
     /// The job that finishes first. If several finish at one moment, the one that began first.
     pub(crate) fn first(&self) -> Option<RunningJob>
-        ensures { result ≡ earliest (λ job. job.due) self.now.items }
+        ensures { IsSoonest result self.now.items }
     {
-        self.first
+        match self.heap.peek() {
+            Some(top) => Some(top.0),
+            None => None,
+        }
     }
 
-    /// A worker begins a job at a time. Errors: `AllocError` when out of memory.
-    pub(crate) fn run(&mut self, job: Arrival, at: u64) -> Result<(), AllocError>
+    /// A worker begins a job at a time, after those that began before in this order. Errors: `AllocError` when out of memory.
+    pub(crate) fn run(&mut self, job: Arrival, at: u64, order: u128) -> Result<(), AllocError>
         requires { at + job.takes < 2 ^ 64 }
-        ensures { OnOk result (self.new.items ≡ self.old.items ++ begun_at at job ∷ []) }
+        ensures { OnOk result (SameJobs (begun_at at order job ∷ self.old.items) self.new.items) }
     {
-        let begun = RunningJob {
-            id: job.id,
+        self.heap.push(Reverse(RunningJob {
             due: (at + job.takes).max(job.earliest_end),
-        };
-        self.items.push(begun)?;
-        self.first = Some(first_job(self.first, begun));
+            order,
+            caller: job.id.caller,
+            number: job.id.number,
+        }))?;
         Ok(())
     }
 
-    /// The job of an id is gone.
-    pub(crate) fn remove_job(&mut self, id: Id)
-        ensures { self.new.items ≡ filter (λ job. not (is_same_id id job.id)) self.old.items }
+    /// The job that finishes first is gone.
+    pub(crate) fn remove_first(&mut self) -> Option<RunningJob>
+        ensures first { IsSoonest result self.old.items }
+        ensures rest { IfSome result (λ job. SameJobs (job ∷ self.new.items) self.old.items) }
     {
-        self.items.retain(|job| job.id != id);
-        self.first = first_due(&self.items);
+        let Some(top) = self.heap.pop() else {
+            return None;
+        };
+        Some(top.0)
     }
 }

@@ -8,6 +8,7 @@ ghost use Rattle.std.specs.Prelude.{◌≡◌, ◌<◌, ◌+◌, ◌^◌, ◌++�
 ghost use Rattle.std.specs.Option.{option_map_or};
 ghost use Rattle.resil_jdk.specs.RuleView.{begins};
 ghost use Rattle.resil_jdk.specs.Timed.{events_in};
+ghost use Rattle.resil_virtual.specs.Jobs.{SameJobs};
 ghost use Rattle.resil_virtual.specs.Load.{IsLoad};
 ghost use Rattle.resil_virtual.specs.Due.{earliest, end_at, end_from, ends_due, finishes, has_spare, idle_by, looks_due, own_takes, sooner, submissions_due, take_at};
 ghost use Rattle.resil_virtual.specs.Pool.{HasParts, IsPool, arrivals_of, due_in, history_of, left, left_in, plan_of, reply_by, to_queue, to_worker};
@@ -135,7 +136,7 @@ impl<'a> Simulation<'a> {
 
     // Whether there are more workers than may stay.
     fn has_spare(&self) -> bool
-        requires { HasParts self.now (history_of self.now) }
+        requires { HasParts self.now self.now.steps (history_of self.now) }
         ensures { result ≡ has_spare self.now.plan (events_in (history_of self.now)) }
     {
         let kept = if self.plan.time_out {
@@ -170,7 +171,7 @@ impl<'a> Simulation<'a> {
 
     // The take of the worker that has just finished a job.
     fn next_own(&self) -> Option<TimedJdkEvent>
-        requires { HasParts self.now (history_of self.now) }
+        requires { HasParts self.now self.now.steps (history_of self.now) }
         ensures { result ≡ earliest (λ timed. timed.at) (own_takes (history_of self.now)) }
     {
         if !self.own_look {
@@ -181,12 +182,12 @@ impl<'a> Simulation<'a> {
 
     // The finish that comes first.
     fn next_finish(&self) -> Option<TimedJdkEvent>
-        requires { HasParts self.now (history_of self.now) }
+        requires { HasParts self.now self.now.steps (history_of self.now) }
         ensures { result ≡ earliest (λ timed. timed.at) (finishes self.now.arrivals.now (history_of self.now)) }
     {
         match self.running.first() {
             Some(job) => Some(TimedJdkEvent {
-                event: JdkEvent::Finish(job.id),
+                event: JdkEvent::Finish(job.id()),
                 at: job.due,
             }),
             None => None,
@@ -195,7 +196,7 @@ impl<'a> Simulation<'a> {
 
     // The take of the woken worker that looks first.
     fn next_look(&self) -> Option<TimedJdkEvent>
-        requires { HasParts self.now (history_of self.now) }
+        requires { HasParts self.now self.now.steps (history_of self.now) }
         ensures { result ≡ earliest (λ timed. timed.at) (looks_due (history_of self.now) self.now.idle.items) }
     {
         take_at(self.front(), first_look(&self.idle))
@@ -210,7 +211,7 @@ impl<'a> Simulation<'a> {
 
     // The submission that comes next.
     fn next_submission(&self) -> Option<TimedJdkEvent>
-        requires { HasParts self.now (history_of self.now) }
+        requires { HasParts self.now self.now.steps (history_of self.now) }
         ensures { result ≡ earliest (λ timed. timed.at) (submissions_due self.now.plan self.now.arrivals.now (history_of self.now)) }
     {
         match self.next_job() {
@@ -227,7 +228,7 @@ impl<'a> Simulation<'a> {
 
     // The end that comes first, or the take of that worker if a job waits.
     fn next_end(&self) -> Option<TimedJdkEvent>
-        requires { HasParts self.now (history_of self.now) }
+        requires { HasParts self.now self.now.steps (history_of self.now) }
         ensures { result ≡ earliest (λ timed. timed.at) (ends_due self.now.plan (history_of self.now) self.now.idle.items) }
     {
         let front = self.front();
@@ -243,7 +244,7 @@ impl<'a> Simulation<'a> {
 
     // What happens next.
     fn next_event(&self) -> Option<TimedJdkEvent>
-        requires { HasParts self.now (history_of self.now) }
+        requires { HasParts self.now self.now.steps (history_of self.now) }
         ensures { result ≡ due_in self.now }
     {
         first_event(
@@ -262,17 +263,17 @@ impl<'a> Simulation<'a> {
         requires wakes { job.at + self.old.plan.wakes + self.old.plan.idle_for < 2 ^ 64 }
         ensures rest { OnOk result (self.new ≡ record self.old { workers = self.old.workers + begins reply; queue = self.new.queue; running = self.new.running; idle = self.new.idle }) }
         ensures queue { OnOk result (self.new.queue.items ≡ self.old.queue.items ++ to_queue reply job) }
-        ensures running { OnOk result (self.new.running.items ≡ self.old.running.items ++ to_worker reply job) }
+        ensures running { OnOk result (SameJobs (to_worker self.old.steps reply job ++ self.old.running.items) self.new.running.items) }
         ensures idle { OnOk result (self.new.idle.items ≡ idle_by self.old.plan [] self.old.idle.items (JdkEvent.Submit job.id reply) job.at) }
     {
         match reply {
             JdkReply::Core | JdkReply::Extra => {
                 self.workers += 1;
-                self.running.run(job, job.at)?;
+                self.running.run(job, job.at, self.steps)?;
             }
             JdkReply::Handed => {
                 self.idle.pop();
-                self.running.run(job, job.at)?;
+                self.running.run(job, job.at, self.steps)?;
             }
             JdkReply::First => {
                 self.workers += 1;
@@ -294,9 +295,9 @@ impl<'a> Simulation<'a> {
 
     // The next job is submitted. Errors: `AllocError` when out of memory.
     fn submit(&mut self, id: Id, reply: JdkReply, at: u64) -> Result<(), AllocError>
-        requires pool { HasParts self.old (history_of self.old) }
+        requires pool { HasParts self.old self.old.steps (history_of self.old) }
         requires due { due_in self.old ≡ Some (record { event = JdkEvent.Submit id reply; at = at }) }
-        ensures pool { OnOk result (HasParts self.new (history_of self.old ++ (record { event = JdkEvent.Submit id reply; at = at }) ∷ [])) }
+        ensures pool { OnOk result (HasParts self.new (self.old.steps + 1) (history_of self.old ++ (record { event = JdkEvent.Submit id reply; at = at }) ∷ [])) }
         ensures less { OnOk result (left self.new.plan self.new.arrivals.now self.new.next (history_of self.old ++ (record { event = JdkEvent.Submit id reply; at = at }) ∷ []) < left_in self.old) }
         ensures load { OnOk result ((self.new.plan ≡ self.old.plan) × (self.new.arrivals.now ≡ self.old.arrivals.now) × (self.new.steps ≡ self.old.steps)) }
     {
@@ -321,9 +322,9 @@ impl<'a> Simulation<'a> {
 
     // A worker takes the job at the front of the queue. Errors: `AllocError` when out of memory.
     fn take(&mut self, id: Id, at: u64) -> Result<(), AllocError>
-        requires pool { HasParts self.old (history_of self.old) }
+        requires pool { HasParts self.old self.old.steps (history_of self.old) }
         requires due { due_in self.old ≡ Some (take_at id at) }
-        ensures pool { OnOk result (HasParts self.new (history_of self.old ++ (take_at id at) ∷ [])) }
+        ensures pool { OnOk result (HasParts self.new (self.old.steps + 1) (history_of self.old ++ (take_at id at) ∷ [])) }
         ensures less { OnOk result (left self.new.plan self.new.arrivals.now self.new.next (history_of self.old ++ (take_at id at) ∷ []) < left_in self.old) }
         ensures load { OnOk result ((self.new.plan ≡ self.old.plan) × (self.new.arrivals.now ≡ self.old.arrivals.now) × (self.new.steps ≡ self.old.steps)) }
     {
@@ -333,7 +334,7 @@ impl<'a> Simulation<'a> {
         pass(&mut self.idle, false, at);
         remove_taker(&mut self.idle, self.own_look, at);
         self.queue.pop_front();
-        self.running.run(job, at)?;
+        self.running.run(job, at, self.steps)?;
         self.own_look = false;
         self.time = at;
         Ok(())
@@ -341,7 +342,7 @@ impl<'a> Simulation<'a> {
 
     // When a worker that falls idle at a time may end, if ever.
     fn end_from(&self, at: u64) -> Option<u64>
-        requires pool { HasParts self.now (history_of self.now) }
+        requires pool { HasParts self.now self.now.steps (history_of self.now) }
         requires fits { at + self.now.plan.idle_for < 2 ^ 64 }
         ensures { result ≡ end_from self.now.plan (events_in (history_of self.now)) at }
     {
@@ -354,16 +355,16 @@ impl<'a> Simulation<'a> {
 
     // A job is finished. Its worker is idle if no job waits. Errors: `AllocError` when out of memory.
     fn finish(&mut self, id: Id, at: u64) -> Result<(), AllocError>
-        requires pool { HasParts self.old (history_of self.old) }
+        requires pool { HasParts self.old self.old.steps (history_of self.old) }
         requires due { due_in self.old ≡ Some (record { event = JdkEvent.Finish id; at = at }) }
-        ensures pool { OnOk result (HasParts self.new (history_of self.old ++ (record { event = JdkEvent.Finish id; at = at }) ∷ [])) }
+        ensures pool { OnOk result (HasParts self.new (self.old.steps + 1) (history_of self.old ++ (record { event = JdkEvent.Finish id; at = at }) ∷ [])) }
         ensures less { OnOk result (left self.new.plan self.new.arrivals.now self.new.next (history_of self.old ++ (record { event = JdkEvent.Finish id; at = at }) ∷ []) < left_in self.old) }
         ensures load { OnOk result ((self.new.plan ≡ self.old.plan) × (self.new.arrivals.now ≡ self.old.arrivals.now) × (self.new.steps ≡ self.old.steps)) }
     {
         let none_waits = self.no_job_waits();
         let end = self.end_from(at);
         pass(&mut self.idle, none_waits, at);
-        self.running.remove_job(id);
+        self.running.remove_first();
         if none_waits {
             self.idle.push(Idle { end, look: None })?;
         }
@@ -374,9 +375,9 @@ impl<'a> Simulation<'a> {
 
     // An idle worker ends.
     fn end(&mut self, at: u64)
-        requires pool { HasParts self.old (history_of self.old) }
+        requires pool { HasParts self.old self.old.steps (history_of self.old) }
         requires due { due_in self.old ≡ Some (end_at at) }
-        ensures pool { HasParts self.new (history_of self.old ++ end_at at ∷ []) }
+        ensures pool { HasParts self.new (self.old.steps + 1) (history_of self.old ++ end_at at ∷ []) }
         ensures less { left self.new.plan self.new.arrivals.now self.new.next (history_of self.old ++ end_at at ∷ []) < left_in self.old }
         ensures load { (self.new.plan ≡ self.old.plan) × (self.new.arrivals.now ≡ self.old.arrivals.now) × (self.new.steps ≡ self.old.steps) }
     {
@@ -389,9 +390,9 @@ impl<'a> Simulation<'a> {
 
     // Carries out the event that is due. Errors: `AllocError` when out of memory.
     fn carry_out(&mut self, timed: TimedJdkEvent) -> Result<(), AllocError>
-        requires pool { HasParts self.old (history_of self.old) }
+        requires pool { HasParts self.old self.old.steps (history_of self.old) }
         requires due { due_in self.old ≡ Some timed }
-        ensures pool { OnOk result (HasParts self.new (history_of self.old ++ timed ∷ [])) }
+        ensures pool { OnOk result (HasParts self.new (self.old.steps + 1) (history_of self.old ++ timed ∷ [])) }
         ensures less { OnOk result (left self.new.plan self.new.arrivals.now self.new.next (history_of self.old ++ timed ∷ []) < left_in self.old) }
         ensures load { OnOk result ((self.new.plan ≡ self.old.plan) × (self.new.arrivals.now ≡ self.old.arrivals.now) × (self.new.steps ≡ self.old.steps)) }
     {

@@ -1,6 +1,7 @@
-use Rattle.std.proofs.Common.{◌<◌, List, sym, ap, length, subst, arith}
+use Rattle.std.proofs.Common.{◌<◌, ◌+◌, ℕ, List, sym, ap, length, subst, arith}
 use Rattle.resil_jdk.specs.declared.timed.TimedJdkEvent.{TimedJdkEvent}
 use Rattle.resil_virtual.specs.Pool.{HasParts, history_of, left, left_in}
+use Rattle.resil_virtual.specs.Simulated.{history_after}
 use Rattle.resil_virtual.proofs.FinalLaws.{simulated, told}
 use Rattle.resil_virtual.proofs.pool.Simulation.next.Goals as goal
 
@@ -25,6 +26,6 @@ returns-clause-pool c =
     let less = subst (λ (h : List TimedJdkEvent). left new.plan new.arrivals.now new.next h < left_in s) (sym event) c.in_ok-carry_out.ensures.less in
     let long = ap length load.1 in let was = c.requires.counted in
     record {
-      parts = subst (HasParts new) (sym event) c.in_ok-carry_out.ensures.pool;
+      parts = subst (λ (n : ℕ). HasParts new (n + 1) (history_after new.plan new.arrivals.now (new.steps + 1))) (sym load.2) (subst (HasParts new (s.steps + 1)) (sym event) c.in_ok-carry_out.ensures.pool);
       counted = omega (arith, less, long, load.2, was);
     }

@@ -15,4 +15,4 @@ returns c =
     ∙ ap (sooner at_of (earliest at_of (finishes s.arrivals.now (history_of s)))) (ap (λ (o : Option TimedJdkEvent). sooner at_of o (sooner at_of c.next_submission.result c.next_end.result)) c.next_look.ensures
     ∙ ap (sooner at_of (earliest at_of (looks_due (history_of s) s.idle.items))) (ap (λ (o : Option TimedJdkEvent). sooner at_of o c.next_end.result) c.next_submission.ensures
     ∙ ap (sooner at_of (earliest at_of (submissions_due s.plan s.arrivals.now (history_of s)))) c.next_end.ensures)))
-    ∙ sym (due-is s.plan s.arrivals.now s.next s.workers s.time s.own_look s.queue.items s.running.items s.idle.items (history_of s) c.requires)
+    ∙ sym (due-is s.plan s.arrivals.now s.next s.workers s.time s.own_look s.steps s.queue.items s.running.items s.idle.items (history_of s) c.requires)

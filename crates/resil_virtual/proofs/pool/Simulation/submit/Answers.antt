@@ -11,20 +11,20 @@ use Rattle.resil_virtual.proofs.pool.Simulation.submit.Goals as goal
 pub place-requires-clause-room : goal.place-requires-clause-room
 place-requires-clause-room c =
     let s = c.args.self.now in
-    let due = submit-due s.plan s.arrivals.now s.next s.workers s.time s.own_look s.queue.items s.running.items s.idle.items (history_of s) c.requires.pool c.args.id c.args.reply c.args.at c.requires.due c.in-Some.job (sym c.in-Some.ensures) in
-    submit-room s.plan s.arrivals.now s.next s.workers s.time s.own_look s.queue.items s.running.items s.idle.items (history_of s) c.requires.pool c.in-Some.job (sym c.in-Some.ensures) c.args.reply due
+    let due = submit-due s.plan s.arrivals.now s.next s.workers s.time s.own_look s.steps s.queue.items s.running.items s.idle.items (history_of s) c.requires.pool c.args.id c.args.reply c.args.at c.requires.due c.in-Some.job (sym c.in-Some.ensures) in
+    submit-room s.plan s.arrivals.now s.next s.workers s.time s.own_look s.steps s.queue.items s.running.items s.idle.items (history_of s) c.requires.pool c.in-Some.job (sym c.in-Some.ensures) c.args.reply due
 
 pub place-requires-clause-runs : goal.place-requires-clause-runs
 place-requires-clause-runs c =
     let s = c.args.self.now in
-    let due = submit-due s.plan s.arrivals.now s.next s.workers s.time s.own_look s.queue.items s.running.items s.idle.items (history_of s) c.requires.pool c.args.id c.args.reply c.args.at c.requires.due c.in-Some.job (sym c.in-Some.ensures) in
-    (submit-fits s.plan s.arrivals.now s.next s.workers s.time s.own_look s.queue.items s.running.items s.idle.items (history_of s) c.requires.pool c.in-Some.job (sym c.in-Some.ensures) c.args.reply due).0
+    let due = submit-due s.plan s.arrivals.now s.next s.workers s.time s.own_look s.steps s.queue.items s.running.items s.idle.items (history_of s) c.requires.pool c.args.id c.args.reply c.args.at c.requires.due c.in-Some.job (sym c.in-Some.ensures) in
+    (submit-fits s.plan s.arrivals.now s.next s.workers s.time s.own_look s.steps s.queue.items s.running.items s.idle.items (history_of s) c.requires.pool c.in-Some.job (sym c.in-Some.ensures) c.args.reply due).0
 
 pub place-requires-clause-wakes : goal.place-requires-clause-wakes
 place-requires-clause-wakes c =
     let s = c.args.self.now in
-    let due = submit-due s.plan s.arrivals.now s.next s.workers s.time s.own_look s.queue.items s.running.items s.idle.items (history_of s) c.requires.pool c.args.id c.args.reply c.args.at c.requires.due c.in-Some.job (sym c.in-Some.ensures) in
-    (submit-fits s.plan s.arrivals.now s.next s.workers s.time s.own_look s.queue.items s.running.items s.idle.items (history_of s) c.requires.pool c.in-Some.job (sym c.in-Some.ensures) c.args.reply due).1
+    let due = submit-due s.plan s.arrivals.now s.next s.workers s.time s.own_look s.steps s.queue.items s.running.items s.idle.items (history_of s) c.requires.pool c.args.id c.args.reply c.args.at c.requires.due c.in-Some.job (sym c.in-Some.ensures) in
+    (submit-fits s.plan s.arrivals.now s.next s.workers s.time s.own_look s.steps s.queue.items s.running.items s.idle.items (history_of s) c.requires.pool c.in-Some.job (sym c.in-Some.ensures) c.args.reply due).1
 
 pub overflow_add-self : goal.overflow_add-self
 overflow_add-self c =
@@ -34,23 +34,23 @@ overflow_add-self c =
 pub returns-clause-pool : goal.returns-clause-pool
 returns-clause-pool c =
     let s = c.args.self.now in
-    let due = submit-due s.plan s.arrivals.now s.next s.workers s.time s.own_look s.queue.items s.running.items s.idle.items (history_of s) c.requires.pool c.args.id c.args.reply c.args.at c.requires.due c.in-Some.job (sym c.in-Some.ensures) in
+    let due = submit-due s.plan s.arrivals.now s.next s.workers s.time s.own_look s.steps s.queue.items s.running.items s.idle.items (history_of s) c.requires.pool c.args.id c.args.reply c.args.at c.requires.due c.in-Some.job (sym c.in-Some.ensures) in
     let event : ◌≡◌ {A = TimedJdkEvent} (record { event = Submit c.in-Some.job.id c.args.reply; at = c.in-Some.job.at }) (record { event = Submit c.args.id c.args.reply; at = c.args.at }) = cc (sym due ∙ c.requires.due) in
-    let none = c.no_job_waits-none_waits.ensures ∙ none-is s.plan s.arrivals.now s.next s.workers s.time s.own_look s.queue.items s.running.items s.idle.items (history_of s) c.requires.pool in
+    let none = c.no_job_waits-none_waits.ensures ∙ none-is s.plan s.arrivals.now s.next s.workers s.time s.own_look s.steps s.queue.items s.running.items s.idle.items (history_of s) c.requires.pool in
     let placed = c.in_ok-place.ensures in
     let same = placed.idle ∙ ap (λ (idle : List Idle). idle_by s.plan [] idle (Submit c.in-Some.job.id c.args.reply) c.in-Some.job.at) (c.pass.ensures ∙ ap (λ (b : Bool). map (passed b c.in-Some.job.at) s.idle.items) none)
-    ∙ placed-is s.plan s.arrivals.now s.next s.workers s.time s.own_look s.queue.items s.running.items s.idle.items (history_of s) c.requires.pool c.in-Some.job c.args.reply in
-    rw (← event, placed.rest, placed.queue, placed.running) (submitted-parts s.plan s.arrivals.now s.next s.workers s.time s.own_look s.queue.items s.running.items s.idle.items (history_of s) c.requires.pool c.in-Some.job (sym c.in-Some.ensures) c.args.reply due _ same)
+    ∙ placed-is s.plan s.arrivals.now s.next s.workers s.time s.own_look s.steps s.queue.items s.running.items s.idle.items (history_of s) c.requires.pool c.in-Some.job c.args.reply in
+    rw (← event, placed.rest, placed.queue) (submitted-parts s.plan s.arrivals.now s.next s.workers s.time s.own_look s.steps s.queue.items s.running.items s.idle.items (history_of s) c.requires.pool c.in-Some.job (sym c.in-Some.ensures) c.args.reply due _ placed.running _ same)
 
 pub returns-clause-less : goal.returns-clause-less
 returns-clause-less c =
     let s = c.args.self.now in
-    let due = submit-due s.plan s.arrivals.now s.next s.workers s.time s.own_look s.queue.items s.running.items s.idle.items (history_of s) c.requires.pool c.args.id c.args.reply c.args.at c.requires.due c.in-Some.job (sym c.in-Some.ensures) in
+    let due = submit-due s.plan s.arrivals.now s.next s.workers s.time s.own_look s.steps s.queue.items s.running.items s.idle.items (history_of s) c.requires.pool c.args.id c.args.reply c.args.at c.requires.due c.in-Some.job (sym c.in-Some.ensures) in
     let event : ◌≡◌ {A = TimedJdkEvent} (record { event = Submit c.in-Some.job.id c.args.reply; at = c.in-Some.job.at }) (record { event = Submit c.args.id c.args.reply; at = c.args.at }) = cc (sym due ∙ c.requires.due) in
-    rw (← event, c.in_ok-place.ensures.rest) (submitted-left s.plan s.arrivals.now s.next s.workers s.time s.own_look s.queue.items s.running.items s.idle.items (history_of s) c.requires.pool c.in-Some.job (sym c.in-Some.ensures) c.args.reply due)
+    rw (← event, c.in_ok-place.ensures.rest) (submitted-left s.plan s.arrivals.now s.next s.workers s.time s.own_look s.steps s.queue.items s.running.items s.idle.items (history_of s) c.requires.pool c.in-Some.job (sym c.in-Some.ensures) c.args.reply due)
 
 pub returns-in_default-clause-pool : goal.returns-in_default-clause-pool
-returns-in_default-clause-pool c = let s = c.args.self.now in absurd (job-some s.plan s.arrivals.now s.next s.workers s.time s.own_look s.queue.items s.running.items s.idle.items (history_of s) c.requires.pool c.args.id c.args.reply c.args.at c.requires.due (sym c.in_default.ensures))
+returns-in_default-clause-pool c = let s = c.args.self.now in absurd (job-some s.plan s.arrivals.now s.next s.workers s.time s.own_look s.steps s.queue.items s.running.items s.idle.items (history_of s) c.requires.pool c.args.id c.args.reply c.args.at c.requires.due (sym c.in_default.ensures))
 
 pub returns-in_default-clause-less : goal.returns-in_default-clause-less
-returns-in_default-clause-less c = let s = c.args.self.now in absurd (job-some s.plan s.arrivals.now s.next s.workers s.time s.own_look s.queue.items s.running.items s.idle.items (history_of s) c.requires.pool c.args.id c.args.reply c.args.at c.requires.due (sym c.in_default.ensures))
+returns-in_default-clause-less c = let s = c.args.self.now in absurd (job-some s.plan s.arrivals.now s.next s.workers s.time s.own_look s.steps s.queue.items s.running.items s.idle.items (history_of s) c.requires.pool c.args.id c.args.reply c.args.at c.requires.due (sym c.in_default.ensures))
