@@ -104,14 +104,18 @@ module _ {X Y : Type 0} (f : X → Y) (at : X → ℕ) (to : Y → ℕ) (same : 
   earliest-map [] = refl
   earliest-map (x ∷ xs) = ap (sooner to (Some (f x))) (earliest-map xs) ∙ sym (sooner-map (Some x) (earliest at xs))
 
--- the first of some times, and the next one
-pub times-more : (Y : Type 0) (time : Y → Option ℕ) (ys : List Y) (i : ℕ) (d : Y) → i < length ys → (first next : Option ℕ) → first ≡ earliest (λ at. at) (filter_map time (take i ys)) → next ≡ sooner (λ at. at) first (time (get_or ys i d))
-    → next ≡ earliest (λ at. at) (filter_map time (take (i + 1) ys))
-times-more Y time ys i d within first next was is =
-    is ∙ ap (λ (a : Option ℕ). sooner (λ at. at) a (time (get_or ys i d))) was
-    ∙ sym (ap (λ (zs : List Y). earliest (λ at. at) (filter_map time zs)) (take_more ys i d within) ∙ ap (earliest (λ at. at)) (filter_map-append time (take i ys) (get_or ys i d ∷ []))
-    ∙ earliest-append (λ at. at) (filter_map time (take i ys)) (filter_map time (get_or ys i d ∷ [])) ∙ ap (sooner (λ at. at) (earliest (λ at. at) (filter_map time (take i ys)))) (one (time (get_or ys i d))))
+-- the first of some times, and one more
+pub times-pushed : {Y : Type 0} (time : Y → Option ℕ) (ys : List Y) (y : Y) → sooner (λ at. at) (earliest (λ at. at) (filter_map time ys)) (time y) ≡ earliest (λ at. at) (filter_map time (ys ++ y ∷ []))
+times-pushed time ys y =
+    ap (sooner (λ at. at) (earliest (λ at. at) (filter_map time ys))) (sym (one (time y)))
+    ∙ sym (ap (earliest (λ at. at)) (filter_map-append time ys (y ∷ [])) ∙ earliest-append (λ at. at) (filter_map time ys) (filter_map time (y ∷ [])))
   where
     one : (o : Option ℕ) → earliest (λ at. at) (cons_option o []) ≡ o
     one None = refl
     one (Some at) = refl
+
+pub times-more : (Y : Type 0) (time : Y → Option ℕ) (ys : List Y) (i : ℕ) (d : Y) → i < length ys → (first next : Option ℕ) → first ≡ earliest (λ at. at) (filter_map time (take i ys)) → next ≡ sooner (λ at. at) first (time (get_or ys i d))
+    → next ≡ earliest (λ at. at) (filter_map time (take (i + 1) ys))
+times-more Y time ys i d within first next was is =
+    is ∙ ap (λ (a : Option ℕ). sooner (λ at. at) a (time (get_or ys i d))) was ∙ times-pushed time (take i ys) (get_or ys i d)
+    ∙ sym (ap (λ (zs : List Y). earliest (λ at. at) (filter_map time zs)) (take_more ys i d within))

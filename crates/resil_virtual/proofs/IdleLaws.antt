@@ -1,14 +1,15 @@
 -- Idle workers: who is woken, who looks and who ends.
-use Rattle.std.proofs.Common.{inl, inr, ◌⊎◌, ◌≡◌, ◌≤◌, ◌+◌, ◌∷◌, [], ◌∙◌, ℕ, suc, Bool, true, false, not, if◌then◌else◌, All, List, Option, Some, None, filter, is_some, length, map, nat_le, option_map, refl, sym, ap, arith}
+use Rattle.std.proofs.Common.{inl, inr, ◌⊎◌, ◌≡◌, ◌≤◌, ◌+◌, ◌∷◌, [], ◌∙◌, ℕ, suc, Bool, true, false, not, if◌then◌else◌, All, List, Option, Some, None, filter, is_some, length, map, nat_le, option_map, refl, sym, ap, subst, arith, ◌||◌, ◌&&◌}
 use Rattle.std.specs.List.{cons_option, list_any}
 use Rattle.std.specs.Option.{IfSome, option_map_or}
 use Rattle.std.proofs.lemmas.Grind.{common_steps}
 use Rattle.std.proofs.lemmas.Bool.{cases_Bool}
-use Rattle.std.proofs.lemmas.List.Elements.{All-cons, All-head, All-nil, All-tail}
-use Rattle.resil_virtual.specs.Due.{ends_at, ends_of, is_at, later, looks_at, looks_of, passed, still_ends, still_looks, wake_first, without_first, without_taker, woken}
+use Rattle.std.proofs.lemmas.List.Elements.{All-cons, All-head, All-nil, All-tail, All-weaker}
+use Rattle.resil_virtual.specs.Due.{earliest, ends_at, ends_of, is_at, later, looks_at, looks_of, passed, still_ends, still_looks, wake_first, without_first, without_taker, woken}
+use Rattle.resil_virtual.specs.IdleWorkers.{AreFirst, changes, has_looked, is_over}
 use Rattle.resil_virtual.specs.Pool.{IsFrom, staying}
 use Rattle.resil_virtual.specs.declared.idle.Idle.{Idle}
-use Rattle.resil_virtual.proofs.FirstLaws.{lt-cases}
+use Rattle.resil_virtual.proofs.FirstLaws.{least, lt-cases, none-due}
 
 -- ---- One is taken out.
 module _ {X : Type 0} (p : X → Bool) where
@@ -211,3 +212,60 @@ module _ (at : ℕ) (idle : List Idle) where
       go true looks some = without-one (looks_at at) idle looks
       go false looks (inl some) = absurd (cc (sym looks ∙ some))
       go false looks (inr some) = without-one (ends_at at) idle some
+
+-- ---- Nothing is over.
+
+split-times : (P : ℕ → Type 0) (o : Option ℕ) (xs : List ℕ) → All P (cons_option o xs) → IfSome o P × All P xs
+split-times P None xs all = (tt, all)
+split-times P (Some x) xs all = (All-head P x xs all, All-tail P x xs all)
+
+-- those that come are not before the first one
+from-first : (P : ℕ → Type 0) (ts : List ℕ) (o : Option ℕ) → o ≡ earliest (λ t. t) ts → IfSome o P → ((t u : ℕ) → P t → t ≤ u → P u) → All P ts
+from-first P ts None is first grows = subst (All P) (sym (none-due (λ t. t) ts (sym is))) (All-nil P)
+from-first P ts (Some t) is first grows = All-weaker (λ u. t ≤ u) P (λ u le. grows t u first le) ts (least (λ t. t) ts t (sym is))
+
+passed-same : (none : Bool) (at : ℕ) (w : Idle) → IfSome w.end (λ end. at ≤ end) → (none ≡ false) ⊎ IfSome w.look (λ look. suc at ≤ look) → passed none at w ≡ w
+passed-same none at w ends looks = rw (still-same at w.end ends, look-same none looks) refl
+  where
+    later-look : (look : Option ℕ) → IfSome look (λ look. suc at ≤ look) → still_looks at look ≡ look
+    later-look None le = refl
+    later-look (Some look) le = let after : nat_le look at ≡ false = grind (arith, common_steps, le) in rw after refl
+
+    look-same : (none : Bool) → (none ≡ false) ⊎ IfSome w.look (λ look. suc at ≤ look) → (if none then still_looks at w.look else w.look) ≡ w.look
+    look-same false looks = refl
+    look-same true (inl unset) = absurd (cc unset)
+    look-same true (inr le) = later-look w.look le
+
+all-same : (none : Bool) (at : ℕ) (idle : List Idle) → All (λ end. at ≤ end) (ends_of idle) → (none ≡ false) ⊎ All (λ look. suc at ≤ look) (looks_of idle) → map (passed none at) idle ≡ idle
+all-same none at [] ends looks = refl
+all-same none at (w ∷ idle) ends looks =
+    let e = split-times (λ end. at ≤ end) w.end (ends_of idle) ends in
+    elim looks [
+      | inl unset ↦ (let one = passed-same none at w e.0 (inl unset) in let rest = all-same none at idle e.1 (inl unset) in rw (one, rest) refl)
+      | inr all ↦ (
+          let l = split-times (λ look. suc at ≤ look) w.look (looks_of idle) all in
+          let one = passed-same none at w e.0 (inr l.0) in let rest = all-same none at idle e.1 (inr l.1) in rw (one, rest) refl)
+    ]
+
+pub nothing-over : (none : Bool) (at : ℕ) (idle : List Idle) (end look : Option ℕ) → AreFirst idle end look → changes none at end look ≡ false → map (passed none at) idle ≡ idle
+nothing-over none at idle end look first is =
+    all-same none at idle (from-first (λ e. at ≤ e) (ends_of idle) end first.end (not-over end neither.0) (λ t u le more. omega (arith, le, more))) (looks none neither.1)
+  where
+    either : (a b : Bool) → (a || b) ≡ false → (a ≡ false) × (b ≡ false)
+    either true b is = absurd (cc is)
+    either false b is = (refl, is)
+
+    neither : (is_over at end ≡ false) × ((none && has_looked at look) ≡ false)
+    neither = either (is_over at end) (none && has_looked at look) is
+
+    not-over : (o : Option ℕ) → is_over at o ≡ false → IfSome o (λ e. at ≤ e)
+    not-over None is = tt
+    not-over (Some e) is = grind (arith, common_steps, is)
+
+    not-looked : (o : Option ℕ) → has_looked at o ≡ false → IfSome o (λ l. suc at ≤ l)
+    not-looked None is = tt
+    not-looked (Some l) is = grind (arith, common_steps, is)
+
+    looks : (none : Bool) → (none && has_looked at look) ≡ false → (none ≡ false) ⊎ All (λ l. suc at ≤ l) (looks_of idle)
+    looks false is = inl refl
+    looks true is = inr (from-first (λ l. suc at ≤ l) (looks_of idle) look first.look (not-looked look is) (λ t u le more. omega (arith, le, more)))

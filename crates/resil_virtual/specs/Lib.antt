@@ -1,6 +1,7 @@
 pub mod AtOnce
 pub mod Due
 pub mod Examples
+pub mod IdleWorkers
 pub mod Jobs
 pub mod Load
 pub mod Pool

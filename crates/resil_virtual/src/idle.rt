@@ -1,11 +1,14 @@
 //! The workers that have no job.
 
-ghost use Rattle.std.specs.Prelude.{◌≡◌, map};
+ghost use Rattle.std.specs.Prelude.{◌≡◌, ◌-◌, ◌++◌, ◌∷◌, [], OnOk, length, map, take};
 ghost use Rattle.std.specs.List.{list_any};
-ghost use Rattle.resil_virtual.specs.Due.{earliest, ends_of, is_at, looks_of, passed, still_ends, still_looks, wake_first, without_first, without_taker, woken};
+ghost use Rattle.resil_virtual.specs.Due.{earliest, ends_at, ends_of, is_at, looks_of, passed, still_ends, still_looks, wake_first, without_first, without_taker, woken};
+ghost use Rattle.resil_virtual.specs.IdleWorkers.{changes, has_looked, is_over};
 ghost use Rattle.resil_virtual.specs.Pool.{is_free};
 
 use crate::due::sooner_time;
+use std::alloc::{AllocError, Global};
+use std::marker::Model;
 
 /// A worker that has no job.
 #[derive(Clone, Copy)]
@@ -50,9 +53,9 @@ fn passed(worker: Idle, none_waits: bool, at: u64) -> Idle
     }
 }
 
-/// Lets time pass up to a moment: an idle worker whose time to end was over before it stays for good; and if no job waits, one that
-/// has looked by then is as if it had never been woken.
-pub(crate) fn pass(idle: &mut Vec<Idle>, none_waits: bool, at: u64)
+// Lets time pass up to a moment: an idle worker whose time to end was over before it stays for good; and if no job waits, one that
+// has looked by then is as if it had never been woken.
+fn pass(idle: &mut Vec<Idle>, none_waits: bool, at: u64)
     ensures { idle.new.items ≡ map (passed none_waits at) idle.old.items }
 {
     for place in 0..idle.len() {
@@ -80,8 +83,8 @@ fn woken(worker: Idle, look: u64) -> Idle
     }
 }
 
-/// Wakes the worker that has been idle longest of those that weren't woken.
-pub(crate) fn wake_first(idle: &mut Vec<Idle>, look: u64)
+// Wakes the worker that has been idle longest of those that weren't woken.
+fn wake_first(idle: &mut Vec<Idle>, look: u64)
     ensures { idle.new.items ≡ wake_first look idle.old.items }
 {
     for place in 0..idle.len() {
@@ -113,8 +116,8 @@ fn is_free(worker: Idle, by_look: bool, at: u64) -> bool
     }
 }
 
-/// Takes the first worker out that looks, or that may end, at a moment, and says whether there was one.
-pub(crate) fn remove_first(idle: &mut Vec<Idle>, by_look: bool, at: u64) -> bool
+// Takes the first worker out that looks, or that may end, at a moment, and says whether there was one.
+fn remove_first(idle: &mut Vec<Idle>, by_look: bool, at: u64) -> bool
     ensures found { result ≡ list_any (is_free by_look at) idle.old.items }
     ensures rest { idle.new.items ≡ without_first (is_free by_look at) idle.old.items }
 {
@@ -127,8 +130,8 @@ pub(crate) fn remove_first(idle: &mut Vec<Idle>, by_look: bool, at: u64) -> bool
     false
 }
 
-/// Takes the worker out that takes a job at a moment: none, if the worker that takes it has just finished another one.
-pub(crate) fn remove_taker(idle: &mut Vec<Idle>, own: bool, at: u64)
+// Takes the worker out that takes a job at a moment: none, if the worker that takes it has just finished another one.
+fn remove_taker(idle: &mut Vec<Idle>, own: bool, at: u64)
     ensures { idle.new.items ≡ without_taker own at idle.old.items }
 {
     if own || remove_first(idle, true, at) {
@@ -137,8 +140,8 @@ pub(crate) fn remove_taker(idle: &mut Vec<Idle>, own: bool, at: u64)
     remove_first(idle, false, at);
 }
 
-/// When the first idle worker may end.
-pub(crate) fn first_end(idle: &[Idle]) -> Option<u64>
+// When the first idle worker may end.
+fn first_end(idle: &[Idle]) -> Option<u64>
     ensures { result ≡ earliest (λ end. end) (ends_of idle.now) }
 {
     let mut first = None;
@@ -148,8 +151,8 @@ pub(crate) fn first_end(idle: &[Idle]) -> Option<u64>
     first
 }
 
-/// When the first worker looks that was woken.
-pub(crate) fn first_look(idle: &[Idle]) -> Option<u64>
+// When the first worker looks that was woken.
+fn first_look(idle: &[Idle]) -> Option<u64>
     ensures { result ≡ earliest (λ look. look) (looks_of idle.now) }
 {
     let mut first = None;
@@ -157,4 +160,148 @@ pub(crate) fn first_look(idle: &[Idle]) -> Option<u64>
         first = sooner_time(first, idle[place].look);
     }
     first
+}
+
+// Whether a time to end is before a moment.
+fn is_over(end: Option<u64>, at: u64) -> bool
+    ensures { result ≡ is_over at end }
+{
+    match end {
+        Some(end) => end < at,
+        None => false,
+    }
+}
+
+// Whether a look is at a moment or before.
+fn has_looked(look: Option<u64>, at: u64) -> bool
+    ensures { result ≡ has_looked at look }
+{
+    match look {
+        Some(look) => look <= at,
+        None => false,
+    }
+}
+
+// Whether time alone changes a worker up to a moment.
+fn changes(worker: Idle, none_waits: bool, at: u64) -> bool
+    ensures { result ≡ changes none_waits at worker.end worker.look }
+{
+    is_over(worker.end, at) || (none_waits && has_looked(worker.look, at))
+}
+
+/// The workers that have no job, the one that has been idle longest first. When the first one may end, and when the first one looks, are
+/// kept next to them: so time passes without a look at each of them.
+#[derive(Drop)]
+pub(crate) struct IdleWorkers {
+    items: Vec<Idle>,
+    first: Idle,
+}
+
+impl Model for IdleWorkers {
+    ghost use Rattle.resil_virtual.specs.IdleWorkers.{AreFirst, IdleView};
+
+    ghost Value = { IdleView };
+
+    ghost view = { λ w. record { items = w.items.items } };
+
+    ghost invariant = { λ w. AreFirst w.items.items w.first.end w.first.look };
+}
+
+// When the first of some workers may end, and when the first of them looks.
+fn first_times(idle: &[Idle]) -> Idle
+    ensures end { result.end ≡ earliest (λ end. end) (ends_of idle.now) }
+    ensures look { result.look ≡ earliest (λ look. look) (looks_of idle.now) }
+{
+    Idle {
+        end: first_end(idle),
+        look: first_look(idle),
+    }
+}
+
+impl IdleWorkers {
+    /// No workers. It doesn't allocate.
+    pub(crate) fn new(alloc: Global) -> IdleWorkers
+        ensures { result.items ≡ [] }
+    {
+        IdleWorkers {
+            items: Vec::new(alloc),
+            first: Idle {
+                end: None,
+                look: None,
+            },
+        }
+    }
+
+    /// When the first worker may end.
+    pub(crate) fn first_end(&self) -> Option<u64>
+        ensures { result ≡ earliest (λ end. end) (ends_of self.now.items) }
+    {
+        self.first.end
+    }
+
+    /// When the first worker looks that was woken.
+    pub(crate) fn first_look(&self) -> Option<u64>
+        ensures { result ≡ earliest (λ look. look) (looks_of self.now.items) }
+    {
+        self.first.look
+    }
+
+    /// A worker falls idle. Errors: `AllocError` when out of memory.
+    pub(crate) fn push(&mut self, worker: Idle) -> Result<(), AllocError>
+        ensures { OnOk result (self.new.items ≡ self.old.items ++ worker ∷ []) }
+    {
+        self.items.push(worker)?;
+        self.first = Idle {
+            end: sooner_time(self.first.end, worker.end),
+            look: sooner_time(self.first.look, worker.look),
+        };
+        Ok(())
+    }
+
+    /// The worker is gone that fell idle last.
+    pub(crate) fn pop(&mut self)
+        ensures { self.new.items ≡ take (length self.old.items - 1) self.old.items }
+    {
+        self.items.pop();
+        self.first = first_times(&self.items);
+    }
+
+    /// Lets time pass up to a moment: an idle worker whose time to end was over before it stays for good; and if no job waits, one that
+    /// has looked by then is as if it had never been woken.
+    pub(crate) fn pass(&mut self, none_waits: bool, at: u64)
+        ensures { self.new.items ≡ map (passed none_waits at) self.old.items }
+    {
+        if !changes(self.first, none_waits, at) {
+            return;
+        }
+        pass(&mut self.items, none_waits, at);
+        self.first = first_times(&self.items);
+    }
+
+    /// Wakes the worker that has been idle longest of those that weren't woken.
+    pub(crate) fn wake_first(&mut self, look: u64)
+        ensures { self.new.items ≡ wake_first look self.old.items }
+    {
+        wake_first(&mut self.items, look);
+        self.first = first_times(&self.items);
+    }
+
+    /// Takes the first worker out that may end at a moment.
+    pub(crate) fn remove_ending(&mut self, at: u64)
+        ensures { self.new.items ≡ without_first (ends_at at) self.old.items }
+    {
+        remove_first(&mut self.items, false, at);
+        self.first = first_times(&self.items);
+    }
+
+    /// Takes the worker out that takes a job at a moment: none, if the worker that takes it has just finished another one.
+    pub(crate) fn remove_taker(&mut self, own: bool, at: u64)
+        ensures { self.new.items ≡ without_taker own at self.old.items }
+    {
+        if own {
+            return;
+        }
+        remove_taker(&mut self.items, own, at);
+        self.first = first_times(&self.items);
+    }
 }

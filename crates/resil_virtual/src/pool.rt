@@ -16,7 +16,7 @@ ghost use Rattle.resil_virtual.specs.Simulated.{IsSimulated, opening};
 
 use crate::arrival::Arrival;
 use crate::due::sooner;
-use crate::idle::{Idle, first_end, first_look, pass, remove_first, remove_taker, wake_first};
+use crate::idle::{Idle, IdleWorkers};
 use crate::jobs::RunningJobs;
 use crate::virtual_pool::VirtualPool;
 use resil_jdk::{JdkEvent, JdkReply, TimedJdkEvent};
@@ -49,7 +49,7 @@ pub struct Simulation<'a> {
     // The jobs that run.
     running: RunningJobs,
     // The idle workers, the one that has been idle longest first.
-    idle: Vec<Idle>,
+    idle: IdleWorkers,
     // The time of the last event, and whether it is a finish, whose worker looks for a job at once.
     time: u64,
     own_look: bool,
@@ -113,7 +113,7 @@ impl<'a> Simulation<'a> {
             workers: 0,
             queue: VecDeque::new(alloc),
             running: RunningJobs::new(alloc),
-            idle: Vec::new(alloc),
+            idle: IdleWorkers::new(alloc),
             time: 0,
             own_look: false,
             steps: 0,
@@ -199,7 +199,7 @@ impl<'a> Simulation<'a> {
         requires { HasParts self.now self.now.steps (history_of self.now) }
         ensures { result ≡ earliest (λ timed. timed.at) (looks_due (history_of self.now) self.now.idle.items) }
     {
-        take_at(self.front(), first_look(&self.idle))
+        take_at(self.front(), self.idle.first_look())
     }
 
     // The job that comes next.
@@ -232,7 +232,7 @@ impl<'a> Simulation<'a> {
         ensures { result ≡ earliest (λ timed. timed.at) (ends_due self.now.plan (history_of self.now) self.now.idle.items) }
     {
         let front = self.front();
-        let first = first_end(&self.idle);
+        let first = self.idle.first_end();
         if front.is_some() {
             return take_at(front, first);
         }
@@ -286,7 +286,7 @@ impl<'a> Simulation<'a> {
             }
             JdkReply::Queued => {
                 self.queue.push_back(job)?;
-                wake_first(&mut self.idle, job.at + self.plan.wakes);
+                self.idle.wake_first(job.at + self.plan.wakes);
             }
             JdkReply::Full | JdkReply::Closed => {}
         }
@@ -305,7 +305,7 @@ impl<'a> Simulation<'a> {
             return Ok(());
         };
         let none_waits = self.no_job_waits();
-        pass(&mut self.idle, none_waits, job.at);
+        self.idle.pass(none_waits, job.at);
         self.place(job, reply)?;
         self.next += 1;
         self.own_look = false;
@@ -331,8 +331,8 @@ impl<'a> Simulation<'a> {
         let Some(job) = self.front_job() else {
             return Ok(());
         };
-        pass(&mut self.idle, false, at);
-        remove_taker(&mut self.idle, self.own_look, at);
+        self.idle.pass(false, at);
+        self.idle.remove_taker(self.own_look, at);
         self.queue.pop_front();
         self.running.run(job, at, self.steps)?;
         self.own_look = false;
@@ -363,7 +363,7 @@ impl<'a> Simulation<'a> {
     {
         let none_waits = self.no_job_waits();
         let end = self.end_from(at);
-        pass(&mut self.idle, none_waits, at);
+        self.idle.pass(none_waits, at);
         self.running.remove_first();
         if none_waits {
             self.idle.push(Idle { end, look: None })?;
@@ -381,8 +381,8 @@ impl<'a> Simulation<'a> {
         ensures less { left self.new.plan self.new.arrivals.now self.new.next (history_of self.old ++ end_at at ∷ []) < left_in self.old }
         ensures load { (self.new.plan ≡ self.old.plan) × (self.new.arrivals.now ≡ self.old.arrivals.now) × (self.new.steps ≡ self.old.steps) }
     {
-        pass(&mut self.idle, true, at);
-        remove_first(&mut self.idle, false, at);
+        self.idle.pass(true, at);
+        self.idle.remove_ending(at);
         self.workers -= 1;
         self.own_look = false;
         self.time = at;

@@ -7,7 +7,7 @@ overflow_sub-self c = let s = c.args.self.now in some-worker s.plan s.arrivals.n
 
 pub returns-clause-pool : goal.returns-clause-pool
 returns-clause-pool c =
-    let s = c.args.self.now in rw (c.remove_first.ensures.rest, c.pass.ensures) (ended-parts s.plan s.arrivals.now s.next s.workers s.time s.own_look s.steps s.queue.items s.running.items s.idle.items (history_of s) c.requires.pool c.args.at c.requires.due)
+    let s = c.args.self.now in rw (c.remove_ending.ensures, c.pass.ensures) (ended-parts s.plan s.arrivals.now s.next s.workers s.time s.own_look s.steps s.queue.items s.running.items s.idle.items (history_of s) c.requires.pool c.args.at c.requires.due)
 
 pub returns-clause-less : goal.returns-clause-less
 returns-clause-less c = let s = c.args.self.now in ended-left s.plan s.arrivals.now s.next s.workers s.time s.own_look s.steps s.queue.items s.running.items s.idle.items (history_of s) c.requires.pool c.args.at c.requires.due

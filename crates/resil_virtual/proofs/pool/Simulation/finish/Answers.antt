@@ -15,7 +15,7 @@ returns-clause-pool c =
     let none = c.no_job_waits-none_waits.ensures ∙ none-is s.plan s.arrivals.now s.next s.workers s.time s.own_look s.steps s.queue.items s.running.items s.idle.items (history_of s) c.requires.pool in
     elim c.if-none_waits.branch [
       | then-none_waits+in_ok-push w ↦ (
-          let same = w.in_ok-push.ensures.items ∙ ap (λ (idle : List Idle). idle ++ fallen c.end_from-end.result ∷ []) c.pass.ensures
+          let same = w.in_ok-push.ensures ∙ ap (λ (idle : List Idle). idle ++ fallen c.end_from-end.result ∷ []) c.pass.ensures
           ∙ fallen-is s.plan s.arrivals.now s.next s.workers s.time s.own_look s.steps s.queue.items s.running.items s.idle.items (history_of s) c.requires.pool c.args.id c.args.at c.no_job_waits-none_waits.result c.end_from-end.result none w.if-none_waits.true c.end_from-end.ensures in
           rw w.self-is (finished-parts s.plan s.arrivals.now s.next s.workers s.time s.own_look s.steps s.queue.items s.running.items s.idle.items (history_of s) c.requires.pool c.args.id c.args.at c.requires.due c.remove_first.result _ c.remove_first.ensures.first c.remove_first.ensures.rest _ same))
       | else-none_waits w ↦ (

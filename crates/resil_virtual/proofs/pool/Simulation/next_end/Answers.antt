@@ -25,7 +25,7 @@ pub returns-then-is_some : goal.returns-then-is_some
 returns-then-is_some c =
     let s = c.args.self.now in
     let ids = c.front-front.ensures ∙ ap (λ (ids : List Id). slice_get ids 0) c.requires.queue_is in
-    let times = rw c.deref.ensures.value at c.first_end-first.ensures in
+    let times = c.first_end-first.ensures in
     c.take_at.ensures ∙ ap (λ (at : Option ℕ). option_map_or (λ id. option_map (take_at id) at) c.front-front.result None) times
     ∙ ap (λ (o : Option Id). option_map_or (λ id. option_map (take_at id) (earliest (λ at. at) (ends_of s.idle.items))) o None) ids
     ∙ last-take (ends_of s.idle.items) (front (events_in (history_of s))) (has_spare s.plan (events_in (history_of s))) (c.if-is_some.ensures ∙ ap (λ (o : Option Id). is_some o) ids)
@@ -34,7 +34,7 @@ pub returns : goal.returns
 returns c =
     let s = c.args.self.now in
     let ids = c.front-front.ensures ∙ ap (λ (ids : List Id). slice_get ids 0) c.requires.queue_is in
-    let times = rw c.deref.ensures.value at c.first_end-first.ensures in
+    let times = c.first_end-first.ensures in
     let spare : has_spare s.plan (events_in (history_of s)) ≡ true = search rules in
     c.end_at.ensures ∙ ap (option_map end_at) times
     ∙ first-end (ends_of s.idle.items) (front (events_in (history_of s))) (has_spare s.plan (events_in (history_of s))) (c.if-is_some.ensures ∙ ap (λ (o : Option Id). is_some o) ids) spare

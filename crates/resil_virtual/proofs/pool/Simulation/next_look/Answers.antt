@@ -16,6 +16,6 @@ pub returns : goal.returns
 returns c =
     let s = c.args.self.now in
     let ids = c.front.ensures ∙ ap (λ (ids : List Id). slice_get ids 0) c.requires.queue_is in
-    let times = rw c.deref.ensures.value at c.first_look.ensures in
+    let times = c.first_look.ensures in
     c.take_at.ensures ∙ ap (λ (at : Option ℕ). option_map_or (λ id. option_map (take_at id) at) c.front.result None) times
     ∙ ap (λ (o : Option Id). option_map_or (λ id. option_map (take_at id) (earliest (λ at. at) (looks_of s.idle.items))) o None) ids ∙ first-take (looks_of s.idle.items) (front (events_in (history_of s)))
