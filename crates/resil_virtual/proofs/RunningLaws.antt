@@ -1,4 +1,4 @@
--- The jobs that run, in whatever order they are kept.
+-- The jobs that run, in any order.
 use Rattle.std.proofs.Common.{inl, inr, ◌⊎◌, ◌≡◌, ◌≤◌, ◌<◌, ◌+◌, ◌==◌, ◌&&◌, ◌∷◌, [], ◌++◌, ◌∙◌, ℕ, suc, Bool, true, false, not, cond, All, List, Option, Some, None, filter, length, map, option_map, slice_get, slice_index_or, refl, sym, ap, subst, arith}
 use Rattle.std.specs.List.{AllByRecursion}
 use Rattle.std.specs.List.Sorted.{IsPermutation}

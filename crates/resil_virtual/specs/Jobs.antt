@@ -39,6 +39,6 @@ abbrev pub total : (RunningJob → ℕ) → List RunningJob → ℕ
 total of_job [] = 0
 total of_job (job ∷ jobs) = of_job job + total of_job jobs
 
--- the same jobs, each as many times, in whatever order
+-- the same jobs, each as many times, in any order
 abbrev pub SameJobs : List RunningJob → List RunningJob → Type 0
 SameJobs jobs others = (of_job : RunningJob → ℕ) → total of_job jobs ≡ total of_job others

@@ -53,7 +53,7 @@ pub struct Simulation<'a> {
     // The time of the last event, and whether it is a finish, whose worker looks for a job at once.
     time: u64,
     own_look: bool,
-    // How many events were handed out. With the pool and the load they say what has happened.
+    // How many events it has returned. With the pool and the load, their number determines what has happened.
     steps: u128,
 }
 
