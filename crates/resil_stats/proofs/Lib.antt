@@ -13,3 +13,4 @@ pub mod BarLaws
 pub mod AxisLaws
 pub mod ColumnLaws
 pub mod SvgLaws
+pub mod WaitLaws

@@ -12,7 +12,7 @@ use Rattle.resil_stats.specs.declared.spans.Measure.{Measure}
 use Rattle.resil_stats.proofs.CountLaws.{after_more}
 
 -- the last index of a job, with one more
-last-more : {A : Type 0} (id : Id) (other : Option A) (all : List (Id × A)) (one : Id × A) → last_index id other (all ++ one ∷ []) ≡ cond (is_same_id id one.0) (Some one.1) (last_index id other all)
+pub last-more : {A : Type 0} (id : Id) (other : Option A) (all : List (Id × A)) (one : Id × A) → last_index id other (all ++ one ∷ []) ≡ cond (is_same_id id one.0) (Some one.1) (last_index id other all)
 last-more id other [] one = refl
 last-more id other (first ∷ all) one = last-more id (if is_same_id id first.0 then Some first.1 else other) all one
 

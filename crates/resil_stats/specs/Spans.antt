@@ -79,6 +79,10 @@ spans measure restated times history = made_after (span_at measure restated time
 abbrev pub jdk_waits : ℕ → List ℕ → List JdkEvent → List ℕ
 jdk_waits restated times history = spans Wait restated times history
 
+-- when a job was submitted that was accepted
+abbrev pub came_at : List JdkEvent → List ℕ → Id → Option ℕ
+came_at history times id = option_map (slice_index times) (begun_at (beginnings Wait 0 history) id)
+
 -- ---- Their ranks.
 
 -- The median, the 99th percentile and the greatest of some numbers: of n numbers in ascending order those at the places ⌈n/2⌉, ⌈99n/100⌉

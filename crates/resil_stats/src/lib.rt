@@ -34,7 +34,7 @@ pub use depth::Level;
 pub use marks::{Mark, Sign};
 pub use picture::{Drawn, Illegal, Picture, legal_part, picture_of};
 pub use results::OutcomesById;
-pub use spans::{JdkSpans, Ranks, spans_of_jdk, waits_of_jdk};
+pub use spans::{JdkSpans, Ranks, ranks_of, spans_of_jdk, waits_of_jdk};
 pub use stats::{CallerStats, JdkAnswers, JdkCounts, JdkStats, Load, count_jdk};
 pub use svg::{Caption, svg_text};
 pub use text::stats_text;

@@ -228,8 +228,8 @@ fn at_place(ascending: &[u64], place: usize) -> Option<u64>
     ascending.get(place.saturating_sub(1)).copied()
 }
 
-/// The ranks of some spans.
-pub(crate) fn ranks_of(spans: Vec<u64>) -> Ranks
+/// The ranks of some spans, in microseconds.
+pub fn ranks_of(spans: Vec<u64>) -> Ranks
     ensures { AreRanksOf spans.items result }
 {
     let mut ascending = spans;

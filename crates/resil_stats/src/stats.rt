@@ -128,7 +128,7 @@ pub struct Load {
 
 impl Load {
     /// The greater of each of the numbers.
-    pub(crate) fn max(self, other: Load) -> Load
+    pub fn max(self, other: Load) -> Load
         ensures waiting { result.waiting ≡ max self.waiting other.waiting }
         ensures running { result.running ≡ max self.running other.running }
         ensures workers { result.workers ≡ max self.workers other.workers }
