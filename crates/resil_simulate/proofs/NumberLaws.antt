@@ -56,7 +56,7 @@ module _ (events : List JdkEvent) (times : List ℕ) (has : HasTimes events time
   workers-few k = let few = workers-within_opening has.legal.0 (take k events) has.legal.1 (before k) in omega (arith, few, has.legal.1.max)
 
   -- no more ran than workers existed, which is a small number
-  areas-small : (i : ℕ) → i < length events → (area running_count events times i ≤ area workers events times i) × (area workers events times i < 2 ^ 93)
+  pub areas-small : (i : ℕ) → i < length events → (area running_count events times i ≤ area workers events times i) × (area workers events times i < 2 ^ 93)
   areas-small i lt =
       let small = area-small events times workers workers-few has.ascending i (omega (arith, lt, has.same)) in
       let fit = fits i in

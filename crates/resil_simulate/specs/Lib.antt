@@ -6,4 +6,5 @@ pub mod Load
 pub mod Numbers
 pub mod Rows
 pub mod Table
+pub mod Tally
 pub mod Version

@@ -4,20 +4,23 @@ ghost use Rattle.std.specs.Prelude.{◌≡◌, ◌↔◌, All, IfOk, IsTrue, Mat
 ghost use Rattle.resil_heads.specs.CommandError.{IsError};
 ghost use Rattle.resil_heads.specs.Parts.{SplitsInto};
 ghost use Rattle.resil_virtual.specs.Load.{IsLoad};
+ghost use Rattle.resil_virtual.specs.Simulated.{opening};
 ghost use Rattle.resil_simulate.specs.Command.{AreArrivals, AreShown, IsArrivalsRefusal, IsHeadRefusal, IsHistoryText, IsLoadOf, IsPoolRun, IsRead, IsSimulateRefusal, IsTableText, first_sizes, own_sizes, pool_of, pools_of, resized_sizes, text_of};
 ghost use Rattle.resil_simulate.specs.Head.{load_head_of, plan_of};
 ghost use Rattle.resil_simulate.specs.Load.{IsHistoryLoadRefusal};
+ghost use Rattle.resil_simulate.specs.Tally.{IsTallyOf, IsTimed};
 
 use crate::head::{LoadHead, Ways, read_load_head};
 use crate::load::{load_of, load_of_history};
 use crate::numbers::{PoolNumbers, numbers_of};
 use crate::rows::{Rows, read_rows};
 use crate::table::table_text;
+use crate::tally::Tally;
 use crate::version::version_text;
 use resil_heads::{CommandError, InputRefusal};
 use resil_input::framing::split_input;
 use resil_jdk::{JdkEvent, JdkLimits, TimedJdkEvent};
-use resil_virtual::{Arrival, VirtualPool, simulate};
+use resil_virtual::{Arrival, Simulation, VirtualPool, simulate};
 use std::alloc::{AllocError, Global};
 
 /// What learns how far a command is.
@@ -166,7 +169,19 @@ fn pool_of(limits: JdkLimits, ways: Ways) -> VirtualPool
     }
 }
 
-// The numbers of a load in one pool. Errors: `AllocError` when out of memory.
+// The tally of what happens in a pool before the first job comes. Errors: `AllocError` when out of memory.
+fn opening_tally(alloc: Global, pool: &VirtualPool) -> Result<Tally, AllocError>
+    requires { IsTimed (opening pool.now) }
+    ensures { IfOk result (IsTallyOf (opening pool.now)) }
+{
+    let mut tally = Tally::new(alloc);
+    if let Some(first) = pool.opening() {
+        tally.add(first)?;
+    }
+    Ok(tally)
+}
+
+// The numbers of a load in one pool. Its history isn't kept. Errors: `AllocError` when out of memory.
 fn run_pool(
     alloc: Global,
     limits: JdkLimits,
@@ -176,8 +191,13 @@ fn run_pool(
     requires { IsLoad ways.idle_for ways.wakes arrivals.now }
     ensures { IfOk result (IsPoolRun ways arrivals.now limits) }
 {
-    let history = simulate(alloc, &pool_of(limits, ways), arrivals)?;
-    numbers_of(alloc, 0, &history)
+    let pool = pool_of(limits, ways);
+    let mut simulation = Simulation::new(alloc, pool, arrivals);
+    let mut tally = opening_tally(alloc, &pool)?;
+    while let Some(timed) = simulation.next()? {
+        tally.add(timed)?;
+    }
+    Ok(tally.numbers())
 }
 
 // The numbers of a load in each of some pools, in order; the progress learns of each pool that is done. Errors: `AllocError` when out of memory.

@@ -3,7 +3,7 @@
 //! `resil_stats` counts how often things happen and how long jobs waited. The time that jobs ran, and that workers existed to run them,
 //! is added up event by event: their number after an event, times the time to the next event.
 
-ghost use Rattle.std.specs.Prelude.{◌≡◌, IfOk};
+ghost use Rattle.std.specs.Prelude.{◌≡◌, ◌≤◌, ◌<◌, ◌+◌, ◌*◌, ◌/◌, ◌^◌, ◌==◌, IfOk, None as nothing, Some, if◌then◌else◌};
 ghost use Rattle.resil_jdk.specs.Admission.{IsLegal};
 ghost use Rattle.resil_jdk.specs.Limits.{AreJdkLimits};
 ghost use Rattle.resil_jdk.specs.Timed.{events_in, times_in};
@@ -34,11 +34,39 @@ pub struct PoolNumbers {
     pub busy: Option<u64>,
 }
 
-// Microseconds of all jobs that ran, and of all workers.
+/// Microseconds of all jobs that ran, and of all workers.
 #[derive(Clone, Copy, Default)]
-struct Areas {
-    run_time: u128,
-    worker_time: u128,
+pub(crate) struct Areas {
+    pub(crate) run_time: u128,
+    pub(crate) worker_time: u128,
+}
+
+impl Areas {
+    /// With the time of a load that lasts for some microseconds.
+    pub(crate) fn plus(self, load: Load, lasts: u64) -> Areas
+        requires run_time { self.run_time + load.running * lasts < 2 ^ 128 }
+        requires worker_time { self.worker_time + load.workers * lasts < 2 ^ 128 }
+        ensures run_time { result.run_time ≡ self.run_time + load.running * lasts }
+        ensures worker_time { result.worker_time ≡ self.worker_time + load.workers * lasts }
+    {
+        let lasts = u128::from(lasts);
+        Areas {
+            run_time: self.run_time + load.running as u128 * lasts,
+            worker_time: self.worker_time + load.workers as u128 * lasts,
+        }
+    }
+
+    /// How busy the workers were, in thousandths of their time, rounded down, or `None` if they have no time.
+    pub(crate) fn busy(self) -> Option<u64>
+        requires { (self.run_time ≤ self.worker_time) × (self.worker_time < 2 ^ 93) }
+        ensures { result ≡ (if self.worker_time == 0 then nothing else Some (self.run_time * 1000 / self.worker_time)) }
+    {
+        if self.worker_time == 0 {
+            None
+        } else {
+            Some((self.run_time * 1000 / self.worker_time) as u64)
+        }
+    }
 }
 
 // The time of jobs and of workers up to the last finish.
@@ -51,9 +79,8 @@ fn areas_of(events: &[JdkEvent], times: &[u64]) -> Areas
     let mut so_far = Areas::default();
     let mut finished = so_far;
     for (index, event) in events.iter().enumerate() {
-        let gap = u128::from(times[index].saturating_sub(times[index.saturating_sub(1)]));
-        so_far.run_time += load.running as u128 * gap;
-        so_far.worker_time += load.workers as u128 * gap;
+        let lasts = times[index].saturating_sub(times[index.saturating_sub(1)]);
+        so_far = so_far.plus(load, lasts);
         load = load.after(*event);
         let JdkEvent::Finish(_) = event else {
             continue;
@@ -68,12 +95,7 @@ fn busy_of(events: &[JdkEvent], times: &[u64]) -> Option<u64>
     requires { HasTimes events.now times.now }
     ensures { result ≡ busy events.now times.now }
 {
-    let areas = areas_of(events, times);
-    if areas.worker_time == 0 {
-        None
-    } else {
-        Some((areas.run_time * 1000 / areas.worker_time) as u64)
-    }
+    areas_of(events, times).busy()
 }
 
 /// The numbers of a legal history whose times ascend. The first `restated` events restate the state in which it begins: their submissions
