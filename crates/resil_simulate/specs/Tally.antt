@@ -48,7 +48,7 @@ pub record IsTallyOf (history : List TimedJdkEvent) (tally : Tally) : Type 0 whe
 abbrev pub IsTimed : List TimedJdkEvent → Type 0
 IsTimed history = HasTimes (events_in history) (times_in history)
 
--- ---- What is asked for and done at one event.
+-- ---- What an event needs, and what it changes.
 
 -- the submissions are those of some events that one more may follow
 abbrev pub MaySubmit : Submissions → Type 0
