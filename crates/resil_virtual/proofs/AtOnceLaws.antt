@@ -1,21 +1,5 @@
 -- A pool whose time to wake is 0, beside the definition of one whose workers take none.
-use Rattle.std.proofs.Common.{inl, inr, ◌⊎◌, ◌≡◌, ◌≤◌, ◌<◌, ◌==◌, ◌∷◌, [], ◌++◌, ◌∙◌, ℕ, zero, suc, Bool, true, false, if◌then◌else◌, All, List, Option, Some, None, length, map, option_map, option_to_list, slice_get, take, refl, sym, ap, subst, arith, append_assoc, append-nil}
-use Rattle.std.specs.List.{cons_option, filter_map, list_any}
-use Rattle.std.specs.Option.{IfSome, option_map_or}
-use Rattle.std.proofs.lemmas.Bool.{cases_Bool}
-use Rattle.std.proofs.lemmas.Grind.{common_steps}
-use Rattle.std.proofs.lemmas.List.Elements.{All-append, All-cons, All-head, All-map, All-nil, All-tail}
-use Rattle.resil_rule.specs.declared.event.Id.{Id}
-use Rattle.resil_jdk.specs.History.{waiting}
-use Rattle.resil_jdk.specs.declared.event.JdkEvent.{JdkEvent}
-use Rattle.resil_jdk.specs.Timed.{events_in}
-use Rattle.resil_jdk.specs.declared.timed.TimedJdkEvent.{TimedJdkEvent}
-use Rattle.resil_virtual.specs.AtOnce.{free_after, free_ends, free_from, free_next, next_at_once, takes_due}
-use Rattle.resil_virtual.specs.Due.{earliest, end_at, ends_at, ends_due, ends_of, finishes, front, has_spare, idle_after, is_at, just_finished, last_at, looks_at, looks_due, looks_of, next_due, own_takes, passed, sooner, still_ends, submissions_due, take_at, without_first}
-use Rattle.resil_virtual.specs.Pool.{AreSound, own}
-use Rattle.resil_virtual.specs.declared.arrival.Arrival.{Arrival}
-use Rattle.resil_virtual.specs.declared.idle.Idle.{Idle}
-use Rattle.resil_virtual.specs.declared.virtual_pool.VirtualPool.{VirtualPool}
+use Rattle.resil_virtual.proofs.Words.{inl, inr, ◌⊎◌, ◌≡◌, ◌≤◌, ◌<◌, ◌==◌, ◌∷◌, [], ◌++◌, ◌∙◌, ℕ, zero, suc, Bool, true, false, if◌then◌else◌, All, List, Option, Some, None, length, map, option_map, option_to_list, slice_get, take, refl, sym, ap, subst, arith, append_assoc, append-nil, cons_option, filter_map, list_any, IfSome, option_map_or, cases_Bool, common_steps, All-append, All-cons, All-head, All-map, All-nil, All-tail, Id, waiting, JdkEvent, events_in, TimedJdkEvent, free_after, free_ends, free_from, free_next, next_at_once, takes_due, earliest, end_at, ends_at, ends_due, ends_of, finishes, front, has_spare, idle_after, is_at, just_finished, last_at, looks_at, looks_due, looks_of, next_due, own_takes, passed, sooner, still_ends, submissions_due, take_at, without_first, AreSound, own, Arrival, Idle, VirtualPool}
 use Rattle.resil_virtual.proofs.FirstLaws.{among, earliest-append, first-is, lt-cases}
 use Rattle.resil_virtual.proofs.CauseLaws.{at_of, due-with, jobs-are, next_job, now-job, now-jobs, now-others, others}
 use Rattle.resil_virtual.proofs.IdleLaws.{still-from}

@@ -1,28 +1,5 @@
 -- A pool whose time to wake is 0, after each event.
-use Rattle.std.proofs.Common.{inl, inr, ◌⊎◌, ◌≡◌, ◌≤◌, ◌<◌, ◌+◌, ◌-◌, ◌==◌, ◌&&◌, ◌∷◌, [], ◌++◌, ◌∙◌, ℕ, Bool, true, false, if◌then◌else◌, All, List, Option, Some, None, drop, is_some, length, map, nat_lt, slice_get, take, refl, sym, ap, subst, arith, append-nil}
-use Rattle.std.specs.List.{list_any}
-use Rattle.std.specs.Option.{option_map_or}
-use Rattle.std.proofs.lemmas.Bool.{cases_Bool}
-use Rattle.std.proofs.lemmas.Grind.{common_steps}
-use Rattle.std.proofs.lemmas.List.{length-map, map-append, nil_from_length, take-map}
-use Rattle.std.proofs.lemmas.List.Elements.{All-append, All-cons, All-nil, All-weaker, filter_map-append}
-use Rattle.resil_rule.specs.History.{is_among}
-use Rattle.resil_rule.specs.declared.event.Id.{Id}
-use Rattle.resil_jdk.specs.Admission.{reply_after}
-use Rattle.resil_jdk.specs.History.{running, waiting, workers}
-use Rattle.resil_jdk.specs.declared.event.JdkEvent.{JdkEvent}
-use Rattle.resil_jdk.specs.declared.event.JdkEvent.TheVariants.{Submit, Take, Finish, IdleEnd, TimeOut}
-use Rattle.resil_jdk.specs.declared.event.JdkReply.{JdkReply}
-use Rattle.resil_jdk.specs.declared.event.JdkReply.TheVariants.{Core, First, Queued, Handed, Extra, Full, Closed}
-use Rattle.resil_jdk.specs.Timed.{events_in}
-use Rattle.resil_jdk.specs.declared.timed.TimedJdkEvent.{TimedJdkEvent}
-use Rattle.resil_virtual.specs.AtOnce.{GoesOnAtOnce, SameAtOnce, free_after, free_next}
-use Rattle.resil_virtual.specs.Due.{begun, begun_id, earliest, end_at, end_from, ends_at, fallen, finishes, front, has_spare, idle_after, idle_next, is_at, is_finish, just_finished, last_at, looks_at, looks_due, looks_of, next_due, none_waits, passed, sooner, still_ends, submission, take_at, without_first, without_taker, wake_first, woken, ends_due}
-use Rattle.resil_virtual.specs.Pool.{AreSound, ids_to_come, job_of, own}
-use Rattle.resil_virtual.specs.Simulated.{GoesOn, opening}
-use Rattle.resil_virtual.specs.declared.arrival.Arrival.{Arrival}
-use Rattle.resil_virtual.specs.declared.idle.Idle.{Idle}
-use Rattle.resil_virtual.specs.declared.virtual_pool.VirtualPool.{VirtualPool}
+use Rattle.resil_virtual.proofs.Words.{inl, inr, ◌⊎◌, ◌≡◌, ◌≤◌, ◌<◌, ◌+◌, ◌-◌, ◌==◌, ◌&&◌, ◌∷◌, [], ◌++◌, ◌∙◌, ℕ, Bool, true, false, if◌then◌else◌, All, List, Option, Some, None, drop, is_some, length, map, nat_lt, slice_get, take, refl, sym, ap, subst, arith, append-nil, list_any, option_map_or, cases_Bool, common_steps, length-map, map-append, nil_from_length, take-map, All-append, All-cons, All-nil, All-weaker, filter_map-append, is_among, Id, reply_after, running, waiting, workers, JdkEvent, Submit, Take, Finish, IdleEnd, TimeOut, JdkReply, Core, First, Queued, Handed, Extra, Full, Closed, events_in, TimedJdkEvent, GoesOnAtOnce, SameAtOnce, free_after, free_next, begun, begun_id, earliest, end_at, end_from, ends_at, fallen, finishes, front, has_spare, idle_after, idle_next, is_at, is_finish, just_finished, last_at, looks_at, looks_due, looks_of, next_due, none_waits, passed, sooner, still_ends, submission, take_at, without_first, without_taker, wake_first, woken, ends_due, AreSound, ids_to_come, job_of, own, GoesOn, opening, Arrival, Idle, VirtualPool}
 use Rattle.resil_virtual.proofs.AtOnceLaws.{Ahead, AreAlike, IsCalm, IsOwn, IsWoken, end_in, free-pushed, look-none, no-takes, none-looks, own-due, passed-none_looks, same-due, still-ahead, still-are, take-looks, without-are, without-looks, woken-due}
 use Rattle.resil_virtual.proofs.CauseLaws.{IsTake, are-finishes, at_of, cause, due-with, next_job, others, reached}
 use Rattle.resil_virtual.proofs.FinalLaws.{opened-parts}

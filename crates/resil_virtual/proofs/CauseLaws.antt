@@ -1,24 +1,5 @@
 -- What is due next, and what it isn't before.
-use Rattle.std.proofs.Common.{inl, inr, ◌⊎◌, ◌≡◌, ◌≤◌, ◌+◌, ◌==◌, ◌∷◌, [], ◌++◌, ◌∙◌, ℕ, Bool, true, false, ◌||◌, if◌then◌else◌, All, List, Option, Some, None, is_some, length, map, option_map, option_to_list, slice_get, refl, sym, ap, arith, append_assoc}
-use Rattle.std.specs.List.{cons_option, filter_map, list_any}
-use Rattle.std.specs.Option.{IfSome, option_map_or}
-use Rattle.std.proofs.lemmas.Grind.{common_steps}
-use Rattle.std.proofs.lemmas.List.{length-map}
-use Rattle.std.proofs.lemmas.List.Elements.{All-append, All-cons, All-filter, All-head, All-map, All-nil, All-tail, All-weaker}
-use Rattle.resil_rule.specs.History.{is_among, is_same_id}
-use Rattle.resil_rule.specs.declared.event.Id.{Id}
-use Rattle.resil_rule.proofs.IdLaws.{same_id-self}
-use Rattle.resil_rule.proofs.TimesLaws.{same-length}
-use Rattle.resil_jdk.specs.History.{finished, running, waiting}
-use Rattle.resil_jdk.specs.declared.event.JdkEvent.{JdkEvent}
-use Rattle.resil_jdk.specs.declared.event.JdkEvent.TheVariants.{Finish, IdleEnd, Take}
-use Rattle.resil_jdk.specs.Timed.{events_in}
-use Rattle.resil_jdk.specs.declared.timed.TimedJdkEvent.{TimedJdkEvent}
-use Rattle.resil_virtual.specs.Due.{begun_id, earliest, end_at, ends_at, ends_due, ends_of, finish_from, finish_of, finishes, front, has_spare, idle_after, is_at, is_to_come, just_finished, last_at, looks_at, looks_due, looks_of, next_due, own_takes, submission, submissions_due, take_at}
-use Rattle.resil_virtual.specs.Pool.{AreSound, IsFrom, ids_to_come, job_of, own, to_run}
-use Rattle.resil_virtual.specs.declared.arrival.Arrival.{Arrival}
-use Rattle.resil_virtual.specs.declared.idle.Idle.{Idle}
-use Rattle.resil_virtual.specs.declared.virtual_pool.VirtualPool.{VirtualPool}
+use Rattle.resil_virtual.proofs.Words.{inl, inr, ◌⊎◌, ◌≡◌, ◌≤◌, ◌+◌, ◌==◌, ◌∷◌, [], ◌++◌, ◌∙◌, ℕ, Bool, true, false, ◌||◌, if◌then◌else◌, All, List, Option, Some, None, is_some, length, map, option_map, option_to_list, slice_get, refl, sym, ap, arith, append_assoc, cons_option, filter_map, list_any, IfSome, option_map_or, common_steps, length-map, All-append, All-cons, All-filter, All-head, All-map, All-nil, All-tail, All-weaker, is_among, is_same_id, Id, same_id-self, same-length, finished, running, waiting, JdkEvent, Finish, IdleEnd, Take, events_in, TimedJdkEvent, begun_id, earliest, end_at, ends_at, ends_due, ends_of, finish_from, finish_of, finishes, front, has_spare, idle_after, is_at, is_to_come, just_finished, last_at, looks_at, looks_due, looks_of, next_due, own_takes, submission, submissions_due, take_at, AreSound, IsFrom, ids_to_come, job_of, own, to_run, Arrival, Idle, VirtualPool}
 use Rattle.resil_virtual.proofs.FirstLaws.{among, first-is, least}
 use Rattle.resil_virtual.proofs.HistoryLaws.{next-taken}
 use Rattle.resil_virtual.proofs.ListLaws.{all-left, all-mapped, all-right, all-two}

@@ -1,21 +1,5 @@
 -- A pool after an end.
-use Rattle.std.proofs.Common.{inl, ◌≡◌, ◌≤◌, ◌<◌, ◌+◌, ◌==◌, ◌∷◌, [], ◌++◌, ◌∙◌, ℕ, true, false, not, List, Some, None, is_some, length, map, slice_get, sum, refl, ap, arith}
-use Rattle.std.specs.List.{list_any}
-use Rattle.std.proofs.lemmas.Grind.{common_steps}
-use Rattle.std.proofs.lemmas.List.{length-map}
-use Rattle.resil_rule.specs.History.{times}
-use Rattle.resil_rule.specs.declared.event.Id.{Id}
-use Rattle.resil_jdk.specs.Admission.{IsAllowed}
-use Rattle.resil_jdk.specs.History.{kept_size, running, waiting, workers}
-use Rattle.resil_jdk.specs.declared.event.JdkEvent.{JdkEvent}
-use Rattle.resil_jdk.specs.declared.event.JdkEvent.TheVariants.{IdleEnd}
-use Rattle.resil_jdk.specs.Timed.{events_in}
-use Rattle.resil_jdk.specs.declared.timed.TimedJdkEvent.{TimedJdkEvent}
-use Rattle.resil_virtual.specs.Due.{end_at, ends_at, finishes, front, has_spare, idle_after, idle_next, last_at, next_due, none_waits, passed, takes_of, without_first}
-use Rattle.resil_virtual.specs.Pool.{AreSound, IsFrom, ids_to_come, job_of, own, to_run}
-use Rattle.resil_virtual.specs.declared.arrival.Arrival.{Arrival}
-use Rattle.resil_virtual.specs.declared.idle.Idle.{Idle}
-use Rattle.resil_virtual.specs.declared.virtual_pool.VirtualPool.{VirtualPool}
+use Rattle.resil_virtual.proofs.Words.{inl, ◌≡◌, ◌≤◌, ◌<◌, ◌+◌, ◌==◌, ◌∷◌, [], ◌++◌, ◌∙◌, ℕ, true, false, not, List, Some, None, is_some, length, map, slice_get, sum, refl, ap, arith, list_any, common_steps, length-map, times, Id, IsAllowed, kept_size, running, waiting, workers, JdkEvent, IdleEnd, events_in, TimedJdkEvent, end_at, ends_at, finishes, front, has_spare, idle_after, idle_next, last_at, next_due, none_waits, passed, takes_of, without_first, AreSound, IsFrom, ids_to_come, job_of, own, to_run, Arrival, Idle, VirtualPool}
 use Rattle.resil_virtual.proofs.HistoryLaws.{finishes-same, no-submission}
 use Rattle.resil_virtual.proofs.IdleLaws.{passed-end_now, passed-none, passed-stay, without-all, without-count, without-one}
 use Rattle.resil_virtual.proofs.ListLaws.{all-two}

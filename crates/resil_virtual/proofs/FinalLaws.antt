@@ -1,24 +1,7 @@
 -- A pool before all else, and one in which nothing is due any more.
-use Rattle.std.proofs.Common.{inl, inr, ◌⊎◌, ◌≡◌, ◌≤◌, ◌<◌, ◌+◌, ◌*◌, ◌^◌, ◌==◌, ◌∷◌, [], ◌++◌, ◌∙◌, ℕ, zero, suc, Bool, true, false, not, if◌then◌else◌, List, Option, Some, None, filter, is_some, length, map, max, option_map, option_to_list, slice_get, refl, sym, ap, subst, arith, append-nil}
-use Rattle.std.specs.List.{cons_option}
-use Rattle.std.specs.Option.{IfSome, option_map_or}
-use Rattle.std.proofs.lemmas.Grind.{common_steps}
-use Rattle.std.proofs.lemmas.List.{length-map, nil_from_length, take_all}
-use Rattle.resil_rule.specs.declared.event.Id.{Id}
-use Rattle.resil_rule.proofs.TimesLaws.{same-length}
+use Rattle.resil_virtual.proofs.Words.{inl, inr, ◌⊎◌, ◌≡◌, ◌≤◌, ◌<◌, ◌+◌, ◌*◌, ◌^◌, ◌==◌, ◌∷◌, [], ◌++◌, ◌∙◌, ℕ, zero, suc, Bool, true, false, not, if◌then◌else◌, List, Option, Some, None, filter, is_some, length, map, max, option_map, option_to_list, slice_get, refl, sym, ap, subst, arith, append-nil, cons_option, IfSome, option_map_or, common_steps, length-map, nil_from_length, take_all, Id, same-length, kept_size, running, waiting, workers, JdkEvent, TimeOut, events_in, TimedJdkEvent, IsLoad, end_at, ends_due, ends_of, finishes, front, has_spare, idle_after, just_finished, looks_due, looks_of, next_due, own_takes, submission, submissions_of, take_at, IsSimulated, history_after, opening, Arrival, Idle, VirtualPool}
 use Rattle.resil_jdk.specs.Limits.{AreJdkLimits}
-use Rattle.resil_jdk.specs.History.{kept_size, running, waiting, workers}
-use Rattle.resil_jdk.specs.declared.event.JdkEvent.{JdkEvent}
-use Rattle.resil_jdk.specs.declared.event.JdkEvent.TheVariants.{TimeOut}
-use Rattle.resil_jdk.specs.Timed.{events_in}
-use Rattle.resil_jdk.specs.declared.timed.TimedJdkEvent.{TimedJdkEvent}
-use Rattle.resil_virtual.specs.Load.{IsLoad}
-use Rattle.resil_virtual.specs.Due.{end_at, ends_due, ends_of, finishes, front, has_spare, idle_after, just_finished, looks_due, looks_of, next_due, own_takes, submission, submissions_of, take_at}
-use Rattle.resil_virtual.specs.Simulated.{IsSimulated, history_after, opening}
 use Rattle.resil_virtual.specs.Pool.{AreParts, AreSound, ids_to_come, job_of, kept, left, own, staying, submitted_end, submitted_run}
-use Rattle.resil_virtual.specs.declared.arrival.Arrival.{Arrival}
-use Rattle.resil_virtual.specs.declared.idle.Idle.{Idle}
-use Rattle.resil_virtual.specs.declared.virtual_pool.VirtualPool.{VirtualPool}
 use Rattle.resil_virtual.proofs.FirstLaws.{none-due}
 use Rattle.resil_virtual.proofs.HistoryLaws.{all-done}
 use Rattle.resil_virtual.proofs.CauseLaws.{at_of, due-with, next_job, others}

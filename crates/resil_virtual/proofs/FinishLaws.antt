@@ -1,29 +1,8 @@
 -- A pool after a finish.
-use Rattle.std.proofs.Common.{inl, inr, ◌≡◌, ◌≤◌, ◌+◌, ◌==◌, ◌∷◌, [], ◌++◌, ◌∙◌, ℕ, Bool, true, false, not, cond, if◌then◌else◌, All, List, Option, Some, None, filter, is_some, length, map, slice_get, sum, refl, sym, ap, arith, append-nil, length-append}
-use Rattle.std.specs.Option.{IfSome, option_map_or}
-use Rattle.std.proofs.lemmas.Grind.{common_steps}
-use Rattle.std.proofs.lemmas.Bool.{cases_Bool}
-use Rattle.std.proofs.lemmas.List.{length-map}
-use Rattle.std.proofs.lemmas.List.Elements.{All-filter, All-head, All-push, All-tail, filter-append}
-use Rattle.resil_rule.specs.History.{is_among, is_same_id, times}
-use Rattle.resil_rule.specs.declared.event.Id.{Id}
-use Rattle.resil_rule.proofs.IdLaws.{same_id-equal}
-use Rattle.resil_rule.proofs.TimesLaws.{same_id-sym, somewhere, times-filter, times-one}
+use Rattle.resil_virtual.proofs.Words.{inl, inr, ◌≡◌, ◌≤◌, ◌+◌, ◌==◌, ◌∷◌, [], ◌++◌, ◌∙◌, ℕ, Bool, true, false, not, cond, if◌then◌else◌, All, List, Option, Some, None, filter, is_some, length, map, slice_get, sum, refl, sym, ap, arith, append-nil, length-append, IfSome, option_map_or, common_steps, cases_Bool, length-map, All-filter, All-head, All-push, All-tail, filter-append, is_among, is_same_id, times, Id, same_id-equal, same_id-sym, somewhere, times-filter, times-one, IsAllowed, IsLegal, JdkEvent, Finish, jobs-conserved, waiting-more, events_in, TimedJdkEvent, end_from, fallen, finished_last, finishes, front, has_spare, idle_after, idle_next, is_finish, last_at, looks_of, next_due, none_waits, passed, takes_of, AreSound, IsFrom, ids_to_come, job_of, kept, own, staying, to_run, Arrival, Idle, VirtualPool}
 use Rattle.resil_rule.specs.Limits.{Sizes}
 use Rattle.resil_jdk.specs.History.{finished_id, kept_size, left, queued, running, waiting, without, workers}
-use Rattle.resil_jdk.specs.Admission.{IsAllowed, IsLegal}
-use Rattle.resil_jdk.specs.declared.event.JdkEvent.{JdkEvent}
-use Rattle.resil_jdk.specs.declared.event.JdkEvent.TheVariants.{Finish}
-use Rattle.resil_jdk.proofs.ConservationLaws.{jobs-conserved}
 use Rattle.resil_jdk.proofs.LineLaws.{among-same}
-use Rattle.resil_jdk.proofs.StateLaws.{waiting-more}
-use Rattle.resil_jdk.specs.Timed.{events_in}
-use Rattle.resil_jdk.specs.declared.timed.TimedJdkEvent.{TimedJdkEvent}
-use Rattle.resil_virtual.specs.Due.{end_from, fallen, finished_last, finishes, front, has_spare, idle_after, idle_next, is_finish, last_at, looks_of, next_due, none_waits, passed, takes_of}
-use Rattle.resil_virtual.specs.Pool.{AreSound, IsFrom, ids_to_come, job_of, kept, own, staying, to_run}
-use Rattle.resil_virtual.specs.declared.arrival.Arrival.{Arrival}
-use Rattle.resil_virtual.specs.declared.idle.Idle.{Idle}
-use Rattle.resil_virtual.specs.declared.virtual_pool.VirtualPool.{VirtualPool}
 use Rattle.resil_virtual.proofs.HistoryLaws.{finishes-done, is_of_other, no-submission}
 use Rattle.resil_virtual.proofs.IdleLaws.{passed-none, passed-some, passed-stay}
 use Rattle.resil_virtual.proofs.ListLaws.{all-two, count-few}

@@ -1,11 +1,5 @@
 -- The first of what is due.
-use Rattle.std.proofs.Common.{inl, inr, ◌⊎◌, ◌≡◌, ◌≤◌, ◌<◌, ◌+◌, ◌∷◌, [], ◌++◌, ◌∙◌, ℕ, true, false, All, List, Option, Some, None, get_or, length, map, nat_lt, option_map, take, refl, sym, ap, subst, arith}
-use Rattle.std.specs.List.{cons_option, filter_map}
-use Rattle.std.specs.Option.{IfSome}
-use Rattle.std.proofs.lemmas.List.{take_more}
-use Rattle.std.proofs.lemmas.Grind.{common_steps}
-use Rattle.std.proofs.lemmas.List.Elements.{All-cons, All-head, All-nil, All-tail, All-weaker, filter_map-append}
-use Rattle.resil_virtual.specs.Due.{earliest, sooner}
+use Rattle.resil_virtual.proofs.Words.{inl, inr, ◌⊎◌, ◌≡◌, ◌≤◌, ◌<◌, ◌+◌, ◌∷◌, [], ◌++◌, ◌∙◌, ℕ, true, false, All, List, Option, Some, None, get_or, length, map, nat_lt, option_map, take, refl, sym, ap, subst, arith, cons_option, filter_map, IfSome, take_more, common_steps, All-cons, All-head, All-nil, All-tail, All-weaker, filter_map-append, earliest, sooner}
 
 -- a number is below another one, or it isn't
 pub lt-cases : (n m : ℕ) → ((nat_lt n m ≡ true) × (n < m)) ⊎ ((nat_lt n m ≡ false) × (m ≤ n))

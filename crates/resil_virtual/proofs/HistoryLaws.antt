@@ -1,28 +1,5 @@
 -- A history that goes on by an event with its time.
-use Rattle.std.proofs.Common.{◌≡◌, ◌≤◌, ◌<◌, ◌+◌, ◌==◌, ◌&&◌, ◌∷◌, [], ◌++◌, ◌∙◌, ℕ, zero, suc, Bool, true, false, not, cond, List, Option, Some, None, filter, length, map, slice_get, slice_index, take, refl, sym, ap, subst, arith, append_assoc, append-nil}
-use Rattle.std.specs.List.{cons_option, filter_map}
-use Rattle.std.specs.Option.{option_map_or}
-use Rattle.std.proofs.lemmas.Bool.{cases_Bool}
-use Rattle.std.proofs.lemmas.List.{map-append}
-use Rattle.std.proofs.lemmas.List.Elements.{filter-append, filter_map-append}
-use Rattle.resil_rule.specs.History.{is_among, is_same_id, last_size}
-use Rattle.resil_rule.specs.declared.event.Id.{Id}
-use Rattle.resil_jdk.specs.History.{finished, finished_id, submissions}
-use Rattle.resil_jdk.specs.declared.event.JdkEvent.{JdkEvent}
-use Rattle.resil_jdk.specs.declared.event.JdkEvent.TheVariants.{Submit}
-use Rattle.resil_rule.proofs.TimesLaws.{among-last}
-use Rattle.resil_virtual.specs.Load.{of_caller}
-use Rattle.resil_rule.specs.Timed.{AreAscending}
-use Rattle.resil_jdk.specs.Timed.{events_in, times_in}
-use Rattle.resil_jdk.specs.declared.timed.TimedJdkEvent.{TimedJdkEvent}
-use Rattle.resil_virtual.specs.declared.arrival.Arrival.{Arrival}
-use Rattle.resil_virtual.specs.Jobs.{id_of}
-use Rattle.resil_virtual.specs.declared.jobs.RunningJob.{RunningJob}
-use Rattle.resil_virtual.specs.Due.{begun_id, finish_from, finish_of, finishes, idle_after, idle_from, idle_next, is_to_come, last_at, next_due, submissions_at, submissions_of, submitted_at}
-use Rattle.resil_virtual.specs.Simulated.{GoesOn, OneHistory, opening}
-use Rattle.resil_virtual.specs.declared.idle.Idle.{Idle}
-use Rattle.resil_virtual.specs.declared.virtual_pool.VirtualPool.{VirtualPool}
-use Rattle.resil_virtual.specs.Pool.{AreDue, finish_at}
+use Rattle.resil_virtual.proofs.Words.{◌≡◌, ◌≤◌, ◌<◌, ◌+◌, ◌==◌, ◌&&◌, ◌∷◌, [], ◌++◌, ◌∙◌, ℕ, zero, suc, Bool, true, false, not, cond, List, Option, Some, None, filter, length, map, slice_get, slice_index, take, refl, sym, ap, subst, arith, append_assoc, append-nil, cons_option, filter_map, option_map_or, cases_Bool, map-append, filter-append, filter_map-append, is_among, is_same_id, last_size, Id, finished, finished_id, submissions, JdkEvent, Submit, among-last, of_caller, AreAscending, events_in, times_in, TimedJdkEvent, Arrival, id_of, RunningJob, begun_id, finish_from, finish_of, finishes, idle_after, idle_from, idle_next, is_to_come, last_at, next_due, submissions_at, submissions_of, submitted_at, GoesOn, OneHistory, opening, Idle, VirtualPool, AreDue, finish_at}
 
 -- a list that is filtered out of events, with one more event
 pub filtered-same : {A : Type 0} (f : JdkEvent → Option A) (h : List JdkEvent) (e : JdkEvent) → f e ≡ None → filter_map f (h ++ e ∷ []) ≡ filter_map f h

@@ -1,14 +1,5 @@
 -- Idle workers: who is woken, who looks and who ends.
-use Rattle.std.proofs.Common.{inl, inr, ◌⊎◌, ◌≡◌, ◌≤◌, ◌+◌, ◌∷◌, [], ◌∙◌, ℕ, suc, Bool, true, false, not, if◌then◌else◌, All, List, Option, Some, None, filter, is_some, length, map, nat_le, option_map, refl, sym, ap, subst, arith, ◌||◌, ◌&&◌}
-use Rattle.std.specs.List.{cons_option, list_any}
-use Rattle.std.specs.Option.{IfSome, option_map_or}
-use Rattle.std.proofs.lemmas.Grind.{common_steps}
-use Rattle.std.proofs.lemmas.Bool.{cases_Bool}
-use Rattle.std.proofs.lemmas.List.Elements.{All-cons, All-head, All-nil, All-tail, All-weaker}
-use Rattle.resil_virtual.specs.Due.{earliest, ends_at, ends_of, is_at, later, looks_at, looks_of, passed, still_ends, still_looks, wake_first, without_first, without_taker, woken}
-use Rattle.resil_virtual.specs.IdleWorkers.{AreFirst, changes, has_looked, is_over}
-use Rattle.resil_virtual.specs.Pool.{IsFrom, staying}
-use Rattle.resil_virtual.specs.declared.idle.Idle.{Idle}
+use Rattle.resil_virtual.proofs.Words.{inl, inr, ◌⊎◌, ◌≡◌, ◌≤◌, ◌+◌, ◌∷◌, [], ◌∙◌, ℕ, suc, Bool, true, false, not, if◌then◌else◌, All, List, Option, Some, None, filter, is_some, length, map, nat_le, option_map, refl, sym, ap, subst, arith, ◌||◌, ◌&&◌, cons_option, list_any, IfSome, option_map_or, common_steps, cases_Bool, All-cons, All-head, All-nil, All-tail, All-weaker, earliest, ends_at, ends_of, is_at, later, looks_at, looks_of, passed, still_ends, still_looks, wake_first, without_first, without_taker, woken, AreFirst, changes, has_looked, is_over, IsFrom, staying, Idle}
 use Rattle.resil_virtual.proofs.FirstLaws.{least, lt-cases, none-due}
 
 -- ---- One is taken out.

@@ -14,3 +14,4 @@ pub mod RunningLaws
 pub mod SoundLaws
 pub mod SubmitLaws
 pub mod TakeLaws
+mod Words

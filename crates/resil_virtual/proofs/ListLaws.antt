@@ -1,8 +1,5 @@
 -- Lists that lose an item, or whose items pass a test.
-use Rattle.std.proofs.Common.{◌≡◌, ◌≤◌, ◌∷◌, [], ◌++◌, ℕ, zero, suc, Bool, true, false, All, List, Some, filter, find, length, map, slice_get, take, refl, subst, arith}
-use Rattle.std.proofs.lemmas.List.Elements.{All-cons, All-get_or, All-head, All-nil, All-tail}
-use Rattle.std.proofs.lemmas.Option.{get_or_from_slice_get, slice_get_within}
-use Rattle.std.proofs.lemmas.Bool.{cases_Bool}
+use Rattle.resil_virtual.proofs.Words.{◌≡◌, ◌≤◌, ◌∷◌, [], ◌++◌, ℕ, zero, suc, Bool, true, false, All, List, Some, filter, find, length, map, slice_get, take, refl, subst, arith, All-cons, All-get_or, All-head, All-nil, All-tail, get_or_from_slice_get, slice_get_within, cases_Bool}
 
 module _ {X : Type 0} where
   -- what is true of each item is true of the one at a place

@@ -1,19 +1,6 @@
 -- The jobs of a load.
-use Rattle.std.proofs.Common.{◌≡◌, ◌≤◌, ◌<◌, ◌+◌, ◌==◌, ◌∷◌, [], ◌++◌, ◌∙◌, ℕ, zero, suc, Bool, true, false, All, List, Option, Some, None, get_or, length, map, max, option_map, slice_get, sum, take, refl, sym, ap, subst, arith, length-append}
-use Rattle.std.specs.List.{find}
-use Rattle.std.specs.Option.{IfSome, option_map_or}
-use Rattle.std.proofs.lemmas.List.{map-append, take_more}
-use Rattle.std.proofs.lemmas.List.Elements.{All-more, All-nil, filter-append}
+use Rattle.resil_virtual.proofs.Words.{◌≡◌, ◌≤◌, ◌<◌, ◌+◌, ◌==◌, ◌∷◌, [], ◌++◌, ◌∙◌, ℕ, zero, suc, Bool, true, false, All, List, Option, Some, None, get_or, length, map, max, option_map, slice_get, sum, take, refl, sym, ap, subst, arith, length-append, find, IfSome, option_map_or, map-append, take_more, All-more, All-nil, filter-append, get_or_from_slice_get, slice_get-get_or, slice_get-map, slice_get_within, is_same_id, AreAscending, Id, same_id-equal, same_id-self, submissions_of, IsLoad, earliest_ends_of, latest, of_caller, runs_of, HasRun, submitted_end, Arrival}
 use Rattle.std.proofs.lemmas.List.Sums.{sum_by-append}
-use Rattle.std.proofs.lemmas.Option.{get_or_from_slice_get, slice_get-get_or, slice_get-map, slice_get_within}
-use Rattle.resil_rule.specs.History.{is_same_id}
-use Rattle.resil_rule.specs.Timed.{AreAscending}
-use Rattle.resil_rule.specs.declared.event.Id.{Id}
-use Rattle.resil_rule.proofs.IdLaws.{same_id-equal, same_id-self}
-use Rattle.resil_virtual.specs.Due.{submissions_of}
-use Rattle.resil_virtual.specs.Load.{IsLoad, earliest_ends_of, latest, of_caller, runs_of}
-use Rattle.resil_virtual.specs.Pool.{HasRun, submitted_end}
-use Rattle.resil_virtual.specs.declared.arrival.Arrival.{Arrival}
 use Rattle.resil_virtual.proofs.ListLaws.{count-taken, find-first}
 
 pub sum-append : (xs ys : List ℕ) → sum (xs ++ ys) ≡ sum xs + sum ys

@@ -1,30 +1,7 @@
 -- The parts of a pool after each event.
-use Rattle.std.proofs.Common.{inl, inr, ◌⊎◌, ◌≡◌, ◌≤◌, ◌<◌, ◌+◌, ◌-◌, ◌*◌, ◌^◌, ◌==◌, ◌∷◌, [], ◌++◌, ◌∙◌, ℕ, Bool, true, false, if◌then◌else◌, All, List, Option, Some, None, drop, filter, length, map, option_map, option_to_list, slice_get, take, refl, sym, ap, subst, arith, append_assoc, append-nil, length-append}
-use Rattle.std.specs.List.{list_any}
-use Rattle.std.proofs.lemmas.List.{drop-map, length-map, map-append}
-use Rattle.std.proofs.lemmas.List.Elements.{All-cons, All-drop, All-nil, All-push}
-use Rattle.std.proofs.lemmas.Option.{slice_get-map, slice_get_within}
-use Rattle.std.specs.Option.{IfSome, option_map_or}
-use Rattle.resil_rule.specs.History.{is_among, times}
-use Rattle.resil_rule.specs.declared.event.Id.{Id}
-use Rattle.resil_rule.proofs.TimesLaws.{same-length}
-use Rattle.resil_jdk.specs.Admission.{reply_after}
-use Rattle.resil_jdk.specs.History.{is_begin, is_end, run_at_once, running, waiting, workers}
+use Rattle.resil_virtual.proofs.Words.{inl, inr, ◌⊎◌, ◌≡◌, ◌≤◌, ◌<◌, ◌+◌, ◌-◌, ◌*◌, ◌^◌, ◌==◌, ◌∷◌, [], ◌++◌, ◌∙◌, ℕ, Bool, true, false, if◌then◌else◌, All, List, Option, Some, None, drop, filter, length, map, option_map, option_to_list, slice_get, take, refl, sym, ap, subst, arith, append_assoc, append-nil, length-append, list_any, drop-map, length-map, map-append, All-cons, All-drop, All-nil, All-push, slice_get-map, slice_get_within, IfSome, option_map_or, is_among, times, Id, same-length, reply_after, is_begin, is_end, run_at_once, running, waiting, workers, JdkReply, Core, First, Queued, Handed, Extra, Full, Closed, JdkEvent, Submit, Take, Finish, IdleEnd, workers-within_opening, events_in, TimedJdkEvent, earliest, earliest_end_of, end_at, end_from, ends_at, ends_due, ends_of, fallen, finish_from, finishes, front, has_spare, idle_after, idle_by, idle_next, is_finish, just_finished, last_at, looks_at, looks_due, looks_of, next_due, none_waits, own_takes, passed, sooner, submission, submissions_at, submissions_due, take_at, takes_of, without_first, without_taker, IsSoonest, SameJobs, begun_at, id_of, Arrival, RunningJob, Idle, VirtualPool}
 use Rattle.resil_jdk.specs.RuleView.{begins}
-use Rattle.resil_jdk.specs.declared.event.JdkReply.{JdkReply}
-use Rattle.resil_jdk.specs.declared.event.JdkReply.TheVariants.{Core, First, Queued, Handed, Extra, Full, Closed}
-use Rattle.resil_jdk.specs.declared.event.JdkEvent.{JdkEvent}
-use Rattle.resil_jdk.specs.declared.event.JdkEvent.TheVariants.{Submit, Take, Finish, IdleEnd}
-use Rattle.resil_jdk.proofs.WorkerLaws.{workers-within_opening}
-use Rattle.resil_jdk.specs.Timed.{events_in}
-use Rattle.resil_jdk.specs.declared.timed.TimedJdkEvent.{TimedJdkEvent}
-use Rattle.resil_virtual.specs.Due.{earliest, earliest_end_of, end_at, end_from, ends_at, ends_due, ends_of, fallen, finish_from, finishes, front, has_spare, idle_after, idle_by, idle_next, is_finish, just_finished, last_at, looks_at, looks_due, looks_of, next_due, none_waits, own_takes, passed, sooner, submission, submissions_at, submissions_due, take_at, takes_of, without_first, without_taker}
 use Rattle.resil_virtual.specs.Pool.{AreInOrder, AreParts, AreRunning, HasRun, finish_at, ids_to_come, job_of, left, reply_by, to_queue, to_worker}
-use Rattle.resil_virtual.specs.Jobs.{IsSoonest, SameJobs, begun_at, id_of}
-use Rattle.resil_virtual.specs.declared.arrival.Arrival.{Arrival}
-use Rattle.resil_virtual.specs.declared.jobs.RunningJob.{RunningJob}
-use Rattle.resil_virtual.specs.declared.idle.Idle.{Idle}
-use Rattle.resil_virtual.specs.declared.virtual_pool.VirtualPool.{VirtualPool}
 use Rattle.resil_virtual.proofs.FirstLaws.{among, earliest-append, sooner-one}
 use Rattle.resil_virtual.proofs.RunningLaws.{first-running, running-less, running-many, running-more}
 use Rattle.resil_virtual.proofs.HistoryLaws.{events-are, finishes-done, finishes-same, idle-pushed, last-is}

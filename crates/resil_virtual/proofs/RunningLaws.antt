@@ -1,23 +1,9 @@
 -- The jobs that run, in any order.
-use Rattle.std.proofs.Common.{inl, inr, ◌⊎◌, ◌≡◌, ◌≤◌, ◌<◌, ◌+◌, ◌==◌, ◌&&◌, ◌∷◌, [], ◌++◌, ◌∙◌, ℕ, suc, Bool, true, false, not, cond, All, List, Option, Some, None, filter, length, map, option_map, slice_get, slice_index_or, refl, sym, ap, subst, arith}
-use Rattle.std.specs.List.{AllByRecursion}
+use Rattle.resil_virtual.proofs.Words.{inl, inr, ◌⊎◌, ◌≡◌, ◌≤◌, ◌<◌, ◌+◌, ◌==◌, ◌&&◌, ◌∷◌, [], ◌++◌, ◌∙◌, ℕ, suc, Bool, true, false, not, cond, All, List, Option, Some, None, filter, length, map, option_map, slice_get, slice_index_or, refl, sym, ap, subst, arith, AllByRecursion, cases_Bool, common_steps, map-append, All-cons, All-nil, is_same_id, times, Id, same_id-self, TimedJdkEvent, earliest, finishes, sooner, IsSoonest, SameJobs, id_of, is_before, total, AreInOrder, AreRunning, finish_at, Arrival, RunningJob}
 use Rattle.std.specs.List.Sorted.{IsPermutation}
-use Rattle.std.proofs.lemmas.Bool.{cases_Bool}
-use Rattle.std.proofs.lemmas.Grind.{common_steps}
-use Rattle.std.proofs.lemmas.List.{map-append}
-use Rattle.std.proofs.lemmas.List.Elements.{All-cons, All-nil}
 use Rattle.std.proofs.lemmas.List.Recursion.{is_sum_by}
 use Rattle.std.proofs.lemmas.List.Sorted.{IsPermutation-map, length_permutation, sum_by-IsPermutation}
 use Rattle.std.specs.declared.cmp.Reverse.{Reverse}
-use Rattle.resil_rule.specs.History.{is_same_id, times}
-use Rattle.resil_rule.specs.declared.event.Id.{Id}
-use Rattle.resil_rule.proofs.IdLaws.{same_id-self}
-use Rattle.resil_jdk.specs.declared.timed.TimedJdkEvent.{TimedJdkEvent}
-use Rattle.resil_virtual.specs.Due.{earliest, finishes, sooner}
-use Rattle.resil_virtual.specs.Jobs.{IsSoonest, SameJobs, id_of, is_before, total}
-use Rattle.resil_virtual.specs.Pool.{AreInOrder, AreRunning, finish_at}
-use Rattle.resil_virtual.specs.declared.arrival.Arrival.{Arrival}
-use Rattle.resil_virtual.specs.declared.jobs.RunningJob.{RunningJob}
 use Rattle.resil_virtual.proofs.CauseLaws.{at_of}
 use Rattle.resil_virtual.proofs.FirstLaws.{earliest-map, first-is, lt-cases}
 use Rattle.resil_virtual.proofs.HistoryLaws.{is_of_other, others-are}

@@ -1,24 +1,7 @@
 -- What is sound stays so with what is due next.
-use Rattle.std.proofs.Common.{◌⊎◌, ◌≡◌, ◌≤◌, ◌<◌, ◌+◌, ◌^◌, ◌||◌, ◌∷◌, [], ◌++◌, ◌∙◌, ℕ, Bool, false, All, List, Some, None, filter, length, max, slice_get, sum, take, refl, sym, ap, subst, arith, append_assoc}
-use Rattle.std.specs.Option.{IfSome}
+use Rattle.resil_virtual.proofs.Words.{◌⊎◌, ◌≡◌, ◌≤◌, ◌<◌, ◌+◌, ◌^◌, ◌||◌, ◌∷◌, [], ◌++◌, ◌∙◌, ℕ, Bool, false, All, List, Some, None, filter, length, max, slice_get, sum, take, refl, sym, ap, subst, arith, append_assoc, IfSome, last_size, times, Id, IsAllowed, IsLegal, finished, finished_id, is_begin, is_closed, is_closing, is_end, is_stop, is_stopped, last_setting, new_core, new_max, new_time_out, run_at_once, run_id, running, taken, taken_id, waiting, workers, JdkEvent, as-many, balance, served, events_in, TimedJdkEvent, runs_of, earliest_end_of, finishes, idle_after, idle_next, last_at, looks_of, next_due, submissions_at, submissions_of, opening, AreSound, IsFrom, IsOpen, ids_to_come, kept, own, staying, submitted_end, submitted_run, to_run, Arrival, Idle, VirtualPool}
 use Rattle.std.proofs.lemmas.List.Folds.{list_any-append}
-use Rattle.resil_rule.specs.History.{last_size, times}
-use Rattle.resil_rule.specs.declared.event.Id.{Id}
-use Rattle.resil_jdk.specs.Admission.{IsAllowed, IsLegal}
-use Rattle.resil_jdk.specs.History.{finished, finished_id, is_begin, is_closed, is_closing, is_end, is_stop, is_stopped, last_setting, new_core, new_max, new_time_out, run_at_once, run_id, running, taken, taken_id, waiting, workers}
-use Rattle.resil_jdk.specs.declared.event.JdkEvent.{JdkEvent}
-use Rattle.resil_jdk.proofs.ConservationLaws.{as-many, balance}
 use Rattle.resil_jdk.proofs.HistoryLaws.{count-more, legal-push, marks-more, times-more}
-use Rattle.resil_jdk.proofs.WorkerLaws.{served}
-use Rattle.resil_jdk.specs.Timed.{events_in}
-use Rattle.resil_jdk.specs.declared.timed.TimedJdkEvent.{TimedJdkEvent}
-use Rattle.resil_virtual.specs.Load.{runs_of}
-use Rattle.resil_virtual.specs.Due.{earliest_end_of, finishes, idle_after, idle_next, last_at, looks_of, next_due, submissions_at, submissions_of}
-use Rattle.resil_virtual.specs.Simulated.{opening}
-use Rattle.resil_virtual.specs.Pool.{AreSound, IsFrom, IsOpen, ids_to_come, kept, own, staying, submitted_end, submitted_run, to_run}
-use Rattle.resil_virtual.specs.declared.arrival.Arrival.{Arrival}
-use Rattle.resil_virtual.specs.declared.idle.Idle.{Idle}
-use Rattle.resil_virtual.specs.declared.virtual_pool.VirtualPool.{VirtualPool}
 use Rattle.resil_virtual.proofs.HistoryLaws.{ascending-pushed, due-pushed, events-are, filtered-same, idle-pushed, last-is}
 
 -- a pool stays open by an event that neither closes it nor sets anything

@@ -1,31 +1,7 @@
 -- A pool after a submission.
-use Rattle.std.proofs.Common.{inl, inr, ◌⊎◌, ◌≡◌, ◌≤◌, ◌<◌, ◌+◌, ◌-◌, ◌*◌, ◌^◌, ◌==◌, ◌&&◌, ◌∷◌, [], ◌++◌, ◌∙◌, ℕ, zero, suc, Bool, true, false, not, if◌then◌else◌, All, List, Option, Some, None, is_some, filter, length, map, max, nat_lt, slice_get, sum, take, refl, sym, ap, subst, arith, length-append}
-use Rattle.std.specs.Option.{IfSome}
-use Rattle.std.proofs.lemmas.Grind.{common_steps}
-use Rattle.std.proofs.lemmas.List.{length-map, length-take-le, map-append, take_all}
-use Rattle.std.proofs.lemmas.List.Elements.{All-push, All-take, All-weaker, filter-append, filter_map-append}
-use Rattle.resil_rule.specs.History.{is_among, times}
-use Rattle.resil_rule.specs.declared.event.Id.{Id}
-use Rattle.resil_rule.proofs.TimesLaws.{times-append}
-use Rattle.resil_rule.proofs.EventLaws.{not-among}
-use Rattle.resil_jdk.specs.Admission.{IsAllowed, reply_after}
+use Rattle.resil_virtual.proofs.Words.{inl, inr, ◌⊎◌, ◌≡◌, ◌≤◌, ◌<◌, ◌+◌, ◌-◌, ◌*◌, ◌^◌, ◌==◌, ◌&&◌, ◌∷◌, [], ◌++◌, ◌∙◌, ℕ, zero, suc, Bool, true, false, not, if◌then◌else◌, All, List, Option, Some, None, is_some, filter, length, map, max, nat_lt, slice_get, sum, take, refl, sym, ap, subst, arith, length-append, IfSome, common_steps, length-map, length-take-le, map-append, take_all, All-push, All-take, All-weaker, filter-append, filter_map-append, is_among, times, Id, times-append, not-among, IsAllowed, reply_after, JdkReply, Core, First, Queued, Handed, Extra, Full, Closed, JdkEvent, Submit, jobs-conserved, next-fresh, waiting-more, nowhere, events_in, TimedJdkEvent, begun, begun_id, earliest_end_of, finish_from, finishes, front, has_spare, idle_after, idle_next, last_at, looks_of, next_due, none_waits, passed, takes_of, wake_first, runs_of, AreSound, HasRun, IsFrom, ids_to_come, job_of, kept, own, reply_by, staying, submitted_end, submitted_run, to_run, Arrival, Idle, VirtualPool}
 use Rattle.resil_jdk.specs.History.{finished, kept_size, left, next_number, queued, run_at_once, running, waiting, workers}
-use Rattle.resil_jdk.specs.declared.event.JdkReply.{JdkReply}
-use Rattle.resil_jdk.specs.declared.event.JdkReply.TheVariants.{Core, First, Queued, Handed, Extra, Full, Closed}
-use Rattle.resil_jdk.specs.declared.event.JdkEvent.{JdkEvent}
-use Rattle.resil_jdk.specs.declared.event.JdkEvent.TheVariants.{Submit}
-use Rattle.resil_jdk.proofs.ConservationLaws.{jobs-conserved, next-fresh}
 use Rattle.resil_jdk.proofs.ReplyLaws.{says-after}
-use Rattle.resil_jdk.proofs.StateLaws.{waiting-more}
-use Rattle.resil_rule.proofs.TimesLaws.{nowhere}
-use Rattle.resil_jdk.specs.Timed.{events_in}
-use Rattle.resil_jdk.specs.declared.timed.TimedJdkEvent.{TimedJdkEvent}
-use Rattle.resil_virtual.specs.Due.{begun, begun_id, earliest_end_of, finish_from, finishes, front, has_spare, idle_after, idle_next, last_at, looks_of, next_due, none_waits, passed, takes_of, wake_first}
-use Rattle.resil_virtual.specs.Load.{runs_of}
-use Rattle.resil_virtual.specs.Pool.{AreSound, HasRun, IsFrom, ids_to_come, job_of, kept, own, reply_by, staying, submitted_end, submitted_run, to_run}
-use Rattle.resil_virtual.specs.declared.arrival.Arrival.{Arrival}
-use Rattle.resil_virtual.specs.declared.idle.Idle.{Idle}
-use Rattle.resil_virtual.specs.declared.virtual_pool.VirtualPool.{VirtualPool}
 use Rattle.resil_virtual.proofs.HistoryLaws.{caller-count, finishes-begun, finishes-same, one-submission}
 use Rattle.resil_virtual.proofs.IdleLaws.{passed-looks, passed-none, passed-some, passed-stay, wake-all, wake-length, wake-looks, wake-staying, wider-from, woken-from}
 use Rattle.resil_virtual.proofs.ListLaws.{all-two, count-few, count-taken}

@@ -1,29 +1,5 @@
 -- A pool after a take.
-use Rattle.std.proofs.Common.{inl, inr, ◌⊎◌, ◌≡◌, ◌≤◌, ◌+◌, ◌==◌, ◌∷◌, [], ◌++◌, ◌∙◌, ℕ, Bool, true, false, if◌then◌else◌, All, List, Some, drop, is_some, length, map, slice_get, sum, refl, sym, ap, subst, arith, append-nil}
-use Rattle.std.specs.List.{list_any}
-use Rattle.std.proofs.lemmas.Bool.{cases_Bool}
-use Rattle.std.proofs.lemmas.Grind.{common_steps}
-use Rattle.std.proofs.lemmas.List.{length-map, map-append}
-use Rattle.std.proofs.lemmas.List.Elements.{All-drop, All-push, All-weaker}
-use Rattle.resil_rule.specs.History.{is_among, is_same_id, times}
-use Rattle.resil_rule.specs.declared.event.Id.{Id}
-use Rattle.resil_rule.proofs.EventLaws.{front-is}
-use Rattle.resil_rule.proofs.IdLaws.{same_id-self}
-use Rattle.resil_rule.proofs.TimesLaws.{same_id-sym, somewhere, times-append}
-use Rattle.resil_jdk.specs.Admission.{IsAllowed}
-use Rattle.resil_jdk.specs.History.{finished, running, waiting, without}
-use Rattle.resil_jdk.specs.declared.event.JdkEvent.{JdkEvent}
-use Rattle.resil_jdk.specs.declared.event.JdkEvent.TheVariants.{Take}
-use Rattle.resil_jdk.proofs.ConservationLaws.{front-among, jobs-conserved}
-use Rattle.resil_jdk.proofs.StateLaws.{waiting-more, waits-few}
-use Rattle.resil_rule.proofs.EventLaws.{not-among}
-use Rattle.resil_jdk.specs.Timed.{events_in}
-use Rattle.resil_jdk.specs.declared.timed.TimedJdkEvent.{TimedJdkEvent}
-use Rattle.resil_virtual.specs.Due.{earliest_end_of, ends_at, finish_from, finishes, front, idle_after, idle_next, just_finished, last_at, looks_at, next_due, none_waits, passed, take_at, takes_of, without_taker}
-use Rattle.resil_virtual.specs.Pool.{AreSound, IsFrom, ids_to_come, job_of, own, to_run}
-use Rattle.resil_virtual.specs.declared.arrival.Arrival.{Arrival}
-use Rattle.resil_virtual.specs.declared.idle.Idle.{Idle}
-use Rattle.resil_virtual.specs.declared.virtual_pool.VirtualPool.{VirtualPool}
+use Rattle.resil_virtual.proofs.Words.{inl, inr, ◌⊎◌, ◌≡◌, ◌≤◌, ◌+◌, ◌==◌, ◌∷◌, [], ◌++◌, ◌∙◌, ℕ, Bool, true, false, if◌then◌else◌, All, List, Some, drop, is_some, length, map, slice_get, sum, refl, sym, ap, subst, arith, append-nil, list_any, cases_Bool, common_steps, length-map, map-append, All-drop, All-push, All-weaker, is_among, is_same_id, times, Id, front-is, same_id-self, same_id-sym, somewhere, times-append, IsAllowed, finished, running, waiting, without, JdkEvent, Take, front-among, jobs-conserved, waiting-more, waits-few, not-among, events_in, TimedJdkEvent, earliest_end_of, ends_at, finish_from, finishes, front, idle_after, idle_next, just_finished, last_at, looks_at, next_due, none_waits, passed, take_at, takes_of, without_taker, AreSound, IsFrom, ids_to_come, job_of, own, to_run, Arrival, Idle, VirtualPool}
 use Rattle.resil_virtual.proofs.HistoryLaws.{finishes-begun, no-submission}
 use Rattle.resil_virtual.proofs.IdleLaws.{narrower-from, passed-end_now, passed-look_now, passed-some, passed-stay, taker-all, taker-length, taker-stay}
 use Rattle.resil_virtual.proofs.ListLaws.{all-at, all-two}

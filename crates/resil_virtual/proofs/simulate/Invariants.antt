@@ -1,5 +1,4 @@
-use Rattle.std.proofs.Common.{◌≡◌}
-use Rattle.resil_virtual.specs.Pool.{IsPool, arrivals_of, history_of, left_in, plan_of}
+use Rattle.resil_virtual.proofs.Words.{◌≡◌, IsPool, arrivals_of, history_of, left_in, plan_of}
 use Rattle.resil_virtual.proofs.simulate.Given as goal
 
 abbrev pub invariant-loop-simulation : goal.invariant-loop-simulation

@@ -1,5 +1,4 @@
-use Rattle.std.proofs.Common.{◌≡◌, take}
-use Rattle.resil_virtual.specs.Due.{earliest, ends_of}
+use Rattle.resil_virtual.proofs.Words.{◌≡◌, take, earliest, ends_of}
 use Rattle.resil_virtual.proofs.idle.first_end.Given as goal
 
 -- the first so far

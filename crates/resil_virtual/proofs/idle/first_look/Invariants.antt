@@ -1,5 +1,4 @@
-use Rattle.std.proofs.Common.{◌≡◌, take}
-use Rattle.resil_virtual.specs.Due.{earliest, looks_of}
+use Rattle.resil_virtual.proofs.Words.{◌≡◌, take, earliest, looks_of}
 use Rattle.resil_virtual.proofs.idle.first_look.Given as goal
 
 -- the first so far

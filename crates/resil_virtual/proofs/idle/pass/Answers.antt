@@ -1,5 +1,4 @@
-use Rattle.std.proofs.Common.{◌≡◌, ◌<◌, ◌+◌, ◌∷◌, [], ◌++◌, ◌∙◌, ℕ, zero, suc, List, drop, get_or, length, map, slice_set, take, refl, ap, arith}
-use Rattle.resil_virtual.specs.Due.{passed}
+use Rattle.resil_virtual.proofs.Words.{◌≡◌, ◌<◌, ◌+◌, ◌∷◌, [], ◌++◌, ◌∙◌, ℕ, zero, suc, List, drop, get_or, length, map, slice_set, take, refl, ap, arith, passed}
 use Rattle.resil_virtual.proofs.idle.pass.Goals as goal
 
 -- some items are passed, one after another

@@ -1,5 +1,4 @@
-use Rattle.std.proofs.Common.{◌≡◌, ◌++◌, drop, map, take}
-use Rattle.resil_virtual.specs.Due.{passed}
+use Rattle.resil_virtual.proofs.Words.{◌≡◌, ◌++◌, drop, map, take, passed}
 use Rattle.resil_virtual.proofs.idle.pass.Given as goal
 
 -- those so far have been passed

@@ -1,7 +1,4 @@
-use Rattle.std.proofs.Common.{◌≡◌, ◌++◌, drop, take}
-use Rattle.std.specs.List.{list_any}
-use Rattle.resil_virtual.specs.Due.{without_first}
-use Rattle.resil_virtual.specs.Pool.{is_free}
+use Rattle.resil_virtual.proofs.Words.{◌≡◌, ◌++◌, drop, take, list_any, without_first, is_free}
 use Rattle.resil_virtual.proofs.idle.remove_first.Given as goal
 
 -- none of those so far is free

@@ -1,5 +1,4 @@
-use Rattle.std.proofs.Common.{◌∙◌, sym}
-use Rattle.resil_virtual.specs.Due.{looks_at}
+use Rattle.resil_virtual.proofs.Words.{◌∙◌, sym, looks_at}
 use Rattle.resil_virtual.proofs.IdleLaws.{without-none}
 use Rattle.resil_virtual.proofs.idle.remove_taker.Goals as goal
 

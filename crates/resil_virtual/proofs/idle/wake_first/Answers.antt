@@ -1,7 +1,4 @@
-use Rattle.std.proofs.Common.{◌≡◌, ◌<◌, ◌∷◌, [], ◌++◌, ◌∙◌, ℕ, zero, suc, false, List, Option, None, Some, drop, get_or, is_some, length, slice_set, take, refl, sym, ap, arith}
-use Rattle.std.specs.Option.{option_map_or}
-use Rattle.resil_virtual.specs.Due.{wake_first, woken}
-use Rattle.resil_virtual.specs.declared.idle.Idle.{Idle}
+use Rattle.resil_virtual.proofs.Words.{◌≡◌, ◌<◌, ◌∷◌, [], ◌++◌, ◌∙◌, ℕ, zero, suc, false, List, Option, None, Some, drop, get_or, is_some, length, slice_set, take, refl, sym, ap, arith, option_map_or, wake_first, woken, Idle}
 use Rattle.resil_virtual.proofs.idle.wake_first.Goals as goal
 
 -- the worker at a place is woken, if those before were

@@ -1,5 +1,4 @@
-use Rattle.std.proofs.Common.{◌≡◌, ◌++◌, drop, take}
-use Rattle.resil_virtual.specs.Due.{wake_first}
+use Rattle.resil_virtual.proofs.Words.{◌≡◌, ◌++◌, drop, take, wake_first}
 use Rattle.resil_virtual.proofs.idle.wake_first.Given as goal
 
 -- those so far were woken before

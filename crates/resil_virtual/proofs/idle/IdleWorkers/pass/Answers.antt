@@ -1,6 +1,4 @@
-use Rattle.std.proofs.Common.{◌≡◌, ◌∙◌, map, sym, subst}
-use Rattle.resil_virtual.specs.Due.{passed}
-use Rattle.resil_virtual.specs.IdleWorkers.{IdleView}
+use Rattle.resil_virtual.proofs.Words.{◌≡◌, ◌∙◌, map, sym, subst, passed, IdleView}
 use Rattle.resil_virtual.proofs.IdleLaws.{nothing-over}
 use Rattle.resil_virtual.proofs.idle.IdleWorkers.pass.Goals as goal
 

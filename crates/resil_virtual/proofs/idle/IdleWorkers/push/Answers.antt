@@ -1,6 +1,4 @@
-use Rattle.std.proofs.Common.{◌∙◌, ℕ, List, Option, sym, ap}
-use Rattle.resil_virtual.specs.Due.{earliest, ends_of, looks_of, sooner}
-use Rattle.resil_virtual.specs.declared.idle.Idle.{Idle}
+use Rattle.resil_virtual.proofs.Words.{◌∙◌, ℕ, List, Option, sym, ap, earliest, ends_of, looks_of, sooner, Idle}
 use Rattle.resil_virtual.proofs.FirstLaws.{times-pushed}
 use Rattle.resil_virtual.proofs.idle.IdleWorkers.push.Goals as goal
 

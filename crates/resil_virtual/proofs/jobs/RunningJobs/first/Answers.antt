@@ -1,5 +1,4 @@
-use Rattle.std.proofs.Common.{heap_items, Some, subst}
-use Rattle.resil_virtual.specs.Jobs.{IsSoonest, JobsView}
+use Rattle.resil_virtual.proofs.Words.{heap_items, Some, subst, IsSoonest, JobsView}
 use Rattle.resil_virtual.proofs.RunningLaws.{front-is, top-soonest}
 use Rattle.resil_virtual.proofs.jobs.RunningJobs.first.Goals as goal
 

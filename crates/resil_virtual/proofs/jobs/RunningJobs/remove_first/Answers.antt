@@ -1,5 +1,4 @@
-use Rattle.std.proofs.Common.{◌∷◌, heap_items, Some, map, sym, subst}
-use Rattle.resil_virtual.specs.Jobs.{IsSoonest, JobsView, SameJobs}
+use Rattle.resil_virtual.proofs.Words.{◌∷◌, heap_items, Some, map, sym, subst, IsSoonest, JobsView, SameJobs}
 use Rattle.resil_virtual.proofs.RunningLaws.{popped-top, same-permuted, top-soonest}
 use Rattle.resil_virtual.proofs.jobs.RunningJobs.remove_first.Goals as goal
 

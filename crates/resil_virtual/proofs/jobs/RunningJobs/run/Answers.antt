@@ -1,5 +1,4 @@
-use Rattle.std.proofs.Common.{◌∷◌, heap_items, map, subst}
-use Rattle.resil_virtual.specs.Jobs.{JobsView, SameJobs, begun_at}
+use Rattle.resil_virtual.proofs.Words.{◌∷◌, heap_items, map, subst, JobsView, SameJobs, begun_at}
 use Rattle.resil_virtual.proofs.RunningLaws.{same-permuted}
 use Rattle.resil_virtual.proofs.jobs.RunningJobs.run.Goals as goal
 

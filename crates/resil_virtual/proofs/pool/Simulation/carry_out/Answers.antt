@@ -1,6 +1,4 @@
-use Rattle.std.proofs.Common.{◌≡◌, ◌∙◌, ◌<◌, ◌+◌, ◌∷◌, [], ◌++◌, sym, subst}
-use Rattle.resil_jdk.specs.declared.timed.TimedJdkEvent.{TimedJdkEvent}
-use Rattle.resil_virtual.specs.Due.{end_at}
+use Rattle.resil_virtual.proofs.Words.{◌≡◌, ◌∙◌, ◌<◌, ◌+◌, ◌∷◌, [], ◌++◌, sym, subst, TimedJdkEvent, end_at}
 use Rattle.resil_virtual.specs.Pool.{HasParts, history_of, left, left_in}
 use Rattle.resil_virtual.proofs.PoolLaws.{else-end}
 use Rattle.resil_virtual.proofs.pool.Simulation.carry_out.Goals as goal

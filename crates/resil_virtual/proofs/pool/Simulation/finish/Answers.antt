@@ -1,7 +1,4 @@
-use Rattle.std.proofs.Common.{◌∙◌, ◌∷◌, [], ◌++◌, List, ap}
-use Rattle.resil_virtual.specs.Due.{fallen}
-use Rattle.resil_virtual.specs.Pool.{history_of}
-use Rattle.resil_virtual.specs.declared.idle.Idle.{Idle}
+use Rattle.resil_virtual.proofs.Words.{◌∙◌, ◌∷◌, [], ◌++◌, List, ap, fallen, history_of, Idle}
 use Rattle.resil_virtual.proofs.PoolLaws.{busy-is, fallen-is, finish-fits, finished-left, finished-parts, none-is}
 use Rattle.resil_virtual.proofs.pool.Simulation.finish.Goals.{then-none_waits+in_ok-push, else-none_waits}
 use Rattle.resil_virtual.proofs.pool.Simulation.finish.Goals as goal

@@ -1,7 +1,5 @@
-use Rattle.std.proofs.Common.{◌<◌, ◌+◌, ℕ, List, sym, ap, length, subst, arith}
-use Rattle.resil_jdk.specs.declared.timed.TimedJdkEvent.{TimedJdkEvent}
+use Rattle.resil_virtual.proofs.Words.{◌<◌, ◌+◌, ℕ, List, sym, ap, length, subst, arith, TimedJdkEvent, history_after}
 use Rattle.resil_virtual.specs.Pool.{HasParts, history_of, left, left_in}
-use Rattle.resil_virtual.specs.Simulated.{history_after}
 use Rattle.resil_virtual.proofs.FinalLaws.{simulated, told}
 use Rattle.resil_virtual.proofs.pool.Simulation.next.Goals as goal
 

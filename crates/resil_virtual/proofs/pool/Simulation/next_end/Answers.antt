@@ -1,10 +1,4 @@
-use Rattle.std.proofs.Common.{rules, ◌≡◌, ◌∙◌, [], ℕ, Bool, true, false, if◌then◌else◌, List, Option, Some, None, is_some, map, option_map, slice_get, refl, sym, ap}
-use Rattle.std.specs.Option.{option_map_or}
-use Rattle.resil_rule.specs.declared.event.Id.{Id}
-use Rattle.resil_virtual.specs.Due.{earliest, end_at, ends_of, front, has_spare, take_at}
-use Rattle.resil_jdk.specs.Timed.{events_in}
-use Rattle.resil_jdk.specs.declared.timed.TimedJdkEvent.{TimedJdkEvent}
-use Rattle.resil_virtual.specs.Pool.{history_of}
+use Rattle.resil_virtual.proofs.Words.{rules, ◌≡◌, ◌∙◌, [], ℕ, Bool, true, false, if◌then◌else◌, List, Option, Some, None, is_some, map, option_map, slice_get, refl, sym, ap, option_map_or, Id, earliest, end_at, ends_of, front, has_spare, take_at, events_in, TimedJdkEvent, history_of}
 use Rattle.resil_virtual.proofs.CauseLaws.{at_of}
 use Rattle.resil_virtual.proofs.FirstLaws.{earliest-map}
 use Rattle.resil_virtual.proofs.pool.Simulation.next_end.Goals as goal

@@ -1,8 +1,5 @@
-use Rattle.std.proofs.Common.{◌∙◌, Option, sym, ap}
-use Rattle.resil_jdk.specs.declared.timed.TimedJdkEvent.{TimedJdkEvent}
-use Rattle.resil_virtual.specs.Due.{earliest, finishes, looks_due, own_takes, sooner, submissions_due}
+use Rattle.resil_virtual.proofs.Words.{◌∙◌, Option, sym, ap, TimedJdkEvent, earliest, finishes, looks_due, own_takes, sooner, submissions_due, history_of}
 use Rattle.resil_virtual.proofs.CauseLaws.{at_of}
-use Rattle.resil_virtual.specs.Pool.{history_of}
 use Rattle.resil_virtual.proofs.PoolLaws.{due-is}
 use Rattle.resil_virtual.proofs.pool.Simulation.next_event.Goals as goal
 

@@ -1,5 +1,4 @@
-use Rattle.std.proofs.Common.{Some, None}
-use Rattle.resil_virtual.specs.Pool.{history_of}
+use Rattle.resil_virtual.proofs.Words.{Some, None, history_of}
 use Rattle.resil_virtual.proofs.RunningLaws.{first-running}
 use Rattle.resil_virtual.proofs.pool.Simulation.next_finish.Goals as goal
 

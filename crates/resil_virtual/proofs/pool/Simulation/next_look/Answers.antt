@@ -1,9 +1,4 @@
-use Rattle.std.proofs.Common.{◌≡◌, ◌∙◌, [], ℕ, List, Option, Some, None, map, option_map, slice_get, refl, sym, ap}
-use Rattle.std.specs.Option.{option_map_or}
-use Rattle.resil_rule.specs.declared.event.Id.{Id}
-use Rattle.resil_virtual.specs.Due.{earliest, front, looks_of, take_at}
-use Rattle.resil_jdk.specs.Timed.{events_in}
-use Rattle.resil_virtual.specs.Pool.{history_of}
+use Rattle.resil_virtual.proofs.Words.{◌≡◌, ◌∙◌, [], ℕ, List, Option, Some, None, map, option_map, slice_get, refl, sym, ap, option_map_or, Id, earliest, front, looks_of, take_at, events_in, history_of}
 use Rattle.resil_virtual.proofs.CauseLaws.{at_of}
 use Rattle.resil_virtual.proofs.FirstLaws.{earliest-map}
 use Rattle.resil_virtual.proofs.pool.Simulation.next_look.Goals as goal

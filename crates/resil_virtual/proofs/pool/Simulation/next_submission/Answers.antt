@@ -1,7 +1,4 @@
-use Rattle.std.proofs.Common.{◌∙◌, Some, None, ap}
-use Rattle.resil_jdk.specs.declared.event.JdkReply.{JdkReply}
-use Rattle.resil_jdk.specs.declared.event.JdkEvent.TheVariants.{Submit}
-use Rattle.resil_virtual.specs.Pool.{history_of}
+use Rattle.resil_virtual.proofs.Words.{◌∙◌, Some, None, ap, JdkReply, Submit, history_of}
 use Rattle.resil_virtual.proofs.PoolLaws.{job-due, reply-now}
 use Rattle.resil_virtual.proofs.pool.Simulation.next_submission.Goals as goal
 

@@ -1,10 +1,4 @@
-use Rattle.std.proofs.Common.{◌≡◌, ◌∙◌, [], Bool, List, map, sym, ap, arith}
-use Rattle.std.proofs.lemmas.Option.{slice_get_within}
-use Rattle.resil_jdk.specs.declared.event.JdkEvent.TheVariants.{Submit}
-use Rattle.resil_jdk.specs.declared.timed.TimedJdkEvent.{TimedJdkEvent}
-use Rattle.resil_virtual.specs.Due.{idle_by, passed}
-use Rattle.resil_virtual.specs.Pool.{history_of}
-use Rattle.resil_virtual.specs.declared.idle.Idle.{Idle}
+use Rattle.resil_virtual.proofs.Words.{◌≡◌, ◌∙◌, [], Bool, List, map, sym, ap, arith, slice_get_within, Submit, TimedJdkEvent, idle_by, passed, history_of, Idle}
 use Rattle.resil_virtual.proofs.PoolLaws.{job-some, none-is, placed-is, submit-due, submit-fits, submit-room, submitted-left, submitted-parts}
 use Rattle.resil_virtual.proofs.pool.Simulation.submit.Goals as goal
 

@@ -1,5 +1,4 @@
-use Rattle.std.proofs.Common.{sym}
-use Rattle.resil_virtual.specs.Pool.{history_of}
+use Rattle.resil_virtual.proofs.Words.{sym, history_of}
 use Rattle.resil_virtual.proofs.PoolLaws.{front-some, take-fits, taken-left, taken-parts}
 use Rattle.resil_virtual.proofs.pool.Simulation.take.Goals as goal
 
