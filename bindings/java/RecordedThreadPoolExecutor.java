@@ -449,6 +449,15 @@ public class RecordedThreadPoolExecutor extends ThreadPoolExecutor {
             else log("submit", job, queue.capacity == 0 ? "handed" : "queued");
         }
 
+        /**
+         * Records that a thread took a task. By the rule no thread of a stopped pool does. But one whose time was over before the stop looks once
+         * more, and finds a task that was put into the queue after the stop.
+         */
+        void logTake(Job job) {
+            if (stopped) cut("a thread of a stopped pool took a task");
+            else log("take", job, "");
+        }
+
         private long now() { return Math.max(at, (System.nanoTime() - start) / 1000); }
 
         /** Ends the record, unless it has ended. */
@@ -631,7 +640,7 @@ public class RecordedThreadPoolExecutor extends ThreadPoolExecutor {
             Job job = capacity == 0 ? awaitJob(timed, nanos) : take(await(timed, nanos));
             if (job == null) return null;
             if (capacity > 0) pool.running.add(job);
-            if (capacity > 0) pool.log("take", job, "");
+            if (capacity > 0) pool.logTake(job);
             lock.unlock();
             return job;
         }

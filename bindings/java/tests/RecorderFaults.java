@@ -358,6 +358,26 @@ public final class RecorderFaults {
             demand("tasks wait, and the pool has no thread".equals(pool.endRecord()), "the record goes on");
             has("puts-00002.csv", ": a thread came.\n");
         });
+        tell("a task that other hands put into a stopped pool, which a thread takes whose time is over", () -> {
+            CountDownLatch first = new CountDownLatch(1), second = new CountDownLatch(1);
+            RecordedThreadPoolExecutor pool = open("stopped", 2, 2, 2);
+            pool.setKeepAliveTime(1, TimeUnit.SECONDS);
+            pool.allowCoreThreadTimeOut(true);
+            pool.execute(first::countDown);
+            demand(first.await(20, TimeUnit.SECONDS), "it isn't run");
+            eventually(() -> pool.getActiveCount() == 0, "the thread has work");
+            pool.setThreadFactory(task -> { // it is called with the lock, without which the thread can't leave
+                LockSupport.parkNanos(TimeUnit.SECONDS.toNanos(3));
+                pool.shutdownNow();
+                demand(pool.getQueue().offer(second::countDown), "there is no place");
+                return null;
+            });
+            pool.prestartCoreThread();
+            demand(second.await(20, TimeUnit.SECONDS), "the thread doesn't look once more");
+            demand(pool.awaitTermination(20, TimeUnit.SECONDS) && pool.getCompletedTaskCount() == 2, "it hangs, or a task is lost");
+            goesOn(pool);
+            has("stopped-00003.csv", ": a thread of a stopped pool took a task.\n", "\nfinish,");
+        });
         tell("a thread that doesn't come, for a hand-off", () -> {
             CountDownLatch gate = new CountDownLatch(1);
             RecordedThreadPoolExecutor pool = open("late", 1, 3, 0);
