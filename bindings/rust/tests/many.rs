@@ -312,13 +312,15 @@ fn nothing_is_lost_where_two_race() -> Checked {
                 }
             });
         }
-        let mut refused = 0;
-        for round in 0..4_000 {
-            let is_there = match round % 2 {
+        // On one processor it may take a while until another thread is stopped while it has a permit.
+        let (mut rounds, mut refused) = (0, 0);
+        while rounds < 4_000 || (refused == 0 && rounds < 4_000_000) {
+            let is_there = match rounds % 2 {
                 0 => backend.enter_many(MAX).is_ok(),
                 _ => polled(&mut backend.acquire_many_owned(MAX)).is_some(),
             };
             refused += u32::from(!is_there);
+            rounds += 1;
         }
         is_over.store(true, Ordering::SeqCst);
         refused
