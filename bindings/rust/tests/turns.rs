@@ -20,7 +20,7 @@ fn a_thread_is_not_passed_by() -> Checked {
             is_served.store(permit.is_ok(), Ordering::SeqCst);
         });
         assert!(until(|| backend.numbers().waiting == 1));
-        thread::sleep(Duration::from_millis(50)); // a thread counts itself before it stands in the queue
+        thread::sleep(Duration::from_millis(50)); // a thread counts itself before it is in the queue
         for _ in 0..2 {
             let next = backend.acquire_owned();
             let mut next = Box::pin(next);
