@@ -361,13 +361,13 @@ public final class RecorderFaults {
         tell("a task that other hands put into a stopped pool, which a thread takes whose time is over", () -> {
             CountDownLatch first = new CountDownLatch(1), second = new CountDownLatch(1);
             RecordedThreadPoolExecutor pool = open("stopped", 2, 2, 2);
-            pool.setKeepAliveTime(1, TimeUnit.SECONDS);
+            pool.setKeepAliveTime(3, TimeUnit.SECONDS);
             pool.allowCoreThreadTimeOut(true);
             pool.execute(first::countDown);
             demand(first.await(20, TimeUnit.SECONDS), "it isn't run");
             eventually(() -> pool.getActiveCount() == 0, "the thread has work");
             pool.setThreadFactory(task -> { // it is called with the lock, without which the thread can't leave
-                LockSupport.parkNanos(TimeUnit.SECONDS.toNanos(3));
+                LockSupport.parkNanos(TimeUnit.SECONDS.toNanos(5));
                 pool.shutdownNow();
                 demand(pool.getQueue().offer(second::countDown), "there is no place");
                 return null;
